@@ -1,0 +1,17 @@
+pub mod Causes
+pub mod CompactSize
+pub mod Cursor
+pub mod Decimal
+pub mod Failures
+pub mod FileShelf
+pub mod Files
+pub mod Least
+pub mod MemShelf
+pub mod MemSink
+pub mod Outpoints
+pub mod Parsing
+pub mod Pieces
+pub mod StdSink
+pub mod SureShelf
+pub mod SureSink
+pub mod Writer

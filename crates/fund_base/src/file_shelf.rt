@@ -1,0 +1,69 @@
+//! The files of the system.
+
+ghost use Rattle.std.specs.Prelude.{◌≡◌, ◌≤◌, ℕ, List, [], length, IfOk};
+
+use crate::shelf::{Fault, Shelf};
+use std::fs;
+use std::io::{self, Read, Seek, SeekFrom};
+use std::rt::Files;
+
+/// The files of the system, by path. Each call opens the file anew. It tells nothing of their content,
+/// and each of its two counts stands for every name.
+#[derive(Debug, Drop)]
+pub struct FileShelf<R: Files + Drop> {
+    rt: R,
+    reads: u64,
+    writes: u64,
+}
+
+impl<R: Files + Drop> FileShelf<R> {
+    ghost use Rattle.fund_base.specs.FileShelf.{view_of};
+
+    /// The files that `rt` reaches, without a failure so far.
+    pub fn new(rt: R) -> FileShelf<R>
+        ensures { view_of result ≡ record { files = λ _. []; reads = λ _. 0; writes = λ _. 0 } }
+    {
+        FileShelf {
+            rt,
+            reads: 0,
+            writes: 0,
+        }
+    }
+}
+
+// One read of a file that is opened for it.
+fn read_piece<R: Files>(rt: &R, name: &str, at: u64, buf: &mut [u8]) -> io::Result<usize>
+    ensures { IfOk result (λ n. n ≤ length buf.new) }
+{
+    let mut file = fs::open(rt, name)?;
+    file.seek(SeekFrom::Start(at))?;
+    file.read(buf)
+}
+
+impl<R: Files + Drop> Shelf for FileShelf<R> {
+    ghost use Rattle.fund_base.specs.FileShelf.{view_of};
+
+    ghost tells = { ⊥ };
+
+    ghost view = { view_of };
+
+    fn read_at(&mut self, name: &str, at: u64, buf: &mut [u8]) -> Result<usize, Fault> {
+        match read_piece(&self.rt, name, at, buf) {
+            Ok(count) => Ok(count),
+            Err(_) => {
+                self.reads = self.reads.saturating_add(1);
+                Err(Fault::Failed)
+            }
+        }
+    }
+
+    fn write_file(&mut self, name: &str, bytes: &[u8]) -> Result<(), Fault> {
+        match fs::write(&self.rt, name, bytes) {
+            Ok(()) => Ok(()),
+            Err(_) => {
+                self.writes = self.writes.saturating_add(1);
+                Err(Fault::Failed)
+            }
+        }
+    }
+}

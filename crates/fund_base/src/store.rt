@@ -1,0 +1,53 @@
+//! Files in memory, the newest of a name first.
+
+ghost use Rattle.std.specs.Prelude.{◌≡◌, ◌≤◌, length, option_copied, OnOk, OnErr};
+ghost use Rattle.fund_base.specs.Causes.{IsRead, SameElsewhere};
+ghost use Rattle.fund_base.specs.Files.{file_of, bytes_of};
+
+use std::alloc::{AllocError, Global};
+
+/// The bytes of the first file of this name.
+pub fn find<'a>(files: &'a [(String, Vec<u8>)], name: &str) -> Option<&'a [u8]>
+    ensures { option_copied result ≡ file_of files.now name.now }
+{
+    let mut rest = files;
+    'finding: while let [file, after @ ..] = rest {
+        if file.0.as_str() == name {
+            return Some(file.1.as_slice());
+        }
+        rest = after;
+    }
+    None
+}
+
+/// Copies what `file` has from place `at` on to `buf`, as far as there is room.
+pub fn copy_from(file: &[u8], at: u64, buf: &mut [u8]) -> usize
+    ensures bound { result ≤ length buf.new }
+    ensures read { IsRead file.now at result buf.new }
+{
+    let at = at as usize;
+    if file.len() <= at {
+        return 0;
+    }
+    let rest = &file[at..];
+    let count = rest.len().min(buf.len());
+    buf[..count].copy_from_slice(&rest[..count]);
+    count
+}
+
+/// Makes `bytes` the file of this name. Where memory is short the files are as before.
+pub fn replace(
+    alloc: Global,
+    files: &mut Vec<(String, Vec<u8>)>,
+    name: &str,
+    bytes: &[u8],
+) -> Result<(), AllocError>
+    ensures ok { OnOk result (bytes_of files.new.items name.now ≡ bytes.now) }
+    ensures others { SameElsewhere name.now (bytes_of files.old.items) (bytes_of files.new.items) }
+    ensures err { OnErr result (files.new.items ≡ files.old.items) }
+{
+    let name = String::from_str(alloc, name)?;
+    let bytes = Vec::from_slice(alloc, bytes)?;
+    files.insert(0, (name, bytes))?;
+    Ok(())
+}
