@@ -1,0 +1,5 @@
+use Rattle.std.proofs.Common.{[]}
+use Rattle.tx_codec.proofs.writing.write_tx_out.Goals as goal
+
+pub returns : goal.returns
+returns c = c.in_ok-write_output.ensures.feeds [] c.new-text.ensures.items

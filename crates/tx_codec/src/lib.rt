@@ -1,0 +1,15 @@
+//! Bitcoin transactions as text: read exactly, written again, named by their txid and weighed.
+#![tactic(auto)]
+
+mod fault;
+mod hasher;
+mod reading;
+mod tx;
+#[cfg(test)]
+mod vectors;
+mod writing;
+
+pub use fault::TxFault;
+pub use reading::{read_tx, read_whole_legacy_tx, read_whole_tx};
+pub use tx::{Tx, TxIn, TxOut, Witness};
+pub use writing::{signals, txid, weight, write_bare_tx, write_tx, write_tx_out};
