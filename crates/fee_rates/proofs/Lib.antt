@@ -1,0 +1,3 @@
+pub mod CompactLaws
+pub mod FeeLaws
+pub mod TermsLaws

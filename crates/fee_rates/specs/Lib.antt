@@ -1,0 +1,3 @@
+pub mod Fee
+pub mod Output
+pub mod Terms
