@@ -1,0 +1,2 @@
+pub mod PartialTransaction
+pub mod Psbt

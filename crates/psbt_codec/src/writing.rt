@@ -1,0 +1,182 @@
+//! PSBTs written.
+
+ghost use Rattle.std.specs.Prelude.{◌≡◌, ◌++◌, [], IfOk, OnOk};
+ghost use Rattle.std.specs.List.{flat_map};
+ghost use Rattle.psbt_codec.specs.Psbt.{pair_text, map_text, global_map, whole_pairs, paid_pairs, input_map, output_map, written};
+
+use crate::psbt::{Psbt, Spent};
+use fund_base::{Memory, write_prefixed};
+use std::alloc::Global;
+use tx_codec::{Tx, TxOut, write_bare_tx, write_tx, write_tx_out};
+
+/// The five bytes that a PSBT begins with.
+const MAGIC: [u8; 5] = *b"psbt\xff";
+
+/// The type of the global pair that holds the unsigned transaction (`PSBT_GLOBAL_UNSIGNED_TX` of BIP 174).
+const UNSIGNED_TX: u8 = 0;
+
+/// The type of an input's pair that holds the whole previous transaction (`PSBT_IN_NON_WITNESS_UTXO`).
+const WHOLE: u8 = 0;
+
+/// The type of an input's pair that holds the spent output (`PSBT_IN_WITNESS_UTXO`).
+const PAID: u8 = 1;
+
+/// The bytes of a PSBT: the magic, the global map with the unsigned transaction, a map for each entry of
+/// `spent` with the whole previous transaction and the spent output where they are known, and an empty map
+/// for each output. They are the bytes of a PSBT of version 0 where [`Psbt`] says what is one (BIP 174).
+#[tactic(auto, unfolding(crate::specs::Psbt::written))]
+pub fn write_psbt(alloc: Global, psbt: &Psbt) -> Result<Vec<u8>, Memory>
+    ensures { IfOk result (λ bytes. bytes.items ≡ written psbt.now) }
+{
+    let mut out = Vec::new(alloc);
+    out.extend_from_slice(&MAGIC)?;
+    write_global(alloc, &mut out, &psbt.tx)?;
+    write_inputs(alloc, &mut out, &psbt.spent)?;
+    write_outputs(&mut out, &psbt.tx.outputs)?;
+    Ok(out)
+}
+
+#[tactic(auto, unfolding(fund_base::specs::CompactSize::compact, crate::specs::Psbt::map_text))]
+fn write_global(alloc: Global, out: &mut Vec<u8>, tx: &Tx) -> Result<(), Memory>
+    ensures { OnOk result (out.new.items ≡ out.old.items ++ map_text (global_map tx.now)) }
+{
+    let unsigned = write_bare_tx(alloc, tx)?;
+    write_pair(out, &[UNSIGNED_TX], &unsigned)?;
+    write_end(out)
+}
+
+fn write_inputs(alloc: Global, out: &mut Vec<u8>, spent: &[Spent]) -> Result<(), Memory>
+    ensures { OnOk result (out.new.items ≡ out.old.items ++ flat_map (λ s. map_text (input_map s)) spent.now) }
+{
+    for known in spent {
+        write_input(alloc, out, known)?;
+    }
+    Ok(())
+}
+
+fn write_outputs(out: &mut Vec<u8>, outputs: &[TxOut]) -> Result<(), Memory>
+    ensures { OnOk result (out.new.items ≡ out.old.items ++ flat_map (λ o. map_text (output_map o)) outputs.now) }
+{
+    for _output in outputs {
+        write_end(out)?;
+    }
+    Ok(())
+}
+
+#[tactic(auto, unfolding(crate::specs::Psbt::map_text))]
+fn write_input(alloc: Global, out: &mut Vec<u8>, spent: &Spent) -> Result<(), Memory>
+    ensures { OnOk result (out.new.items ≡ out.old.items ++ map_text (input_map spent.now)) }
+{
+    write_whole(alloc, out, &spent.whole)?;
+    write_paid(alloc, out, &spent.paid)?;
+    write_end(out)
+}
+
+#[tactic(auto, unfolding(fund_base::specs::CompactSize::compact))]
+fn write_whole(alloc: Global, out: &mut Vec<u8>, whole: &Option<Tx>) -> Result<(), Memory>
+    ensures { OnOk result (out.new.items ≡ out.old.items ++ flat_map pair_text (whole_pairs whole.now)) }
+{
+    match whole {
+        Some(tx) => write_pair(out, &[WHOLE], &write_tx(alloc, tx)?),
+        None => Ok(()),
+    }
+}
+
+#[tactic(auto, unfolding(fund_base::specs::CompactSize::compact))]
+fn write_paid(alloc: Global, out: &mut Vec<u8>, paid: &Option<TxOut>) -> Result<(), Memory>
+    ensures { OnOk result (out.new.items ≡ out.old.items ++ flat_map pair_text (paid_pairs paid.now)) }
+{
+    match paid {
+        Some(output) => write_pair(out, &[PAID], &write_tx_out(alloc, output)?),
+        None => Ok(()),
+    }
+}
+
+/// A pair: the key and the value, each behind its length.
+#[tactic(auto, unfolding(crate::specs::Psbt::pair_text))]
+fn write_pair(out: &mut Vec<u8>, key: &[u8], value: &[u8]) -> Result<(), Memory>
+    ensures { OnOk result (out.new.items ≡ out.old.items ++ pair_text (record { key = key.now; value = value.now })) }
+{
+    write_prefixed(out, key)?;
+    write_prefixed(out, value)?;
+    Ok(())
+}
+
+/// The byte that a map ends with.
+#[tactic(auto, unfolding(crate::specs::Psbt::map_text))]
+fn write_end(out: &mut Vec<u8>) -> Result<(), Memory>
+    ensures { OnOk result (out.new.items ≡ out.old.items ++ map_text []) }
+{
+    out.push(0)?;
+    Ok(())
+}
+
+#[cfg(test)]
+mod tests {
+    use super::*;
+    use crate::to_text;
+    use fund_base::{OutPoint, Sat, Script, Txid};
+    use std::test::Fail;
+    use tx_codec::{TxIn, Witness};
+
+    const PAYMENT: &[u8] =
+        b"\x70\x73\x62\x74\xff\x01\x00\x52\x02\x00\x00\x00\x01\x11\x11\x11\x11\x11\x11\x11\x11\x11\
+        \x11\x11\x11\x11\x11\x11\x11\x11\x11\x11\x11\x11\x11\x11\x11\x11\x11\x11\x11\x11\x11\x11\
+        \x11\x00\x00\x00\x00\x00\xfd\xff\xff\xff\x01\xa0\x86\x01\x00\x00\x00\x00\x00\x16\x00\x14\
+        \x22\x22\x22\x22\x22\x22\x22\x22\x22\x22\x22\x22\x22\x22\x22\x22\x22\x22\x22\x22\x00\x00\
+        \x00\x00\x00\x01\x01\x1f\xec\x8a\x01\x00\x00\x00\x00\x00\x16\x00\x14\x22\x22\x22\x22\x22\
+        \x22\x22\x22\x22\x22\x22\x22\x22\x22\x22\x22\x22\x22\x22\x22\x00\x00";
+
+    fn output(alloc: Global, value: u64) -> Result<TxOut, Fail> {
+        let mut script = Vec::from_slice(alloc, &[0x22; 22])?;
+        script[0] = 0;
+        script[1] = 0x14;
+        Ok(TxOut {
+            value: Sat::new(value).ok_or("value")?,
+            script: Script::new(script),
+        })
+    }
+
+    fn payment(alloc: Global, index: u32, paid: u64) -> Result<Tx, Fail> {
+        let prev = OutPoint {
+            txid: Txid([0x11; 32]),
+            index,
+        };
+        let script = Script::new(Vec::new(alloc));
+        let witness = Witness::new(Vec::new(alloc));
+        let mut inputs = Vec::new(alloc);
+        inputs.push(TxIn {
+            prev,
+            script,
+            sequence: 0xffff_fffd,
+            witness,
+        })?;
+        let mut outputs = Vec::new(alloc);
+        outputs.push(output(alloc, paid)?)?;
+        Ok(Tx {
+            version: 2,
+            inputs,
+            outputs,
+            locktime: 0,
+            segwit: false,
+        })
+    }
+
+    #[test]
+    fn one_payment(rt: HostRuntime) -> Result<(), Fail> {
+        let alloc = rt.alloc();
+        let mut spent = Vec::new(alloc);
+        spent.push(Spent {
+            whole: None,
+            paid: Some(output(alloc, 101_100)?),
+        })?;
+        let psbt = Psbt {
+            tx: payment(alloc, 0, 100_000)?,
+            spent,
+        };
+        let bytes = write_psbt(alloc, &psbt)?;
+        assert_eq!(rt; bytes.as_slice(), PAYMENT);
+        assert!(rt; to_text(alloc, &bytes)?.starts_with(b"cHNidP8BAFIC"));
+        Ok(())
+    }
+}
