@@ -1,0 +1,6 @@
+pub mod Trees
+pub mod Fronts
+pub mod TreeLaws
+pub mod BlockLaws
+pub mod FeedLaws
+pub mod Limits

@@ -1,0 +1,5 @@
+pub mod Block
+pub mod BlockFile
+pub mod Merkle
+pub mod Reading
+pub mod Feed

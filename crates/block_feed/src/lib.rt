@@ -1,0 +1,18 @@
+//! The blocks of a block file, one after the other: each linked to the one before it, with the Merkle
+//! root of its transactions.
+#![tactic(auto)]
+
+mod block;
+mod fault;
+mod feed;
+mod front;
+mod merkle;
+mod reading;
+#[cfg(test)]
+mod tests;
+#[cfg(test)]
+mod vectors;
+
+pub use block::Block;
+pub use fault::FeedFault;
+pub use feed::Feed;
