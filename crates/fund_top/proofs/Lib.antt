@@ -1,0 +1,13 @@
+pub mod CandidateLaws
+pub mod Concluded
+pub mod DecisionLaws
+pub mod EndingLaws
+pub mod EndingPsbt
+pub mod Finished
+pub mod Lists
+pub mod OutcomeLaws
+pub mod Parsed
+pub mod PaysLaws
+pub mod ReportLines
+pub mod StopLaws
+pub mod EndsLaws

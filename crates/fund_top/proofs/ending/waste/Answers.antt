@@ -1,0 +1,31 @@
+use Rattle.std.specs.Prelude.{ℕ, ℤ, pos, neg_ℤ, ◌≡◌, ◌≤◌, ◌≤ℤ◌, ◌+ℤ◌, ◌-ℤ◌}
+use Rattle.std.proofs.Common.{arith, ap, ◌∙◌}
+use Rattle.std.proofs.lemmas.Int.{ints}
+use Rattle.fund_top.specs.Report.{waste_of}
+use Rattle.fund_top.proofs.ending.waste.Goals as goal
+use mir.Syntax.{w128}
+use mir.Val.{to_z, of_z}
+
+less : (a b x y : ℤ) → neg_ℤ (pos 10_000_000_000) ≤ℤ a → a ≤ℤ pos 10_000_000_000 → neg_ℤ (pos 1_000_000_000_000_000_000_000) ≤ℤ b → b ≤ℤ pos 1_002_000_000_000_000_000_000 → a ≡ x → b ≡ y
+    → to_z w128 (of_z w128 (to_z w128 (of_z w128 a) -ℤ to_z w128 (of_z w128 b))) ≡ x -ℤ y
+less a b x y low high least most p q = omega (arith, ints)
+
+more : (a b x : ℤ) (n : ℕ) → neg_ℤ (pos 10_000_000_000) ≤ℤ a → a ≤ℤ pos 10_000_000_000 → n ≤ 100_010_000_000_000 → a ≡ x → b ≡ pos n
+    → to_z w128 (of_z w128 (to_z w128 (of_z w128 a) +ℤ to_z w128 (of_z w128 b))) ≡ x +ℤ pos n
+more a b x n low high most p q = omega (arith, ints)
+
+pub returns-in-None : goal.returns-in-None
+unfolding waste_of
+returns-in-None c =
+    let t = c.new-terms.ensures in
+    let k = c.cost-cost.ensures in
+    rw c.in-None.is (less c.cost-cost.result c.new-terms.result.target _ _ k.low k.high t.target_low t.target_high k.value (rw (c.rates.ensures.value, c.load.ensures.value) at t.target))
+
+pub returns-in-Some : goal.returns-in-Some
+unfolding waste_of
+returns-in-Some c =
+    let t = c.new-terms.ensures in
+    let k = c.cost-cost.ensures in
+    let fee = rw (c.rates.ensures.value, c.load.ensures.value) at t.change_fee in
+    let spend = rw (c.rates.ensures.value, c.load.ensures.value) at t.change_spend in
+    rw c.in-Some.is (more c.cost-cost.result c.from.result _ _ k.low k.high (omega (arith, t.change_fee_most, t.change_spend_most, fee, spend)) k.value (c.from.ensures ∙ ap pos (omega (arith, fee, spend))))

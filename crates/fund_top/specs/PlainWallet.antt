@@ -1,0 +1,20 @@
+-- What the wallet file tells, without where it lies in memory.
+use Rattle.std.specs.Prelude.{◌≤◌, List, length, All}
+use Rattle.tx_codec.specs.Transaction.{Transaction}
+use Rattle.fund_top.specs.declared.wallet.Watch.{Watch}
+
+pub record PlainWallet : Type 0 where
+  pub scripts : List Watch
+  pub change : Watch
+  pub earlier : Transaction
+
+-- a script of at most 10,000 bytes, and a weight that an input can have
+pub record IsWatch (w : Watch) : Type 0 where
+  pub least : 165 ≤ w.weight
+  pub most : w.weight ≤ 400_000
+  pub script : length w.script ≤ 10_000
+
+-- the listed scripts, and the one for change
+pub record AreWatches (scripts : List Watch) (change : Watch) : Type 0 where
+  pub listed : All IsWatch scripts
+  pub other : IsWatch change

@@ -1,0 +1,77 @@
+//! The report of a payment from listed coins.
+
+ghost use Rattle.std.specs.Prelude.{◌≡◌, ◌++◌, codes, List, IfOk, string_bytes};
+ghost use Rattle.fund_top.specs.Text.{change_text};
+ghost use Rattle.fund_top.specs.Report.{chosen_lines, figures_lines, payment_lines, report_text};
+
+use crate::text::coin_text;
+use fund_base::{Memory, OutPoint};
+use std::alloc::Global;
+
+/// What a report says of a payment.
+#[derive(Debug, Drop)]
+pub struct Figures {
+    /// The declared weight of the payment, in weight units.
+    pub weight: u64,
+    /// Its virtual size, in virtual bytes.
+    pub vsize: u64,
+    /// What its inputs are worth less its outputs, in satoshi.
+    pub fee: u64,
+    /// In satoshi.
+    pub waste: i128,
+}
+
+fn change_text(alloc: Global, change: Option<u64>) -> Result<String, Memory>
+    ensures { IfOk result (λ text. string_bytes text ≡ change_text change) }
+{
+    match change {
+        None => Ok(format!(in alloc; "none")?),
+        Some(change) => Ok(format!(in alloc; "{}", change)?),
+    }
+}
+
+#[tactic(auto, using(crate::proofs::ReportLines::chosen), unfolding(crate::specs::Report::chosen_lines))]
+fn chosen_lines(alloc: Global, coin: &OutPoint, value: u64) -> Result<String, Memory>
+    ensures { IfOk result (λ text. string_bytes text ≡ chosen_lines coin.now value) }
+{
+    let coin = coin_text(alloc, coin)?;
+    Ok(format!(in alloc;
+        "funded given\nrow 0\nstage presets\ntries 0\nin {} {}\n",
+        coin, value
+    )?)
+}
+
+#[tactic(auto, unfolding(crate::specs::Report::figures_lines))]
+fn figures_lines(alloc: Global, figures: &Figures) -> Result<String, Memory>
+    ensures { IfOk result (λ text. string_bytes text ≡ figures_lines figures.now) }
+{
+    Ok(format!(in alloc;
+        "weight {}\nvsize {}\nfee {}\nwaste {}\n",
+        figures.weight, figures.vsize, figures.fee, figures.waste
+    )?)
+}
+
+#[tactic(auto, unfolding(crate::specs::Report::payment_lines))]
+fn payment_lines(alloc: Global, change: Option<u64>, psbt: &str) -> Result<String, Memory>
+    ensures { IfOk result (λ text. string_bytes text ≡ payment_lines change psbt.now) }
+{
+    let change = change_text(alloc, change)?;
+    Ok(format!(in alloc; "change {}\npsbt {}\n", change, psbt)?)
+}
+
+/// The report: which coin is spent and its value, what the payment comes to, and the PSBT as text.
+pub fn report_text(
+    alloc: Global,
+    coin: &OutPoint,
+    value: u64,
+    figures: &Figures,
+    change: Option<u64>,
+    psbt: &str,
+) -> Result<String, Memory>
+    ensures { IfOk result (λ text. string_bytes text ≡ report_text coin.now value figures.now change psbt.now) }
+{
+    let chosen = chosen_lines(alloc, coin, value)?;
+    let figures = figures_lines(alloc, figures)?;
+    let payment = payment_lines(alloc, change, psbt)?;
+    Ok(format!(in alloc; "{}{}{}", chosen, figures, payment)?)
+}
