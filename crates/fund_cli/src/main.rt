@@ -1,0 +1,37 @@
+//! The program: it makes the files and the standard output of the machine, and does the command of its words.
+#![tactic(auto)]
+
+use fund_base::{FileShelf, StdSink};
+use fund_top::{Status, run};
+use std::env;
+use std::io::ErrorKind;
+use std::process::ExitCode;
+
+/// The words of the command line, without the program's name; or how the program ends where the system doesn't
+/// give them as text, or there is no memory for them.
+fn words(rt: &HostRuntime) -> Result<Vec<String>, Status> {
+    let args = match env::args(rt) {
+        Ok(args) => args,
+        Err(error) if error.kind() == ErrorKind::OutOfMemory => return Err(Status::Memory),
+        Err(_) => return Err(Status::Usage),
+    };
+    let mut words = Vec::new(rt.alloc());
+    for word in args.skip(1) {
+        if words.push(word).is_err() {
+            return Err(Status::Memory);
+        }
+    }
+    Ok(words)
+}
+
+fn main(rt: HostRuntime) -> ExitCode {
+    let status = match words(&rt) {
+        Ok(words) => {
+            let mut shelf = FileShelf::new(&rt);
+            let mut out = StdSink::new(&rt);
+            run(rt.alloc(), &words, &mut shelf, &mut out)
+        }
+        Err(status) => status,
+    };
+    ExitCode::from(status.code())
+}
