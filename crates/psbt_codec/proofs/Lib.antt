@@ -1,0 +1,11 @@
+pub mod Decoded
+pub mod EachLaws
+pub mod Inner
+pub mod MapLaws
+pub mod MapMeaning
+pub mod MapReads
+pub mod PairLaws
+pub mod Public
+pub mod Readable
+pub mod TextLaws
+pub mod Written

@@ -1,2 +1,4 @@
+pub mod Fault
 pub mod PartialTransaction
 pub mod Psbt
+pub mod Reading

@@ -1,6 +1,6 @@
 -- The spelling of a partially signed transaction: BIP 174, version 0, 'Specification'.
-use Rattle.std.specs.Prelude.{ℕ, ◌≡◌, ◌<◌, List, [], ◌∷◌, ◌++◌, length, All, Option, Some, None, IfSome}
-use Rattle.std.specs.List.{flat_map, zip}
+use Rattle.std.specs.Prelude.{ℕ, ◌≡◌, ◌≢◌, ◌<◌, ◌≤◌, ◌^◌, ◌↔◌, List, [], ◌∷◌, ◌++◌, length, All, AllPairs, Contains, Option, Some, None, option_map, IfSome}
+use Rattle.std.specs.List.{flat_map, zip, AllZip}
 use Rattle.fund_base.specs.CompactSize.{compact, prefixed}
 use Rattle.tx_codec.specs.declared.tx.TxIn.{TxIn}
 use Rattle.tx_codec.specs.declared.tx.TxOut.{TxOut}
@@ -72,10 +72,15 @@ pub record IsParent (i : TxIn) (whole : Transaction) : Type 0 where
   pub txid : txid_of whole ≡ i.prev.txid
   pub output : i.prev.index < length whole.outputs
 
+-- an output that has a text by itself: it fits its fields, and its value is at most 21,000,000 bitcoin
+pub record IsPaid (o : TxOut) : Type 0 where
+  pub fits : OutputFits o
+  pub money : o.value ≤ 2_100_000_000_000_000
+
 -- what is known of the output that an input spends
 pub record IsSpent (i : TxIn) (s : Spent) : Type 0 where
   pub whole : IfSome s.whole (IsParent i)
-  pub paid : IfSome s.paid OutputFits
+  pub paid : IfSome s.paid IsPaid
 
 -- An unsigned transaction that has a text, and for each of its inputs what is known of the output that it spends.
 pub record IsPsbt (p : PartialTransaction) : Type 0 where
@@ -83,3 +88,86 @@ pub record IsPsbt (p : PartialTransaction) : Type 0 where
   pub unsigned : All IsUnsigned p.tx.inputs
   pub spent_len : length p.spent ≡ length p.tx.inputs
   pub spent : All (λ (k : TxIn × Spent). IsSpent k.0 k.1) (zip p.tx.inputs p.spent)
+
+-- ---- what is readable
+
+-- bytes whose number fits a CompactSize
+abbrev pub IsString : List ℕ → Type 0
+IsString bytes = All (λ b. b < 256) bytes × (length bytes < 2 ^ 64)
+
+-- A key: its type in the shortest CompactSize, and key data. Behind a type that has a meaning stand no key data.
+pub record IsKey (meant : List ℕ) (key : List ℕ) : Type 0 where
+  pub kind : ℕ
+  pub key_data : List ℕ
+  pub kind_fits : kind < 2 ^ 64
+  pub parts : key ≡ compact kind ++ key_data
+  pub whole : Contains meant kind → key_data ≡ []
+
+-- such a key, and a value
+pub record IsPair (meant : List ℕ) (p : Pair) : Type 0 where
+  pub key : IsKey meant p.key
+  pub key_fits : IsString p.key
+  pub value_fits : IsString p.value
+
+-- two pairs that can stand in one map
+abbrev pub HaveOtherKeys : Pair → Pair → Type 0
+HaveOtherKeys p q = p.key ≢ q.key
+
+-- the pairs of a map in which these types have a meaning: no key stands there twice
+pub record IsMap (meant : List ℕ) (pairs : List Pair) : Type 0 where
+  pub each : All (IsPair meant) pairs
+  pub distinct : AllPairs HaveOtherKeys pairs
+
+-- the types that have a meaning in the global map: the unsigned transaction, and the version
+abbrev pub global_types : List ℕ
+global_types = 0 ∷ 251 ∷ []
+
+-- the types that have a meaning in an input's map: the whole previous transaction, and the spent output
+abbrev pub input_types : List ℕ
+input_types = 0 ∷ 1 ∷ []
+
+-- A pair of this type has this value exactly where something is known and the value is its text.
+abbrev pub Tells : {X : Type 0} → List Pair → ℕ → (X → List ℕ) → Option X → Type 0
+Tells pairs kind text known = (value : List ℕ) → Contains pairs (typed kind value) ↔ (option_map text known ≡ Some value)
+
+-- a global map: it has the unsigned transaction, and tells no other version than 0
+pub record IsGlobalMap (tx : Transaction) (pairs : List Pair) : Type 0 where
+  pub pairs_fit : IsMap global_types pairs
+  pub unsigned : Tells pairs 0 bare_text (Some tx)
+  pub version : (value : List ℕ) → Contains pairs (typed 251 value) → value ≡ 0 ∷ 0 ∷ 0 ∷ 0 ∷ []
+
+-- an input's map: it tells what is known of the output that the input spends
+pub record IsInputMap (s : Spent) (pairs : List Pair) : Type 0 where
+  pub pairs_fit : IsMap input_types pairs
+  pub whole : Tells pairs 0 text_of s.whole
+  pub paid : Tells pairs 1 output_text s.paid
+
+-- an output's map, in which no type has a meaning
+abbrev pub IsOutputMap : TxOut → List Pair → Type 0
+IsOutputMap o pairs = IsMap [] pairs
+
+-- the magic, the global map, the inputs' maps and the outputs' maps, one behind the other
+abbrev pub spelled : List Pair → List (List Pair) → List (List Pair) → List ℕ
+spelled global inputs outputs = magic ++ (map_text global ++ (flat_map map_text inputs ++ flat_map map_text outputs))
+
+-- The bytes are a PSBT of version 0 of this transaction and of what is known of the outputs that it spends: they spell a
+-- global map, a map for each input and a map for each output. Pairs of other types stand there as they like.
+pub record IsReadable (bytes : List ℕ) (p : PartialTransaction) : Type 0 where
+  pub psbt : IsPsbt p
+  pub global : List Pair
+  pub inputs : List (List Pair)
+  pub outputs : List (List Pair)
+  pub spelling : bytes ≡ spelled global inputs outputs
+  pub global_is : IsGlobalMap p.tx global
+  pub inputs_are : AllZip IsInputMap p.spent inputs
+  pub outputs_are : AllZip IsOutputMap p.tx.outputs outputs
+
+-- such bytes, and from this place on others behind them
+pub record IsFollowed (bytes : List ℕ) (place : ℕ) : Type 0 where
+  pub psbt : PartialTransaction
+  pub text : List ℕ
+  pub rest : List ℕ
+  pub readable : IsReadable text psbt
+  pub parts : bytes ≡ text ++ rest
+  pub place_is : place ≡ length text
+  pub some : rest ≢ []

@@ -1,10 +1,18 @@
 //! Partially signed Bitcoin transactions (BIP 174, version 0), as bytes and as base64 text.
 #![tactic(auto)]
 
+mod fault;
+mod pairs;
 mod psbt;
+mod reading;
 mod text;
+mod values;
+#[cfg(test)]
+mod vectors;
 mod writing;
 
+pub use fault::PsbtFault;
 pub use psbt::{Psbt, Spent};
-pub use text::to_text;
+pub use reading::read_psbt;
+pub use text::{from_text, to_text};
 pub use writing::write_psbt;

@@ -1,9 +1,13 @@
 //! PSBTs as text.
 
-ghost use Rattle.std.specs.Prelude.{◌≡◌, IfOk};
+ghost use Rattle.std.specs.Prelude.{◌≡◌, ◌≢◌, List, ℕ, IfOk, IfErr, MatchResult};
 ghost use Rattle.base64.specs.Engines.{standard};
 ghost use Rattle.base64.specs.GeneralPurpose.{encode_of};
+ghost use Rattle.fund_base.specs.Cursor.{IsBytes};
+ghost use Rattle.psbt_codec.specs.declared.fault.PsbtFault.TheVariants.{NotBase64, Memory as OutOfMemory};
 
+use crate::fault::PsbtFault;
+use base64::DecodeAllocError;
 use base64::engine::general_purpose::STANDARD;
 use fund_base::Memory;
 use std::alloc::Global;
@@ -14,4 +18,20 @@ pub fn to_text(alloc: Global, bytes: &[u8]) -> Result<Vec<u8>, Memory>
 {
     let text = STANDARD.encode(alloc, bytes)?;
     Ok(text.into_bytes())
+}
+
+/// The bytes that the text is in base64, with the standard alphabet and padding (RFC 4648, section 4) and
+/// no bit set behind the last byte. [`PsbtFault::NotBase64`] exactly where it is no such text; no other
+/// fault comes but want of memory.
+pub fn from_text(alloc: Global, text: &[u8]) -> Result<Vec<u8>, PsbtFault>
+    // What is read has this text, and the text of any bytes is read as them, memory aside.
+    ensures found { IfOk result (λ bytes. text.now ≡ encode_of standard bytes.items) }
+    ensures only { (bytes : List ℕ) → IsBytes bytes → text.now ≡ encode_of standard bytes → MatchResult result (λ read. read.items ≡ bytes) (λ e. e ≡ OutOfMemory) }
+    ensures fault { IfErr result (λ e. e ≢ OutOfMemory → e ≡ NotBase64) }
+{
+    match STANDARD.decode(alloc, text) {
+        Ok(bytes) => Ok(bytes),
+        Err(DecodeAllocError::OutOfMemory) => Err(PsbtFault::Memory),
+        Err(DecodeAllocError::DecodeError(_)) => Err(PsbtFault::NotBase64),
+    }
 }

@@ -2,7 +2,8 @@
 
 ghost use Rattle.std.specs.Prelude.{◌≡◌, ◌++◌, [], IfOk, OnOk};
 ghost use Rattle.std.specs.List.{flat_map};
-ghost use Rattle.psbt_codec.specs.Psbt.{pair_text, map_text, global_map, whole_pairs, paid_pairs, input_map, output_map, written};
+ghost use Rattle.psbt_codec.specs.PartialTransaction.{PartialTransaction};
+ghost use Rattle.psbt_codec.specs.Psbt.{pair_text, map_text, global_map, whole_pairs, paid_pairs, input_map, output_map, written, IsPsbt, IsReadable};
 
 use crate::psbt::{Psbt, Spent};
 use fund_base::{Memory, write_prefixed};
@@ -24,8 +25,23 @@ const PAID: u8 = 1;
 /// The bytes of a PSBT: the magic, the global map with the unsigned transaction, a map for each entry of
 /// `spent` with the whole previous transaction and the spent output where they are known, and an empty map
 /// for each output. They are the bytes of a PSBT of version 0 where [`Psbt`] says what is one (BIP 174).
-#[tactic(auto, unfolding(crate::specs::Psbt::written))]
 pub fn write_psbt(alloc: Global, psbt: &Psbt) -> Result<Vec<u8>, Memory>
+    ensures text { IfOk result (λ bytes. bytes.items ≡ written psbt.now) }
+    // What is written of a PSBT is readable as it.
+    ensures readable { IfOk result (λ bytes. IsPsbt psbt.now → IsReadable bytes.items psbt.now) }
+{
+    let bytes = written_of(alloc, psbt)?;
+    written_is_readable(&bytes);
+    Ok(bytes)
+}
+
+/// That bytes which are the one spelling of a PSBT are readable as it. A call does nothing.
+pub fn written_is_readable(bytes: &[u8])
+    ensures { (p : PartialTransaction) → IsPsbt p → bytes.now ≡ written p → IsReadable bytes.now p }
+{}
+
+#[tactic(auto, unfolding(crate::specs::Psbt::written))]
+fn written_of(alloc: Global, psbt: &Psbt) -> Result<Vec<u8>, Memory>
     ensures { IfOk result (λ bytes. bytes.items ≡ written psbt.now) }
 {
     let mut out = Vec::new(alloc);
@@ -115,17 +131,10 @@ fn write_end(out: &mut Vec<u8>) -> Result<(), Memory>
 mod tests {
     use super::*;
     use crate::to_text;
+    use crate::vectors::PAYMENT;
     use fund_base::{OutPoint, Sat, Script, Txid};
     use std::test::Fail;
     use tx_codec::{TxIn, Witness};
-
-    const PAYMENT: &[u8] =
-        b"\x70\x73\x62\x74\xff\x01\x00\x52\x02\x00\x00\x00\x01\x11\x11\x11\x11\x11\x11\x11\x11\x11\
-        \x11\x11\x11\x11\x11\x11\x11\x11\x11\x11\x11\x11\x11\x11\x11\x11\x11\x11\x11\x11\x11\x11\
-        \x11\x00\x00\x00\x00\x00\xfd\xff\xff\xff\x01\xa0\x86\x01\x00\x00\x00\x00\x00\x16\x00\x14\
-        \x22\x22\x22\x22\x22\x22\x22\x22\x22\x22\x22\x22\x22\x22\x22\x22\x22\x22\x22\x22\x00\x00\
-        \x00\x00\x00\x01\x01\x1f\xec\x8a\x01\x00\x00\x00\x00\x00\x16\x00\x14\x22\x22\x22\x22\x22\
-        \x22\x22\x22\x22\x22\x22\x22\x22\x22\x22\x22\x22\x22\x22\x22\x00\x00";
 
     fn output(alloc: Global, value: u64) -> Result<TxOut, Fail> {
         let mut script = Vec::from_slice(alloc, &[0x22; 22])?;

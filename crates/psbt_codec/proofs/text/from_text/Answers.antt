@@ -1,0 +1,6 @@
+use Rattle.std.proofs.Common.{refl}
+use Rattle.psbt_codec.proofs.TextLaws.{decoded_is}
+use Rattle.psbt_codec.proofs.text.from_text.Goals as goal
+
+pub returns-in-Ok-clause-only : goal.returns-in-Ok-clause-only
+returns-in-Ok-clause-only c = λ bytes fits is. decoded_is c.args.text.now c.in-Ok.bytes.items bytes c.in-Ok.ensures.ok (c.in-Ok.ensures.strict (refl, refl)) fits is

@@ -1,0 +1,23 @@
+-- How the faults of what stands within a PSBT are told.
+use Rattle.std.specs.Prelude.{ℕ}
+use Rattle.fund_base.specs.declared.cursor.CutFault.{CutFault}
+use Rattle.fund_base.specs.declared.cursor.CutFault.TheVariants as cuts
+use Rattle.tx_codec.specs.declared.fault.TxFault.{TxFault}
+use Rattle.tx_codec.specs.declared.fault.TxFault.TheVariants as txs
+use Rattle.psbt_codec.specs.declared.fault.PsbtFault.{PsbtFault}
+use Rattle.psbt_codec.specs.declared.fault.PsbtFault.TheVariants.{Truncated, LongCompact, Field, Unsigned, Memory}
+
+-- a fault of the cursor
+abbrev pub cut_fault : CutFault → PsbtFault
+cut_fault (cuts.Truncated place) = Truncated place
+cut_fault (cuts.LongCompact place) = LongCompact place
+
+-- a fault of the type that the key at this place begins with, where its pair begins at the first place
+abbrev pub type_fault : ℕ → ℕ → CutFault → PsbtFault
+type_fault pair_place key_place (cuts.Truncated place) = Field pair_place
+type_fault pair_place key_place (cuts.LongCompact place) = LongCompact key_place
+
+-- a fault of the unsigned transaction
+abbrev pub unsigned_fault : TxFault → PsbtFault
+unsigned_fault txs.Memory = Memory
+unsigned_fault fault = Unsigned fault

@@ -1,0 +1,188 @@
+//! Reading the maps of a PSBT, pair by pair.
+
+ghost use Rattle.std.specs.Prelude.{◌≡◌, ◌==◌, [], length, option_copied};
+ghost use Rattle.fund_base.specs.Parsing.{Yields, YieldsAll, string_at};
+ghost use Rattle.psbt_codec.specs.declared.fault.PsbtFault.TheVariants.{Memory as OutOfMemory};
+ghost use Rattle.psbt_codec.specs.Reading.{cut, has_meaning, kind_in, value_fits, has_key, input_value_fits, keyed_at, pair_at, map_at, value_of};
+ghost use Rattle.psbt_codec.specs.Fault.{type_fault};
+
+use crate::fault::PsbtFault;
+use crate::values::{check_version, paid_in, tx_in};
+use fund_base::{Cursor, CutFault};
+use std::alloc::Global;
+use std::marker::Model;
+
+/// Whose map it is.
+#[derive(Clone, Copy, Debug, PartialEq, Eq)]
+pub enum Part {
+    Global,
+    Input,
+    Output,
+}
+
+/// A key and its value.
+#[derive(Drop)]
+pub struct Pair<'a> {
+    key: &'a [u8],
+    value: &'a [u8],
+}
+
+impl<'a> Model for Pair<'a> {
+    ghost use Rattle.psbt_codec.specs.Psbt.{Pair as Plain};
+
+    ghost Value = { Plain };
+
+    ghost view = { λ p. record { key = p.key.now; value = p.value.now } };
+}
+
+#[tactic(auto, unfolding(fund_base::specs::Parsing::string_at))]
+fn string_of<'a>(cursor: &mut Cursor<'a>) -> Result<&'a [u8], PsbtFault>
+    ensures { Yields OutOfMemory (λ b. b.now) cursor.new result (cut (string_at cursor.old)) }
+{
+    let len = cursor.compact()?;
+    Ok(cursor.take(len)?)
+}
+
+fn has_meaning(part: Part, kind: u64) -> bool
+    ensures { result ≡ has_meaning part kind }
+{
+    match part {
+        Part::Global => kind == 0 || kind == 251,
+        Part::Input => kind == 0 || kind == 1,
+        Part::Output => false,
+    }
+}
+
+fn type_fault(pair_place: u64, key_place: u64, fault: CutFault) -> PsbtFault
+    ensures { result ≡ type_fault pair_place key_place fault }
+{
+    match fault {
+        CutFault::Truncated(_) => PsbtFault::Field(pair_place),
+        CutFault::LongCompact(_) => PsbtFault::LongCompact(key_place),
+    }
+}
+
+/// The type that a key begins with; one that has a meaning is the whole key.
+#[tactic(auto, unfolding(crate::specs::Reading::kind_in))]
+fn kind_in(part: Part, pair_place: u64, key_place: u64, key: &[u8]) -> Result<u64, PsbtFault>
+    ensures { YieldsAll OutOfMemory (λ n. n) result (kind_in part pair_place key_place key.now) }
+{
+    let mut cursor = Cursor::new(key);
+    match cursor.compact() {
+        Ok(kind) if has_meaning(part, kind) && !cursor.rest().is_empty() => {
+            Err(PsbtFault::Field(pair_place))
+        }
+        Ok(kind) => Ok(kind),
+        Err(fault) => Err(type_fault(pair_place, key_place, fault)),
+    }
+}
+
+/// Whether an input's value is of the form that its type asks for.
+fn check_input_value(alloc: Global, place: u64, kind: u64, value: &[u8]) -> Result<(), PsbtFault>
+    ensures { YieldsAll OutOfMemory (λ u. u) result (input_value_fits place kind value.now) }
+{
+    let fits = match kind {
+        0 => tx_in(alloc, value)?.is_some(),
+        1 => paid_in(alloc, value)?.is_some(),
+        _ => true,
+    };
+    if fits {
+        Ok(())
+    } else {
+        Err(PsbtFault::Field(place))
+    }
+}
+
+/// Whether a value is of the form that its type asks for.
+#[tactic(auto, unfolding(crate::specs::Reading::value_fits))]
+fn check_value(
+    alloc: Global,
+    part: Part,
+    place: u64,
+    kind: u64,
+    value: &[u8],
+) -> Result<(), PsbtFault>
+    ensures { YieldsAll OutOfMemory (λ u. u) result (value_fits part place kind value.now) }
+{
+    match part {
+        Part::Global if kind == 251 => check_version(place, value),
+        Part::Input => check_input_value(alloc, place, kind, value),
+        _ => Ok(()),
+    }
+}
+
+fn has_key(pairs: &[Pair], key: &[u8]) -> bool
+    ensures { result ≡ has_key key.now pairs.now }
+{
+    pairs.iter().any(|pair| pair.key == key)
+}
+
+#[tactic(auto, unfolding(crate::specs::Reading::keyed_at))]
+fn keyed_of<'a>(
+    alloc: Global,
+    part: Part,
+    before: &[Pair],
+    place: u64,
+    len: u64,
+    cursor: &mut Cursor<'a>,
+) -> Result<Pair<'a>, PsbtFault>
+    ensures { Yields OutOfMemory (λ p. p) cursor.new result (keyed_at part before.now place len cursor.old) }
+{
+    let key_place = cursor.place();
+    let key = cursor.take(len)?;
+    if has_key(before, key) {
+        return Err(PsbtFault::RepeatKey(place));
+    }
+    let kind = kind_in(part, place, key_place, key)?;
+    let value = string_of(cursor)?;
+    check_value(alloc, part, place, kind, value)?;
+    Ok(Pair { key, value })
+}
+
+/// The next pair behind others of its map, or none where the map ends.
+#[tactic(auto, unfolding(crate::specs::Reading::pair_at))]
+fn pair_of<'a>(
+    alloc: Global,
+    part: Part,
+    before: &[Pair],
+    cursor: &mut Cursor<'a>,
+) -> Result<Option<Pair<'a>>, PsbtFault>
+    ensures { Yields OutOfMemory (λ o. o) cursor.new result (pair_at part before.now cursor.old) }
+{
+    let place = cursor.place();
+    let len = cursor.compact()?;
+    if len == 0 {
+        return Ok(None);
+    }
+    let pair = keyed_of(alloc, part, before, place, len, cursor)?;
+    Ok(Some(pair))
+}
+
+/// The pairs of a map, which ends at a key without bytes. It has fewer pairs than bytes are left.
+#[tactic(auto, using(crate::proofs::MapLaws::pairs_none, crate::proofs::MapLaws::pairs_more, crate::proofs::MapLaws::pairs_end, crate::proofs::MapLaws::pairs_cut))]
+pub fn pairs_of<'a>(
+    alloc: Global,
+    part: Part,
+    cursor: &mut Cursor<'a>,
+) -> Result<Vec<Pair<'a>>, PsbtFault>
+    ensures { Yields OutOfMemory (λ v. v.items) cursor.new result (map_at part cursor.old) }
+{
+    let mut pairs = Vec::new(alloc);
+    for _ in 0..cursor.rest().len() {
+        match pair_of(alloc, part, &pairs, cursor)? {
+            Some(pair) => pairs.push(pair)?,
+            None => return Ok(pairs),
+        }
+    }
+    Err(PsbtFault::Truncated(cursor.place()))
+}
+
+/// The value of the pair whose key is this type.
+pub fn value_of<'a>(pairs: &[Pair<'a>], kind: u8) -> Option<&'a [u8]>
+    ensures { option_copied result ≡ value_of kind pairs.now }
+{
+    match pairs.iter().find(|pair| pair.key == [kind].as_slice()) {
+        Some(pair) => Some(pair.value),
+        None => None,
+    }
+}

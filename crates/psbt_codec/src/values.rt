@@ -1,0 +1,101 @@
+//! What the values of a PSBT's pairs hold.
+
+ghost use Rattle.std.specs.Prelude.{◌≡◌, ◌==◌, length, take, IfOk, MatchResult};
+ghost use Rattle.std.specs.Int.{w32, from_le_bytes};
+ghost use Rattle.fund_base.specs.Parsing.{YieldsAll};
+ghost use Rattle.tx_codec.specs.Txid.{txid_of};
+ghost use Rattle.psbt_codec.specs.declared.fault.PsbtFault.TheVariants.{Memory as OutOfMemory};
+ghost use Rattle.psbt_codec.specs.Reading.{tx_in, paid_in, are_bare, is_parent, version_fits, unsigned_in};
+ghost use Rattle.psbt_codec.specs.Fault.{unsigned_fault};
+
+use crate::fault::PsbtFault;
+use fund_base::{Cursor, Memory, Sat, Script};
+use std::alloc::Global;
+use tx_codec::{Tx, TxFault, TxIn, TxOut, read_whole_legacy_tx, read_whole_tx, txid};
+
+/// The transaction that the bytes are, all of them, if they are one.
+pub fn tx_in(alloc: Global, bytes: &[u8]) -> Result<Option<Tx>, Memory>
+    ensures { IfOk result (λ o. o ≡ tx_in bytes.now) }
+{
+    match read_whole_tx(alloc, bytes) {
+        Ok(tx) => Ok(Some(tx)),
+        Err(TxFault::Memory) => Err(Memory),
+        Err(_) => Ok(None),
+    }
+}
+
+/// The output that the bytes are, all of them, if they are one of at most 21,000,000 bitcoin.
+#[tactic(auto, unfolding(crate::specs::Reading::paid_in, tx_codec::specs::Reading::output_at, fund_base::specs::Parsing::string_at))]
+pub fn paid_in(alloc: Global, bytes: &[u8]) -> Result<Option<TxOut>, Memory>
+    ensures { IfOk result (λ o. o ≡ paid_in bytes.now) }
+{
+    let mut cursor = Cursor::new(bytes);
+    let Ok(number) = cursor.u64_le() else {
+        return Ok(None);
+    };
+    let Some(value) = Sat::new(number) else {
+        return Ok(None);
+    };
+    let Ok(len) = cursor.compact() else {
+        return Ok(None);
+    };
+    let Ok(script) = cursor.take(len) else {
+        return Ok(None);
+    };
+    if !cursor.rest().is_empty() {
+        return Ok(None);
+    }
+    Ok(Some(TxOut {
+        value,
+        script: Script::new(Vec::from_slice(alloc, script)?),
+    }))
+}
+
+/// Whether a global pair's value says version 0, in four bytes.
+#[tactic(auto, unfolding(crate::specs::Reading::version_fits))]
+pub fn check_version(place: u64, value: &[u8]) -> Result<(), PsbtFault>
+    ensures { YieldsAll OutOfMemory (λ u. u) result (version_fits place value.now) }
+{
+    if value.len() != 4 {
+        return Err(PsbtFault::Field(place));
+    }
+    let version = u32::from_le_bytes([value[0], value[1], value[2], value[3]]);
+    if version != 0 {
+        return Err(PsbtFault::Version(version));
+    }
+    Ok(())
+}
+
+fn unsigned_fault(fault: TxFault) -> PsbtFault
+    ensures { result ≡ unsigned_fault fault }
+{
+    match fault {
+        TxFault::Memory => PsbtFault::Memory,
+        fault => PsbtFault::Unsigned(fault),
+    }
+}
+
+fn are_bare(inputs: &[TxIn]) -> bool
+    ensures { result ≡ are_bare inputs.now }
+{
+    inputs.iter().all(|input| input.script.bytes().is_empty())
+}
+
+/// The unsigned transaction that the bytes are.
+#[tactic(auto, unfolding(crate::specs::Reading::unsigned_in))]
+pub fn unsigned_in(alloc: Global, bytes: &[u8]) -> Result<Tx, PsbtFault>
+    ensures { YieldsAll OutOfMemory (λ t. t) result (unsigned_in bytes.now) }
+{
+    match read_whole_legacy_tx(alloc, bytes) {
+        Ok(tx) if are_bare(&tx.inputs) => Ok(tx),
+        Ok(_) => Err(PsbtFault::NotBare),
+        Err(fault) => Err(unsigned_fault(fault)),
+    }
+}
+
+/// Whether the input spends an output of this transaction.
+pub fn is_parent(input: &TxIn, whole: &Tx) -> bool
+    ensures { result ≡ is_parent input.now whole.now }
+{
+    txid(whole) == input.prev.txid && (input.prev.index as usize) < whole.outputs.len()
+}
