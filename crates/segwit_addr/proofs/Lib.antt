@@ -1,0 +1,8 @@
+pub mod Addresses
+pub mod Folds
+pub mod Found
+pub mod Letters
+pub mod Lower
+pub mod Regrouped
+pub mod Rows
+pub mod Sums

@@ -1,0 +1,194 @@
+//! Reading addresses: the script of a text, or the first fault in it.
+
+ghost use Rattle.std.specs.Prelude.{ℕ, List, ◌≡◌, ◌+◌, ◌≤◌, map, length, IfOk, IfSome, IsTrue, MatchResult};
+ghost use Rattle.fund_base.specs.Parsing.{YieldsAll};
+ghost use Rattle.segwit_addr.specs.declared.fault.AddrFault.TheVariants.{Memory};
+ghost use Rattle.segwit_addr.specs.Address.{IsAddress, has_lower, has_upper, is_witness};
+ghost use Rattle.segwit_addr.specs.Reading.{behind_last, char_count, decode_of, has_outsider, has_unknown, is_badly_padded, parts_at, program_at, summed_at, versioned_at, split_at};
+ghost use Rattle.segwit_addr.specs.Bech32.{value_of};
+
+use crate::bech32::{BECH32, BECH32M, checksum, value};
+use crate::fault::AddrFault;
+use crate::program::{byte_of_version, checksum_of_version, is_refused_size, push_bytes};
+use fund_base::Script;
+use std::alloc::{AllocError, Global};
+
+/// The human-readable part of the addresses of Bitcoin's main network.
+const NETWORK: &[u8] = b"bc";
+
+/// The script that the text is an address of, upper case letters standing for lower case ones (BIP 173 and BIP 350).
+///
+/// An error is the first fault in the order of [`AddrFault`].
+pub fn decode(alloc: Global, text: &str) -> Result<Script, AddrFault>
+    // What is read is an address of the script, and each address of a script is read as it, memory aside.
+    ensures found { IfOk result (λ script. IsAddress text.now script) }
+    ensures only { (script : List ℕ) → IsAddress text.now script → MatchResult result (λ s. s ≡ script) (λ e. e ≡ Memory) }
+    ensures witness { IfOk result (λ script. IsTrue (is_witness script)) }
+
+    // Which fault it is.
+    ensures exact { YieldsAll Memory (λ script. script) result (decode_of text.now) }
+{
+    script_of_text(alloc, text.as_bytes())
+}
+
+/// The script that a text is an address of.
+#[tactic(auto, unfolding(crate::specs::Reading::decode_of))]
+fn script_of_text(alloc: Global, text: &[u8]) -> Result<Script, AddrFault>
+    ensures { YieldsAll Memory (λ script. script) result (decode_of text.now) }
+{
+    if text.len() < 8 || text.len() > 90 {
+        return Err(AddrFault::Length);
+    }
+    if has_upper_case(text) && has_lower_case(text) {
+        return Err(AddrFault::Case);
+    }
+    let lower = text.to_ascii_lowercase(alloc)?;
+    script_of_lower(alloc, lower.as_slice())
+}
+
+/// Whether an upper case letter of ASCII stands in the text.
+#[tactic(auto, unfolding(crate::specs::Address::has_upper))]
+fn has_upper_case(text: &[u8]) -> bool
+    ensures { result ≡ has_upper text.now }
+{
+    text.iter().any(|c| c.is_ascii_uppercase())
+}
+
+/// Whether a lower case letter of ASCII stands in the text.
+#[tactic(auto, unfolding(crate::specs::Address::has_lower))]
+fn has_lower_case(text: &[u8]) -> bool
+    ensures { result ≡ has_lower text.now }
+{
+    text.iter().any(|c| c.is_ascii_lowercase())
+}
+
+/// How many bytes stand behind the last `1`. None exactly where there is none.
+fn count_behind(text: &[u8]) -> Option<usize>
+    ensures value { result ≡ behind_last text.now }
+    ensures most { IfSome result (λ n. n + 1 ≤ length text.now) }
+{
+    text.iter().rev().position(|c| *c == b'1')
+}
+
+/// The number of characters of a part of a text in UTF-8.
+#[tactic(auto, using(crate::proofs::Rows::counts))]
+fn characters(text: &[u8]) -> usize
+    ensures value { result ≡ char_count text.now }
+    ensures most { result ≤ length text.now }
+{
+    text.iter().filter(|c| **c < 128 || **c >= 192).count()
+}
+
+/// Whether a character stands there that may not stand in a human-readable part: one outside 33 to 126.
+#[tactic(auto, unfolding(crate::specs::Reading::has_outsider))]
+fn has_other_character(prefix: &[u8]) -> bool
+    ensures { result ≡ has_outsider prefix.now }
+{
+    prefix.iter().any(|c| *c < 33 || *c > 126)
+}
+
+/// Whether one of these values is that of no letter.
+#[tactic(auto, unfolding(crate::specs::Reading::has_unknown))]
+fn has_other_letter(values: &[u8]) -> bool
+    ensures { result ≡ has_unknown values.now }
+{
+    values.iter().any(|v| *v >= 32)
+}
+
+/// The script of a text in lower case.
+fn script_of_lower(alloc: Global, text: &[u8]) -> Result<Script, AddrFault>
+    requires { length text.now ≤ 90 }
+    ensures { YieldsAll Memory (λ script. script) result (split_at text.now (behind_last text.now)) }
+{
+    match count_behind(text) {
+        Some(behind) => {
+            let start = text.len() - behind;
+            script_of_parts(alloc, &text[..start - 1], &text[start..])
+        }
+        None => Err(AddrFault::Separator),
+    }
+}
+
+/// The values of these letters, 32 standing for each that is not in the alphabet.
+fn values_of_letters(alloc: Global, letters: &[u8]) -> Result<Vec<u8>, AllocError>
+    ensures { IfOk result (λ values. values.items ≡ map value_of letters.now) }
+{
+    letters.iter().map(|c| value(*c)).collect(alloc)
+}
+
+/// The script of what stands before the separator and what stands behind it.
+#[tactic(auto, unfolding(crate::specs::Reading::parts_at))]
+fn script_of_parts(alloc: Global, prefix: &[u8], letters: &[u8]) -> Result<Script, AddrFault>
+    requires { length letters.now ≤ 90 }
+    ensures { YieldsAll Memory (λ script. script) result (parts_at prefix.now letters.now) }
+{
+    if prefix.is_empty() || characters(letters) < 7 {
+        return Err(AddrFault::Separator);
+    }
+    let values = values_of_letters(alloc, letters)?;
+    if has_other_character(prefix) || has_other_letter(values.as_slice()) {
+        return Err(AddrFault::Letter);
+    }
+    script_of_summed(alloc, prefix, values.as_slice())
+}
+
+/// The script of a human-readable part and the values of all letters behind the separator.
+#[tactic(auto, unfolding(crate::specs::Reading::summed_at))]
+fn script_of_summed(alloc: Global, prefix: &[u8], values: &[u8]) -> Result<Script, AddrFault>
+    requires least { 7 ≤ length values.now }
+    requires most { length values.now ≤ 90 }
+    ensures { YieldsAll Memory (λ script. script) result (summed_at prefix.now values.now) }
+{
+    let sum = checksum(prefix, values);
+    if sum != BECH32 && sum != BECH32M {
+        return Err(AddrFault::Checksum);
+    }
+    if prefix != NETWORK {
+        return Err(AddrFault::Network);
+    }
+    script_of_values(alloc, &values[..values.len() - 6], sum)
+}
+
+/// The script of the values between the separator and the checksum `sum`.
+#[tactic(auto, unfolding(crate::specs::Reading::versioned_at))]
+fn script_of_values(alloc: Global, values: &[u8], sum: u32) -> Result<Script, AddrFault>
+    requires least { 1 ≤ length values.now }
+    requires most { length values.now ≤ 90 }
+    ensures { YieldsAll Memory (λ script. script) result (versioned_at values.now sum) }
+{
+    let version = values[0];
+    if version > 16 || sum != checksum_of_version(version) {
+        return Err(AddrFault::Version);
+    }
+    script_of_program(alloc, version, &values[1..])
+}
+
+/// Whether the bits behind the last whole byte of these values are five or more, or not all zero.
+fn has_bad_padding(values: &[u8]) -> bool
+    requires { length values.now ≤ 90 }
+    ensures { result ≡ is_badly_padded values.now }
+{
+    let left = values.len() * 5 % 8;
+    left >= 5 || (!values.is_empty() && values[values.len() - 1] % (1 << left) != 0)
+}
+
+/// The script of a version and the values of a program.
+#[tactic(auto, unfolding(crate::specs::Reading::program_at))]
+fn script_of_program(alloc: Global, version: u8, values: &[u8]) -> Result<Script, AddrFault>
+    requires version { version ≤ 16 }
+    requires most { length values.now ≤ 90 }
+    ensures { YieldsAll Memory (λ script. script) result (program_at version values.now) }
+{
+    let size = values.len() * 5 / 8;
+    if has_bad_padding(values) {
+        return Err(AddrFault::Padding);
+    }
+    if is_refused_size(version, size) {
+        return Err(AddrFault::Length);
+    }
+    let mut bytes = Vec::new(alloc);
+    bytes.push(byte_of_version(version))?;
+    bytes.push(size as u8)?;
+    push_bytes(&mut bytes, values)?;
+    Ok(Script::new(bytes))
+}
