@@ -1,0 +1,9 @@
+pub mod CoinLaws
+pub mod LastValues
+pub mod Loops
+pub mod Members
+pub mod Names
+pub mod NumberLaws
+pub mod ObjectLaws
+pub mod Parsed
+pub mod ValueFacts

@@ -1,0 +1,55 @@
+-- What an object is told of, without the order in which it is found out.
+use Rattle.std.specs.Prelude.{ℕ, ◌≡◌, ◌≢◌, ◌<◌, ◌^◌, List, ◌∷◌, ◌++◌, Option, Some, None, Contains, if◌then◌else◌, option_and_then, bytes_eq}
+use Rattle.std.specs.Cmp.Lexicographic.{slice_cmp}
+use Rattle.std.specs.Fmt.{decimal}
+use Rattle.std.specs.Option.{option_or}
+use Rattle.std.specs.Ordering.{nat_cmp}
+use Rattle.std.specs.declared.cmp.Ordering.TheVariants.{Less}
+use Rattle.json.specs.Json as json
+use Rattle.json.specs.Lex.{tokens}
+use Rattle.serde_json.specs.Data.{Data, object, Members}
+use Rattle.serde_json.specs.Read.{max_depth}
+use Rattle.fund_base.specs.declared.outpoint.OutPoint.{OutPoint}
+use Rattle.json_fields.specs.Fields.{names_of, hash_in}
+
+-- the value is an object, of whose members this holds
+abbrev pub HasMembers : Data → (Members → Type 0) → Type 0
+HasMembers d P = (ms : Members) × (d ≡ object ms) × P ms
+
+-- each member is known
+abbrev pub AreKnown : List (List ℕ) → Members → Type 0
+AreKnown known ms = (name : List ℕ) → Contains (names_of ms) name → Contains known name
+
+-- each required name has a member
+abbrev pub HasAll : List (List ℕ) → Members → Type 0
+HasAll required ms = (name : List ℕ) → Contains required name → Contains (names_of ms) name
+
+-- a member has this name, which isn't known, and no unknown name is less by bytes
+pub record IsLeastUnknown (known : List (List ℕ)) (ms : Members) (name : List ℕ) : Type 0 where
+  pub stands : Contains (names_of ms) name
+  pub unknown : ¬ Contains known name
+  pub least : (other : List ℕ) → Contains (names_of ms) other → ¬ Contains known other → slice_cmp nat_cmp other name ≢ Less
+
+-- no member has this required name, and those that are required before it have one
+pub record IsFirstMissing (required : List (List ℕ)) (ms : Members) (name : List ℕ) : Type 0 where
+  pub front : List (List ℕ)
+  pub back : List (List ℕ)
+  pub parts : required ≡ front ++ name ∷ back
+  pub there : HasAll front ms
+  pub lacks : ¬ Contains (names_of ms) name
+
+-- the JSON text that the bytes are, in which a name may stand more than once
+abbrev pub text_of : List ℕ → Option json.Json
+text_of bytes = option_and_then (λ p. json.if_last p.0 p.1) (json.value max_depth (tokens bytes))
+
+-- the last value of a name, in the order of the text
+abbrev pub last_value : List ℕ → json.Members → Option json.Json
+last_value name json.no_members = None
+last_value name (json.member k j ms) = option_or (last_value name ms) (if bytes_eq name k then Some j else None)
+
+-- a coin: the digits of its txid, a colon, and its index in decimal
+pub record IsCoinText (text : List ℕ) (c : OutPoint) : Type 0 where
+  pub front : List ℕ
+  pub hash : hash_in front ≡ Some c.txid
+  pub index : c.index < 2 ^ 32
+  pub whole : text ≡ front ++ 58 ∷ decimal c.index

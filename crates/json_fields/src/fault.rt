@@ -1,0 +1,117 @@
+//! Why a value of a JSON file is refused.
+
+ghost use Rattle.std.specs.Prelude.{◌≡◌, ◌≢◌, List, ℕ, IfOk, string_bytes};
+ghost use Rattle.json_fields.specs.declared.fault.FieldFault.TheVariants.{Kind, Member, Missing, Memory as NoMemory};
+
+use fund_base::Memory;
+use std::alloc::{AllocError, AllocFailed, Global};
+use std::marker::Model;
+
+/// The name of a member of an object, or the name under which a whole file is told.
+#[derive(Debug, Drop)]
+pub struct Name {
+    text: String,
+}
+
+impl Model for Name {
+    ghost use Rattle.std.specs.Prelude.{List, ℕ, string_bytes};
+
+    ghost Value = { List ℕ };
+
+    ghost view = { λ n. string_bytes n.text };
+}
+
+impl Name {
+    /// The name of this text.
+    pub fn new(alloc: Global, text: &str) -> Result<Name, Memory>
+        ensures { IfOk result (λ n. n ≡ text.now) }
+    {
+        let text = String::from_str(alloc, text)?;
+        Ok(Name { text })
+    }
+
+    /// The text of the name.
+    pub fn as_str(&self) -> &str
+        ensures { result.now ≡ self.now }
+    {
+        self.text.as_str()
+    }
+
+    /// The text of the name, which takes no memory.
+    pub fn into_string(self) -> String
+        ensures { string_bytes result ≡ self }
+    {
+        self.text
+    }
+}
+
+/// What is wrong with a JSON file, in the order in which it is tested.
+#[derive(Debug, Drop)]
+pub enum FieldFault {
+    /// `serde_json` doesn't take the bytes.
+    NotJson,
+    /// The value of this name isn't of its kind, or a number is out of its range.
+    Kind(Name),
+    /// An object has this member, which isn't known: of several, the least by bytes.
+    Member(Name),
+    /// An object lacks this member: of several, the first in the order of its table.
+    Missing(Name),
+    /// There was not enough memory.
+    Memory,
+}
+
+impl From<Memory> for FieldFault {
+    ghost from_gives = { λ _ e. e ≡ NoMemory };
+
+    fn from(_e: Memory) -> FieldFault {
+        FieldFault::Memory
+    }
+}
+
+impl From<AllocError> for FieldFault {
+    ghost from_gives = { λ _ e. e ≡ NoMemory };
+
+    fn from(_e: AllocError) -> FieldFault {
+        FieldFault::Memory
+    }
+}
+
+impl<T: Drop> From<AllocFailed<T>> for FieldFault {
+    ghost from_gives = { λ _ e. e ≡ NoMemory };
+
+    fn from(_e: AllocFailed<T>) -> FieldFault {
+        FieldFault::Memory
+    }
+}
+
+impl FieldFault {
+    /// That the value of this name isn't of its kind.
+    pub fn kind(alloc: Global, name: &str) -> FieldFault
+        ensures { result ≢ NoMemory → result ≡ Kind name.now }
+    {
+        match Name::new(alloc, name) {
+            Ok(name) => FieldFault::Kind(name),
+            Err(_) => FieldFault::Memory,
+        }
+    }
+
+    /// That a member of this name isn't known.
+    pub fn member(alloc: Global, name: &str) -> FieldFault
+        ensures { result ≢ NoMemory → result ≡ Member name.now }
+    {
+        match Name::new(alloc, name) {
+            Ok(name) => FieldFault::Member(name),
+            Err(_) => FieldFault::Memory,
+        }
+    }
+
+    /// That the member of this name is missing.
+    pub fn missing(alloc: Global, name: &str) -> FieldFault
+        ensures { result ≢ NoMemory → result ≡ Missing name.now }
+    {
+        match Name::new(alloc, name) {
+            Ok(name) => FieldFault::Missing(name),
+            Err(_) => FieldFault::Memory,
+        }
+    }
+}

@@ -1,0 +1,52 @@
+//! What the definitions of reading come to, in words that don't follow the reading.
+
+ghost use Rattle.std.specs.Prelude.{◌≡◌, ◌≢◌, ◌≤◌, ◌*◌, ℕ, List, reverse, length, option_and_then};
+ghost use Rattle.std.specs.List.{AllPass};
+ghost use Rattle.hex.specs.Hex.{encode_lower, encode_upper, is_hex_digit};
+ghost use Rattle.json.specs.Json as json;
+ghost use Rattle.serde_json.specs.Data.{Data, object, number, unsigned, Members};
+ghost use Rattle.serde_json.specs.Find.{get};
+ghost use Rattle.serde_json.specs.Read.{of_json};
+ghost use Rattle.fund_base.specs.declared.outpoint.OutPoint.{OutPoint};
+ghost use Rattle.json_fields.specs.Fields.{parsed, object_at, number_at, hash_in, coin_in, IsHash};
+ghost use Rattle.json_fields.specs.Rules.{HasMembers, AreKnown, HasAll, IsLeastUnknown, IsFirstMissing, IsCoinText, text_of, last_value};
+ghost use Rattle.json_fields.specs.declared.fault.FieldFault.{FieldFault};
+ghost use Rattle.json_fields.specs.declared.fault.FieldFault.TheVariants.{Kind, Member, Missing};
+
+/// The law of objects: one is taken exactly where its members are known and those that are required are there. Otherwise
+/// it isn't an object, or the fault is its least unknown name by bytes, or, where all are known, the first required name
+/// that it lacks.
+pub fn reads_objects()
+    ensures taken { (whole : List ℕ) (known required : List (List ℕ)) (d : Data) → object_at whole known required d ≡ Ok tt → HasMembers d (λ ms. AreKnown known ms × HasAll required ms) }
+    ensures kind { (whole : List ℕ) (known required : List (List ℕ)) (d : Data) (name : List ℕ) → object_at whole known required d ≡ Err (Kind name) → (name ≡ whole) × ((ms : Members) → d ≢ object ms) }
+    ensures member { (whole : List ℕ) (known required : List (List ℕ)) (d : Data) (name : List ℕ) → object_at whole known required d ≡ Err (Member name) → HasMembers d (λ ms. IsLeastUnknown known ms name) }
+    ensures missing { (whole : List ℕ) (known required : List (List ℕ)) (d : Data) (name : List ℕ) → object_at whole known required d ≡ Err (Missing name) → HasMembers d (λ ms. AreKnown known ms × IsFirstMissing required ms name) }
+{}
+
+/// The law of names that stand twice: what is read of an object's text has, at each name, the last value that the text
+/// has there. It rests on what `serde_json` states of its reading.
+pub fn reads_last_values()
+    ensures text { (bytes : List ℕ) (d : Data) → parsed bytes ≡ Some d → (j : json.Json) × (text_of bytes ≡ Some j) × (of_json j ≡ Some d) }
+    ensures last { (ms : json.Members) (d : Data) (name : List ℕ) → of_json (json.object ms) ≡ Some d → get name d ≡ option_and_then of_json (last_value name ms) }
+{}
+
+/// The law of numbers: one is taken exactly where it is a whole number from 0 to the greatest that is allowed, which
+/// `serde_json` reads as `unsigned`. A number with a sign, a fraction or an exponent isn't, nor is one of 2^64 or more.
+pub fn reads_numbers()
+    ensures found { (name : List ℕ) (most n : ℕ) (d : Data) → number_at name most d ≡ Ok n → (d ≡ number (unsigned n)) × (n ≤ most) }
+    ensures only { (name : List ℕ) (most n : ℕ) → n ≤ most → number_at name most (number (unsigned n)) ≡ Ok n }
+    ensures fault { (name : List ℕ) (most : ℕ) (d : Data) (fault : FieldFault) → number_at name most d ≡ Err fault → fault ≡ Kind name }
+{}
+
+/// The law of hashes: the 64 digits that show one in hex are read as it, in either case; what is read is 64 digits.
+pub fn reads_hashes()
+    ensures lower { (hash : List ℕ) → IsHash hash → hash_in (encode_lower (reverse hash)) ≡ Some hash }
+    ensures upper { (hash : List ℕ) → IsHash hash → hash_in (encode_upper (reverse hash)) ≡ Some hash }
+    ensures found { (text hash : List ℕ) → hash_in text ≡ Some hash → (length text ≡ 64) × AllPass is_hex_digit text }
+{}
+
+/// The law of coins: a text is read as one exactly where it is the digits of its txid, a colon, and its index in decimal.
+pub fn reads_coins()
+    ensures found { (text : List ℕ) (coin : OutPoint) → coin_in text ≡ Some coin → IsCoinText text coin }
+    ensures only { (text : List ℕ) (coin : OutPoint) → IsCoinText text coin → coin_in text ≡ Some coin }
+{}
