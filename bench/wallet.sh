@@ -1,0 +1,41 @@
+#!/usr/bin/env bash
+# Times the reading of wallet files of 1, 4 and 16 MiB by crates/wallet_bench, the best of three each, and prints the
+# seconds, the seconds for a MiB, and the greatest memory. A step that fails ends it with a non-zero status; a time never
+# does.
+#
+# usage: bench/wallet.sh [SEED]
+set -euo pipefail
+export LC_ALL=C
+
+top=$(cd "$(dirname "$0")/.." && pwd)
+program=$top/crates/wallet_bench/out/wallet_bench
+folder=$(mktemp -d)
+trap 'rm -rf "$folder"' EXIT
+
+# Proves and builds the program, and runs it on the small file of its folder data/.
+cd "$top/crates/wallet_bench"
+rt run -- data/wallet.json >"$folder/small.txt" 2>"$folder/build.log" || { cat "$folder/build.log" >&2; exit 1; }
+cmp "$folder/small.txt" stdout
+
+echo "load:   $(cut -d' ' -f1-3 /proc/loadavg) on $(nproc) processors"
+for size in 1 4 16; do
+    file=$folder/wallet.json
+    made=$(python3 "$top/bench/make_wallet.py" "$file" --seed "${1:-1}" --bytes $((size * 1048576)))
+    best=
+    for _ in 1 2 3; do
+        start=$(date +%s%N)
+        "$program" "$file" >"$folder/printed.txt"
+        end=$(date +%s%N)
+        read -r printed <"$folder/printed.txt"
+        [ "$printed" = "$made" ] || { echo "made: $made; read: $printed" >&2; exit 1; }
+        if [ -z "$best" ] || [ $((end - start)) -lt "$best" ]; then best=$((end - start)); fi
+    done
+    memory=$(python3 - "$program" "$file" <<'PYTHON'
+import resource, subprocess, sys
+subprocess.run(sys.argv[1:], stdout=subprocess.DEVNULL, check=True)
+print(resource.getrusage(resource.RUSAGE_CHILDREN).ru_maxrss // 1024)
+PYTHON
+)
+    awk -v size="$size" -v n="$best" -v memory="$memory" -v made="$made" \
+        'BEGIN { printf "%2d MiB: %.3f s, %.3f s a MiB, %d MiB of memory (%s)\n", size, n / 1e9, n / 1e9 / size, memory, made }'
+done

@@ -1,0 +1,8 @@
+use Rattle.std.proofs.Common.{◌≡◌, []}
+use Rattle.json_fields.specs.Fields.{each_from}
+use Rattle.json_fields.proofs.Loops.{rest_of}
+use Rattle.wallet_text.specs.WalletText.{pending_behind}
+use Rattle.wallet_text.proofs.entries.pending_from.Given as goal
+
+abbrev pub invariant-loop-value : goal.invariant-loop-value
+invariant-loop-value l = each_from pending_behind l.pending.items (rest_of l.values l.value-index) ≡ each_from pending_behind [] (rest_of l.values 0)

@@ -1,0 +1,24 @@
+use Rattle.std.proofs.Common.{◌≡◌, ◌∙◌, ◌++◌, ◌∷◌, [], length, sym, ap}
+use Rattle.std.proofs.lemmas.List.{map-append}
+use Rattle.std.proofs.lemmas.Result.{err_from_is_err_and}
+use Rattle.wallet_text.specs.WalletText.{script_behind}
+use Rattle.wallet_text.specs.declared.wallet.Watch.{Watch}
+use Rattle.json_fields.proofs.Loops.{goes_on, ends, is_done}
+use Rattle.wallet_text.proofs.entries.scripts_from.Goals as goal
+
+pub returns-in_err-watch : goal.returns-in_err-watch
+returns-in_err-watch c =
+    let p = err_from_is_err_and c.from_residual.result c.from_residual.ensures.1 in
+    let e : c.len.result ≡ length c.loop-value.watches.items = c.len.ensures ∙ c.loop-value.watches.ok.0 in
+    rw (p.1, p.2) (ends _ c.in_err-watch.field-0.0 script_behind _ _ _ c.value-item.result _ c.loop-value-test.true c.value-item.is (rw (e, c.loop-value.invariant.seen) at c.in_err-watch.ensures.gives) c.loop-value.invariant.read)
+
+pub loop-value-preserved : goal.loop-value-preserved
+loop-value-preserved c =
+    let e : c.len.result ≡ length c.loop-value.watches.items = c.len.ensures ∙ c.loop-value.watches.ok.0 in
+    record {
+      read = rw c.in_ok-push.ensures.items (goes_on script_behind _ _ _ c.value-item.result c.in_ok-watch.watch _ c.loop-value-test.true c.value-item.is (rw (e, c.loop-value.invariant.seen) at c.in_ok-watch.ensures.gives) c.loop-value.invariant.read);
+      seen = rw c.in_ok-push.ensures.items (c.in_ok-watch.ensures.adds ∙ ap (λ s. s ++ c.in_ok-watch.watch.script ∷ []) c.loop-value.invariant.seen ∙ sym (map-append (λ (w : Watch). w.script) c.loop-value.watches.items (c.in_ok-watch.watch ∷ [])));
+    }
+
+pub returns : goal.returns
+returns c = is_done script_behind _ _ _ _ c.loop-value-test.false c.loop-value.invariant.read

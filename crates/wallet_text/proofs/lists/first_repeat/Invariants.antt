@@ -1,0 +1,9 @@
+use Rattle.std.proofs.Common.{◌≡◌, [], take, drop}
+use Rattle.wallet_text.specs.WalletText.{repeat_from}
+use Rattle.wallet_text.proofs.lists.first_repeat.Given as goal
+
+abbrev pub invariant-loop-index : goal.invariant-loop-index
+invariant-loop-index l = record {
+  seen : l.seen ≡ take l.index l.txids;
+  read : repeat_from (take l.index l.txids) (drop l.index l.txids) ≡ repeat_from [] l.txids;
+}

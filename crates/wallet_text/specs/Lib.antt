@@ -1,0 +1,4 @@
+pub mod PlainWallet
+pub mod Told
+pub mod WalletRules
+pub mod WalletText

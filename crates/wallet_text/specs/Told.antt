@@ -1,0 +1,31 @@
+-- How a refusal is told.
+use Rattle.std.specs.Prelude.{ℕ, ◌≡◌, ◌≢◌, List, Result, Ok, Err, string_bytes}
+use Rattle.json_fields.specs.declared.fault.FieldFault.TheVariants as fields
+use Rattle.tx_codec.specs.declared.fault.TxFault.TheVariants.{Memory as NoMemory}
+use Rattle.wallet_text.specs.PlainWallet.{PlainWallet}
+use Rattle.wallet_text.specs.declared.fault.Refusal.{Refusal}
+use Rattle.wallet_text.specs.declared.fault.Refusal.TheVariants.{Field, Script, Weight, Tx, Repeat, ParentLater}
+use Rattle.wallet_text.specs.declared.fault.WalletFault.{WalletFault}
+use Rattle.wallet_text.specs.declared.fault.WalletFault.TheVariants as told
+
+-- the refusal that a fault tells
+abbrev pub refusal_of : WalletFault → Refusal
+refusal_of told.NotJson = Field fields.NotJson
+refusal_of (told.Kind name) = Field (fields.Kind (string_bytes name))
+refusal_of (told.Member name) = Field (fields.Member (string_bytes name))
+refusal_of (told.Missing name) = Field (fields.Missing (string_bytes name))
+refusal_of (told.Script index) = Script index
+refusal_of (told.Weight index) = Weight index
+refusal_of (told.Tx list index fault) = Tx (string_bytes list) index fault
+refusal_of (told.Repeat list index) = Repeat (string_bytes list) index
+refusal_of (told.ParentLater index) = ParentLater index
+refusal_of told.Memory = Field fields.Memory
+
+-- What a call returned is what reading gives, unless memory ran out.
+abbrev pub Reads : Result PlainWallet WalletFault → Result PlainWallet Refusal → Type 0
+Reads (Ok w) reading = reading ≡ Ok w
+Reads (Err fault) reading = fault ≢ told.Memory → reading ≡ Err (refusal_of fault)
+
+-- A transaction is refused for a fault of its own, and not for want of memory.
+abbrev pub HasReason : WalletFault → Type 0
+HasReason fault = (list : List ℕ) (index : ℕ) → refusal_of fault ≢ Tx list index NoMemory

@@ -1,0 +1,103 @@
+//! The rules that are tested over whole lists: no txid twice, and parents first.
+
+ghost use Rattle.std.specs.Prelude.{◌≡◌, [], if◌then◌else◌, IfOk};
+ghost use Rattle.fund_base.specs.Parsing.{YieldsAll};
+ghost use Rattle.json_fields.specs.declared.fault.FieldFault.TheVariants.{Memory as NoMemory};
+ghost use Rattle.wallet_text.specs.WalletText.{told_index, txids_of, earlier_txids, repeat_from, spends_one_of, later_from, lists_at};
+ghost use Rattle.wallet_text.specs.declared.fault.Refusal.TheVariants.{Field};
+
+use crate::entries::told_index;
+use crate::fault::Refusal;
+use crate::seen::Seen;
+use crate::wallet::Earlier;
+use fund_base::{Memory, Txid};
+use std::alloc::Global;
+use tx_codec::{Tx, txid};
+
+fn earlier_txids(alloc: Global, earlier: &[Earlier]) -> Result<Vec<Txid>, Memory>
+    ensures { IfOk result (λ v. v.items ≡ earlier_txids earlier.now) }
+{
+    let mut txids = Vec::new(alloc);
+    for entry in earlier {
+        txids.push(txid(&entry.tx))?;
+    }
+    Ok(txids)
+}
+
+fn pending_txids(alloc: Global, pending: &[Tx]) -> Result<Vec<Txid>, Memory>
+    ensures { IfOk result (λ v. v.items ≡ txids_of pending.now) }
+{
+    let mut txids = Vec::new(alloc);
+    for tx in pending {
+        txids.push(txid(tx))?;
+    }
+    Ok(txids)
+}
+
+/// The first place whose txid stood before it.
+fn first_repeat(alloc: Global, txids: &[Txid]) -> Result<Option<usize>, Memory>
+    ensures { IfOk result (λ r. r ≡ repeat_from [] txids.now) }
+{
+    let mut seen = Seen::new(alloc);
+    for index in 0..txids.len() {
+        if !seen.insert(alloc, txids[index].bytes())? {
+            return Ok(Some(index));
+        }
+    }
+    Ok(None)
+}
+
+/// Whether some input spends an output of a transaction of these txids.
+fn spends_one_of(txids: &Seen, tx: &Tx) -> bool
+    ensures { result ≡ spends_one_of txids.now tx.now }
+{
+    tx.inputs
+        .iter()
+        .any(|input| txids.has(input.prev.txid.bytes()))
+}
+
+// This place, where the transaction spends an output of one of these, and else the one that was found behind it.
+fn first_place(index: usize, tx: &Tx, txids: &Seen, behind: Option<usize>) -> Option<usize>
+    ensures { result ≡ (if spends_one_of txids.now tx.now then Some index else behind) }
+{
+    if spends_one_of(txids, tx) {
+        Some(index)
+    } else {
+        behind
+    }
+}
+
+/// The first transaction that spends an output of itself or of one behind it.
+fn first_later(alloc: Global, pending: &[Tx], txids: &[Txid]) -> Result<Option<usize>, Memory>
+    requires { txids.now ≡ txids_of pending.now }
+    ensures { IfOk result (λ r. r ≡ later_from 0 pending.now) }
+{
+    let mut later = Seen::new(alloc);
+    let mut first = None;
+    let mut index = pending.len();
+    while index > 0 {
+        index -= 1;
+        later.insert(alloc, txids[index].bytes())?;
+        first = first_place(index, &pending[index], &later, first);
+    }
+    Ok(first)
+}
+
+/// That the lists keep their rules. Of the faults it is the first of these: a txid twice in `earlier`, one twice in
+/// `pending`, a pending transaction before its parent.
+#[tactic(auto, unfolding(crate::specs::WalletText::lists_at))]
+pub fn judge_lists(alloc: Global, earlier: &[Earlier], pending: &[Tx]) -> Result<(), Refusal>
+    ensures { YieldsAll (Field NoMemory) (λ _. tt) result (lists_at earlier.now pending.now) }
+{
+    if let Some(index) = first_repeat(alloc, &earlier_txids(alloc, earlier)?)? {
+        return Err(Refusal::repeat(alloc, "earlier", told_index(index)));
+    }
+    let txids = pending_txids(alloc, pending)?;
+    if let Some(index) = first_repeat(alloc, &txids)? {
+        return Err(Refusal::repeat(alloc, "pending", told_index(index)));
+    }
+    match first_later(alloc, pending, &txids)? {
+        Some(index) => Err(Refusal::ParentLater(told_index(index))),
+        None => Ok(()),
+    }
+}

@@ -1,0 +1,138 @@
+//! Reading a wallet file.
+
+ghost use Rattle.std.specs.Prelude.{◌≡◌, [], codes, IfOk, IfErr};
+ghost use Rattle.fund_base.specs.Parsing.{YieldsAll};
+ghost use Rattle.json_fields.specs.Fields.{optional};
+ghost use Rattle.json_fields.specs.declared.fault.FieldFault.TheVariants.{Memory};
+ghost use Rattle.serde_json.specs.Find.{get};
+ghost use Rattle.serde_json.specs.View.{view};
+ghost use Rattle.wallet_text.specs.Told.{Reads, HasReason};
+ghost use Rattle.wallet_text.specs.WalletRules.{IsWallet};
+ghost use Rattle.wallet_text.specs.WalletText.{scripts_at, earlier_list_at, pending_list_at, abandoned_list_at, locked_list_at, wallet_at, wallet_of};
+ghost use Rattle.wallet_text.specs.declared.fault.Refusal.TheVariants.{Field};
+
+use crate::entries::{
+    abandoned_from, change_of, earlier_from, locked_from, pending_from, scripts_from,
+};
+use crate::fault::{Refusal, WalletFault};
+use crate::lists::judge_lists;
+use crate::wallet::{Earlier, Wallet, Watch};
+use fund_base::{OutPoint, Txid};
+use json_fields::{FieldFault, entries_of, hash_of, member_of, number_of, object_of, parse};
+use serde_json::Value;
+use std::alloc::Global;
+use tx_codec::Tx;
+
+/// The greatest height of the chain before the block file.
+const MOST_HEIGHT: u64 = 100_000_000;
+
+#[tactic(auto, unfolding(crate::specs::WalletText::scripts_at))]
+fn scripts_of(alloc: Global, value: &Value) -> Result<Vec<Watch>, Refusal>
+    ensures { YieldsAll (Field Memory) (λ v. v.items) result (scripts_at (view value.now)) }
+{
+    scripts_from(alloc, entries_of(alloc, value, "scripts")?)
+}
+
+#[tactic(auto, unfolding(crate::specs::WalletText::earlier_list_at))]
+fn earlier_of(alloc: Global, most: u32, value: &Value) -> Result<Vec<Earlier>, Refusal>
+    ensures { YieldsAll (Field Memory) (λ v. v.items) result (optional [] (earlier_list_at most) (get (codes "earlier") (view value.now))) }
+{
+    match value.get("earlier") {
+        Some(list) => earlier_from(alloc, most, entries_of(alloc, list, "earlier")?),
+        None => Ok(Vec::new(alloc)),
+    }
+}
+
+#[tactic(auto, unfolding(crate::specs::WalletText::pending_list_at))]
+fn pending_of(alloc: Global, value: &Value) -> Result<Vec<Tx>, Refusal>
+    ensures { YieldsAll (Field Memory) (λ v. v.items) result (optional [] pending_list_at (get (codes "pending") (view value.now))) }
+{
+    match value.get("pending") {
+        Some(list) => pending_from(alloc, entries_of(alloc, list, "pending")?),
+        None => Ok(Vec::new(alloc)),
+    }
+}
+
+#[tactic(auto, unfolding(crate::specs::WalletText::abandoned_list_at))]
+fn abandoned_of(alloc: Global, value: &Value) -> Result<Vec<Txid>, FieldFault>
+    ensures { YieldsAll Memory (λ v. v.items) result (optional [] abandoned_list_at (get (codes "abandoned") (view value.now))) }
+{
+    match value.get("abandoned") {
+        Some(list) => abandoned_from(alloc, entries_of(alloc, list, "abandoned")?),
+        None => Ok(Vec::new(alloc)),
+    }
+}
+
+#[tactic(auto, unfolding(crate::specs::WalletText::locked_list_at))]
+fn locked_of(alloc: Global, value: &Value) -> Result<Vec<OutPoint>, FieldFault>
+    ensures { YieldsAll Memory (λ v. v.items) result (optional [] locked_list_at (get (codes "locked") (view value.now))) }
+{
+    match value.get("locked") {
+        Some(list) => locked_from(alloc, entries_of(alloc, list, "locked")?),
+        None => Ok(Vec::new(alloc)),
+    }
+}
+
+#[tactic(auto, unfolding(crate::specs::WalletText::wallet_at))]
+fn wallet_of(alloc: Global, value: &Value) -> Result<Wallet, Refusal>
+    ensures { YieldsAll (Field Memory) (λ w. w) result (wallet_at (view value.now)) }
+{
+    let required = ["height", "hash", "scripts", "change"];
+    let known = [
+        "height",
+        "hash",
+        "scripts",
+        "change",
+        "earlier",
+        "pending",
+        "abandoned",
+        "locked",
+    ];
+    object_of(alloc, value, "root", &known, &required)?;
+    let height = number_of(
+        alloc,
+        member_of(alloc, value, "height")?,
+        "height",
+        MOST_HEIGHT,
+    )? as u32;
+    let hash = hash_of(alloc, member_of(alloc, value, "hash")?, "hash")?;
+    let scripts = scripts_of(alloc, member_of(alloc, value, "scripts")?)?;
+    let change = change_of(alloc, scripts.len(), member_of(alloc, value, "change")?)?;
+    let earlier = earlier_of(alloc, height, value)?;
+    let pending = pending_of(alloc, value)?;
+    let abandoned = abandoned_of(alloc, value)?;
+    let locked = locked_of(alloc, value)?;
+    judge_lists(alloc, &earlier, &pending)?;
+    Ok(Wallet {
+        height,
+        hash,
+        scripts,
+        change,
+        earlier,
+        pending,
+        abandoned,
+        locked,
+    })
+}
+
+/// The wallet that the bytes of a file are.
+#[tactic(auto, unfolding(crate::specs::WalletText::wallet_of))]
+fn read(alloc: Global, bytes: &[u8]) -> Result<Wallet, Refusal>
+    ensures { YieldsAll (Field Memory) (λ w. w) result (wallet_of bytes.now) }
+{
+    let value = parse(alloc, bytes)?;
+    wallet_of(alloc, &value)
+}
+
+/// The wallet that the bytes of a file are, or the first fault.
+pub fn read_wallet(alloc: Global, bytes: &[u8]) -> Result<Wallet, WalletFault>
+    // It is the wallet of the bytes, which keeps the rules of wallets; otherwise the fault is the first.
+    ensures exact { Reads result (wallet_of bytes.now) }
+    ensures rules { IfOk result IsWallet }
+    ensures inner { IfErr result HasReason }
+{
+    match read(alloc, bytes) {
+        Ok(wallet) => Ok(wallet),
+        Err(refusal) => Err(refusal.told()),
+    }
+}

@@ -1,0 +1,55 @@
+//! What the wallet file tells.
+
+use fund_base::{OutPoint, Script, Txid};
+use std::marker::Model;
+use tx_codec::Tx;
+
+/// A script that the wallet owns.
+#[derive(Debug, Drop)]
+pub struct Watch {
+    /// 1 to 10,000 bytes.
+    pub script: Script,
+    /// The weight that an input which spends it is declared to have, in weight units, 165 to 400,000.
+    pub weight: u64,
+}
+
+/// A transaction that the chain holds before the block file begins.
+#[derive(Debug, Drop)]
+pub struct Earlier {
+    pub tx: Tx,
+    /// The height of its block, at most that of the wallet.
+    pub height: u32,
+}
+
+/// A wallet that only watches, at a height of the chain. Every wallet keeps the rules that stand with its fields.
+#[derive(Debug, Drop)]
+pub struct Wallet {
+    /// The chain's height before the block file, at most 100,000,000.
+    pub height: u32,
+    /// The hash of the block at that height, its bytes as a header holds them.
+    pub hash: [u8; 32],
+    /// The scripts whose outputs are coins, no script twice.
+    pub scripts: Vec<Watch>,
+    /// Where change is paid.
+    pub change: Watch,
+    /// Transactions up to that height, no txid twice.
+    pub earlier: Vec<Earlier>,
+    /// Transactions that wait for a block, no txid twice. A parent stands before its children.
+    pub pending: Vec<Tx>,
+    /// Pending transactions that the wallet has given up.
+    pub abandoned: Vec<Txid>,
+    /// Coins that aren't spent.
+    pub locked: Vec<OutPoint>,
+}
+
+impl Model for Wallet {
+    ghost use Rattle.wallet_text.specs.PlainWallet.{PlainWallet};
+
+    ghost Value = { PlainWallet };
+
+    ghost view = { λ w. record { height = w.height; hash = w.hash; scripts = w.scripts.items; change = w.change; earlier = w.earlier.items; pending = w.pending.items; abandoned = w.abandoned.items; locked = w.locked.items } };
+
+    ghost use Rattle.wallet_text.specs.WalletRules.{IsWallet};
+
+    ghost invariant = { λ w. IsWallet (record { height = w.height; hash = w.hash; scripts = w.scripts.items; change = w.change; earlier = w.earlier.items; pending = w.pending.items; abandoned = w.abandoned.items; locked = w.locked.items }) };
+}
