@@ -1,0 +1,17 @@
+use Rattle.std.proofs.Common.{◌≡◌, true, codes, is_some, Some, subst}
+use Rattle.std.proofs.lemmas.Result.{IfOk-weaker}
+use Rattle.serde_json.specs.Data.{Data}
+use Rattle.serde_json.specs.Find.{get}
+use Rattle.serde_json.specs.View.{view}
+use Rattle.json_fields.specs.Fields.{parsed}
+use Rattle.request_text.specs.PlainRequest.{PlainRequest, draws}
+use Rattle.request_text.proofs.Seeds.{same_value}
+use Rattle.request_text.proofs.reading.request_from.Goals as goal
+
+pub returns-clause-seed : goal.returns-clause-seed
+returns-clause-seed c =
+    let given : PlainRequest → Type 0 = λ r. draws r.method ≡ true → is_some (get (codes "seed") (view c.in_ok-value.value)) ≡ true in
+    let wanted : PlainRequest → Type 0 = λ r. (d : Data) → parsed c.args.bytes.now ≡ Some d → draws r.method ≡ true → is_some (get (codes "seed") d) ≡ true in
+    IfOk-weaker c.request_in.result given wanted
+    (λ r h d parses drawn. subst (λ (e : Data). is_some (get (codes "seed") e) ≡ true) (same_value c.args.bytes.now (view c.in_ok-value.value) d c.in_ok-value.ensures parses) (h drawn))
+    c.request_in.ensures.seed

@@ -1,0 +1,16 @@
+use Rattle.std.proofs.Common.{◌≡◌, true, false, sym, ◌∙◌}
+use Rattle.serde_json.specs.View.{view}
+use Rattle.request_text.specs.RequestText.{needs_seed, required_in}
+use Rattle.request_text.proofs.reading.whole_among.Goals as goal
+
+pub returns-then-needs_seed : goal.returns-then-needs_seed
+unfolding required_in
+returns-then-needs_seed c =
+    let needed : needs_seed (view c.args.value.now) ≡ true = sym c.needs_seed.ensures ∙ c.if-needs_seed.true in
+    rw needed c.object_of.ensures
+
+pub returns-else-needs_seed : goal.returns-else-needs_seed
+unfolding required_in
+returns-else-needs_seed c =
+    let needed : needs_seed (view c.args.value.now) ≡ false = sym c.needs_seed.ensures ∙ c.if-needs_seed.false in
+    rw needed c.object_of-else-needs_seed.ensures

@@ -1,0 +1,17 @@
+use Rattle.std.proofs.Common.{◌≡◌, true, false, codes, is_some, sym, ◌∙◌}
+use Rattle.serde_json.specs.Find.{get}
+use Rattle.serde_json.specs.View.{view}
+use Rattle.request_text.specs.RequestText.{known_in}
+use Rattle.request_text.proofs.reading.whole_of.Goals as goal
+
+pub returns-then-has : goal.returns-then-has
+unfolding known_in
+returns-then-has c =
+    let bump : is_some (get (codes "bump") (view c.args.value.now)) ≡ true = sym c.has.ensures ∙ c.if-has.true in
+    rw bump c.whole_among.ensures
+
+pub returns-else-has : goal.returns-else-has
+unfolding known_in
+returns-else-has c =
+    let bump : is_some (get (codes "bump") (view c.args.value.now)) ≡ false = sym c.has.ensures ∙ c.if-has.false in
+    rw bump c.whole_among-else-has.ensures

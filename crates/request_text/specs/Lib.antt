@@ -1,0 +1,4 @@
+pub mod PlainRequest
+pub mod Rules
+pub mod RequestText
+pub mod Told

@@ -1,0 +1,30 @@
+//! What the definitions of reading come to, in words that don't follow the reading.
+
+ghost use Rattle.std.specs.Prelude.{◌≡◌, ◌≢◌, ℕ, List, [], Ok, Some, None, AllPairs};
+ghost use Rattle.hex.specs.Hex.{encode_lower, encode_upper};
+ghost use Rattle.serde_json.specs.Data.{string};
+ghost use Rattle.fund_base.specs.declared.outpoint.OutPoint.{OutPoint};
+ghost use Rattle.json_fields.specs.Fields.{IsHash};
+ghost use Rattle.request_text.specs.RequestText.{method_in, repeat_behind, seed_at};
+ghost use Rattle.request_text.specs.Rules.{IsFirstRepeat, word_of};
+ghost use Rattle.request_text.specs.declared.request.Method.{Method};
+
+/// The law of repeated coins: none is told exactly where no coin stands twice; where one is told, it stands before too,
+/// and those before it are distinct.
+pub fn finds_repeats()
+    ensures none { (coins : List OutPoint) → repeat_behind [] coins ≡ None → AllPairs (λ a b. a ≢ b) coins }
+    ensures only { (coins : List OutPoint) → AllPairs (λ a b. a ≢ b) coins → repeat_behind [] coins ≡ None }
+    ensures some { (coins : List OutPoint) (place : ℕ) → repeat_behind [] coins ≡ Some place → IsFirstRepeat coins place }
+{}
+
+/// The law of methods: a word is read as a method exactly where it is the method's own.
+pub fn reads_methods()
+    ensures found { (word : List ℕ) (method : Method) → method_in word ≡ Some method → word ≡ word_of method }
+    ensures only { (method : Method) → method_in (word_of method) ≡ Some method }
+{}
+
+/// The law of seeds: the 64 digits that spell 32 bytes in hex, from the first byte on, are read as them, in either case.
+pub fn reads_seeds()
+    ensures lower { (seed : List ℕ) → IsHash seed → seed_at (string (encode_lower seed)) ≡ Ok seed }
+    ensures upper { (seed : List ℕ) → IsHash seed → seed_at (string (encode_upper seed)) ≡ Ok seed }
+{}

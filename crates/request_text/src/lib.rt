@@ -1,0 +1,19 @@
+//! The request file: what is to be paid and how coins are to be chosen for it, read exactly or refused with the first
+//! fault.
+#![tactic(auto)]
+
+mod bounds;
+mod coins;
+mod fault;
+mod laws;
+mod member;
+mod reading;
+mod recipients;
+mod request;
+#[cfg(test)]
+mod tests;
+
+pub use fault::RequestFault;
+pub use laws::{finds_repeats, reads_methods, reads_seeds};
+pub use reading::read_request;
+pub use request::{Method, Recipient, Request};

@@ -1,0 +1,223 @@
+//! The members of a request other than its lists, each with its own rules, and with its default where it is left out.
+
+ghost use Rattle.std.specs.Prelude.{◌≡◌, ◌≢◌, ◌≤◌, IfErr, IfOk, IfSome, IsSome, is_some, replicate, codes, true};
+ghost use Rattle.serde_json.specs.Find.{get};
+ghost use Rattle.serde_json.specs.View.{view};
+ghost use Rattle.json_fields.specs.Fields.{IsHash, flag_at, number_at};
+ghost use Rattle.json_fields.specs.declared.fault.FieldFault.TheVariants.{Memory as NoMemory};
+ghost use Rattle.request_text.specs.RequestText.{bump_at, field, method_at, method_in, or_else, rate_at, seed_at, take_at, take_in, tries_at};
+ghost use Rattle.request_text.specs.Told.{Gives, HasCause};
+ghost use Rattle.request_text.specs.declared.fault.Refusal.TheVariants.{Field as FieldRefusal, RateRange as BadRate};
+
+use crate::bounds::are_bytes;
+use crate::fault::Refusal;
+use crate::request::Method;
+use fee_rates::MAX_RATE;
+use fund_base::Txid;
+use hex::FromHex;
+use json_fields::{FieldFault, Name, flag_of, number_of, text_of, txid_of};
+use serde_json::Value;
+use std::alloc::Global;
+
+/// The greatest number of tries.
+const MAX_TRIES: u64 = 10_000_000;
+
+/// That the rate of this name is above its range.
+fn rate_range(alloc: Global, name: &str) -> Refusal
+    ensures fault { result ≢ FieldRefusal NoMemory → result ≡ BadRate name.now }
+    ensures cause { HasCause result }
+{
+    match Name::new(alloc, name) {
+        Ok(name) => Refusal::RateRange(name),
+        Err(_) => Refusal::Field(FieldFault::Memory),
+    }
+}
+
+/// The rate, of at most 100,000,000.
+#[tactic(auto, unfolding(crate::specs::RequestText::rate_at))]
+pub fn rate_of(alloc: Global, value: &Value, name: &str) -> Result<u64, Refusal>
+    ensures gives { Gives (λ n. n) result (rate_at name.now (view value.now)) }
+    ensures most { IfOk result (λ n. n ≤ MAX_RATE) }
+    ensures cause { IfErr result HasCause }
+{
+    let rate = number_of(alloc, value, name, u64::MAX)?;
+    if rate > MAX_RATE {
+        return Err(rate_range(alloc, name));
+    }
+    Ok(rate)
+}
+
+/// The rate of the member of this name.
+pub fn rate_or(alloc: Global, whole: &Value, name: &str, default: u64) -> Result<u64, Refusal>
+    requires { default ≤ MAX_RATE }
+    ensures gives { Gives (λ n. n) result (or_else default (rate_at name.now) name.now (view whole.now)) }
+    ensures most { IfOk result (λ n. n ≤ MAX_RATE) }
+    ensures cause { IfErr result HasCause }
+{
+    match whole.get(name) {
+        Some(value) => rate_of(alloc, value, name),
+        None => Ok(default),
+    }
+}
+
+/// The whole number, of at most `most`, of the member of this name.
+pub fn number_or(
+    alloc: Global,
+    whole: &Value,
+    name: &str,
+    most: u64,
+    default: u64,
+) -> Result<u64, Refusal>
+    requires { default ≤ most }
+    ensures gives { Gives (λ n. n) result (or_else default (λ m. field (number_at name.now most m)) name.now (view whole.now)) }
+    ensures most { IfOk result (λ n. n ≤ most) }
+{
+    match whole.get(name) {
+        Some(value) => Ok(number_of(alloc, value, name, most)?),
+        None => Ok(default),
+    }
+}
+
+/// The truth value of the member of this name.
+pub fn flag_or(alloc: Global, whole: &Value, name: &str, default: bool) -> Result<bool, Refusal>
+    ensures { Gives (λ b. b) result (or_else default (λ m. field (flag_at name.now m)) name.now (view whole.now)) }
+{
+    match whole.get(name) {
+        Some(value) => Ok(flag_of(alloc, value, name)?),
+        None => Ok(default),
+    }
+}
+
+/// The method that a word names.
+#[tactic(auto, unfolding(crate::specs::RequestText::method_in))]
+pub fn method_in(word: &str) -> Option<Method>
+    ensures { result ≡ method_in word.now }
+{
+    if word == "auto" {
+        Some(Method::Auto)
+    } else if word == "changeless" {
+        Some(Method::Changeless)
+    } else if word == "weight" {
+        Some(Method::Weight)
+    } else if word == "draw" {
+        Some(Method::Draw)
+    } else if word == "manual" {
+        Some(Method::Manual)
+    } else {
+        None
+    }
+}
+
+#[tactic(auto, unfolding(crate::specs::RequestText::method_at))]
+fn method_of(alloc: Global, value: &Value) -> Result<Method, Refusal>
+    ensures { Gives (λ m. m) result (field (method_at (view value.now))) }
+{
+    match method_in(text_of(alloc, value, "method")?) {
+        Some(method) => Ok(method),
+        None => Err(Refusal::Field(FieldFault::kind(alloc, "method"))),
+    }
+}
+
+/// The method, `auto` where it is left out.
+pub fn method_or_auto(alloc: Global, whole: &Value) -> Result<Method, Refusal>
+    ensures { Gives (λ m. m) result (or_else Method.Auto (λ m. field (method_at m)) (codes "method") (view whole.now)) }
+{
+    match whole.get("method") {
+        Some(value) => method_of(alloc, value),
+        None => Ok(Method::Auto),
+    }
+}
+
+#[tactic(auto, unfolding(crate::specs::RequestText::seed_at))]
+fn seed_of(alloc: Global, value: &Value) -> Result<[u8; 32], Refusal>
+    ensures { Gives (λ s. s) result (field (seed_at (view value.now))) }
+{
+    match <[u8; 32] as FromHex>::from_hex(text_of(alloc, value, "seed")?) {
+        Ok(seed) => Ok(seed),
+        Err(_) => Err(Refusal::Field(FieldFault::kind(alloc, "seed"))),
+    }
+}
+
+/// The seed, zeros where it is left out.
+pub fn seed_or_zeros(alloc: Global, whole: &Value) -> Result<[u8; 32], Refusal>
+    ensures gives { Gives (λ s. s) result (or_else (replicate 32 0) (λ m. field (seed_at m)) (codes "seed") (view whole.now)) }
+    ensures is { IfOk result IsHash }
+{
+    let seed = match whole.get("seed") {
+        Some(value) => seed_of(alloc, value)?,
+        None => [0; 32],
+    };
+    are_bytes(&seed);
+    Ok(seed)
+}
+
+#[tactic(auto, unfolding(crate::specs::RequestText::tries_at))]
+fn tries_of(alloc: Global, value: &Value) -> Result<u64, Refusal>
+    ensures gives { Gives (λ n. n) result (tries_at (view value.now)) }
+    ensures range { IfOk result (λ n. (1 ≤ n) × (n ≤ 10_000_000)) }
+    ensures cause { IfErr result HasCause }
+{
+    let tries = number_of(alloc, value, "tries", u64::MAX)?;
+    if tries == 0 || tries > MAX_TRIES {
+        return Err(Refusal::TriesRange);
+    }
+    Ok(tries)
+}
+
+/// The number of tries, 100,000 where it is left out.
+pub fn tries_or(alloc: Global, whole: &Value, default: u64) -> Result<u64, Refusal>
+    requires { (1 ≤ default) × (default ≤ 10_000_000) }
+    ensures gives { Gives (λ n. n) result (or_else default tries_at (codes "tries") (view whole.now)) }
+    ensures range { IfOk result (λ n. (1 ≤ n) × (n ≤ 10_000_000)) }
+    ensures cause { IfErr result HasCause }
+{
+    match whole.get("tries") {
+        Some(value) => tries_of(alloc, value),
+        None => Ok(default),
+    }
+}
+
+#[tactic(auto, unfolding(crate::specs::RequestText::take_in))]
+fn take_in(word: &str) -> Option<bool>
+    ensures { result ≡ take_in word.now }
+{
+    if word == "take" {
+        Some(true)
+    } else if word == "stop" {
+        Some(false)
+    } else {
+        None
+    }
+}
+
+#[tactic(auto, unfolding(crate::specs::RequestText::take_at))]
+fn take_of(alloc: Global, value: &Value) -> Result<bool, Refusal>
+    ensures { Gives (λ b. b) result (field (take_at (view value.now))) }
+{
+    match take_in(text_of(alloc, value, "when_unfinished")?) {
+        Some(take) => Ok(take),
+        None => Err(Refusal::Field(FieldFault::kind(alloc, "when_unfinished"))),
+    }
+}
+
+/// Whether the best that was found is taken: so where the member is left out.
+pub fn take_or_true(alloc: Global, whole: &Value) -> Result<bool, Refusal>
+    ensures { Gives (λ b. b) result (or_else true (λ m. field (take_at m)) (codes "when_unfinished") (view whole.now)) }
+{
+    match whole.get("when_unfinished") {
+        Some(value) => take_of(alloc, value),
+        None => Ok(true),
+    }
+}
+
+/// The txid of the transaction that is replaced, if there is one.
+pub fn bump_or_none(alloc: Global, whole: &Value) -> Result<Option<Txid>, Refusal>
+    ensures gives { Gives (λ b. b) result (or_else None (λ m. field (bump_at m)) (codes "bump") (view whole.now)) }
+    ensures is { IfOk result (λ b. IfSome b IsHash) }
+    ensures there { IfOk result (λ b. IsSome b → is_some (get (codes "bump") (view whole.now)) ≡ true) }
+{
+    match whole.get("bump") {
+        Some(value) => Ok(Some(txid_of(alloc, value, "bump")?)),
+        None => Ok(None),
+    }
+}

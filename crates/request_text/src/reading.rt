@@ -1,0 +1,177 @@
+//! Reading a request file.
+
+ghost use Rattle.std.specs.Prelude.{◌≡◌, IfOk, IfErr, is_some, codes, true};
+ghost use Rattle.serde_json.specs.Data.{Data};
+ghost use Rattle.serde_json.specs.Find.{get};
+ghost use Rattle.serde_json.specs.View.{view};
+ghost use Rattle.fund_base.specs.Parsing.{YieldsAll};
+ghost use Rattle.json_fields.specs.Fields.{object_at, parsed, texts};
+ghost use Rattle.json_fields.specs.declared.fault.FieldFault.TheVariants.{Memory as NoMemory};
+ghost use Rattle.request_text.specs.PlainRequest.{IsRequest, draws};
+ghost use Rattle.request_text.specs.RequestText.{known_in, needs_seed, request_at, request_of, required_in};
+ghost use Rattle.request_text.specs.Told.{Gives, HasCause, Reads, plain_fault};
+
+use crate::coins::coins_or_none;
+use crate::fault::{Refusal, RequestFault, told};
+use crate::member::{
+    bump_or_none, flag_or, method_in, method_or_auto, number_or, rate_of, rate_or, seed_or_zeros,
+    take_or_true, tries_or,
+};
+use crate::recipients::recipients_of;
+use crate::request::{Method, Request};
+use fund_base::MAX_MONEY;
+use json_fields::{FieldFault, member_of, object_of, parse};
+use serde_json::Value;
+use std::alloc::Global;
+
+/// Whether the method draws at random, so that a seed has to be given.
+fn draws(method: Method) -> bool
+    ensures { result ≡ draws method }
+{
+    matches!(method, Method::Auto | Method::Draw)
+}
+
+/// Whether the member `method` is left out or names a method that draws.
+#[tactic(auto, unfolding(crate::specs::RequestText::needs_seed))]
+fn needs_seed(value: &Value) -> bool
+    ensures { result ≡ needs_seed (view value.now) }
+{
+    match value.get("method") {
+        Some(method) => match method.as_str() {
+            Some(word) => match method_in(word) {
+                Some(method) => draws(method),
+                None => false,
+            },
+            None => false,
+        },
+        None => true,
+    }
+}
+
+/// That the value is an object with these known members and the required ones.
+fn whole_among(alloc: Global, value: &Value, known: &[&str]) -> Result<(), FieldFault>
+    ensures { YieldsAll NoMemory (λ _. tt) result (object_at (codes "root") (texts known.now) (required_in (view value.now)) (view value.now)) }
+{
+    let required = ["recipients", "rate", "seed"];
+    if needs_seed(value) {
+        object_of(alloc, value, "root", known, &required)
+    } else {
+        object_of(alloc, value, "root", known, &required[..2])
+    }
+}
+
+/// Whether there is a member of this name.
+fn has(value: &Value, name: &str) -> bool
+    ensures { result ≡ is_some (get name.now (view value.now)) }
+{
+    value.get(name).is_some()
+}
+
+/// That the value is an object with known members and the required ones.
+fn whole_of(alloc: Global, value: &Value) -> Result<(), FieldFault>
+    ensures { YieldsAll NoMemory (λ _. tt) result (object_at (codes "root") (known_in (view value.now)) (required_in (view value.now)) (view value.now)) }
+{
+    let known = [
+        "coins",
+        "recipients",
+        "rate",
+        "long_term",
+        "discard",
+        "change_target",
+        "method",
+        "seed",
+        "tries",
+        "when_unfinished",
+        "zero_conf",
+        "include_unsafe",
+        "group",
+        "bump",
+        "replaceable",
+        "locktime",
+    ];
+    if has(value, "bump") {
+        whole_among(alloc, value, &known[1..])
+    } else {
+        whole_among(alloc, value, &known)
+    }
+}
+
+/// The request that the value is.
+#[tactic(auto, unfolding(crate::specs::RequestText::request_at))]
+fn request_in(alloc: Global, value: &Value) -> Result<Request, Refusal>
+    ensures gives { Gives (λ r. r) result (request_at (view value.now)) }
+    ensures seed { IfOk result (λ r. draws r.method ≡ true → is_some (get (codes "seed") (view value.now)) ≡ true) }
+    ensures cause { IfErr result HasCause }
+{
+    whole_of(alloc, value)?;
+    let recipients = recipients_of(alloc, member_of(alloc, value, "recipients")?)?;
+    let rate = rate_of(alloc, member_of(alloc, value, "rate")?, "rate")?;
+    let long_term = rate_or(alloc, value, "long_term", 10_000)?;
+    let discard = rate_or(alloc, value, "discard", 10_000)?;
+    let change_target = number_or(alloc, value, "change_target", MAX_MONEY, 50_000)?;
+    let method = method_or_auto(alloc, value)?;
+    let seed = seed_or_zeros(alloc, value)?;
+    let tries = tries_or(alloc, value, 100_000)?;
+    let take = take_or_true(alloc, value)?;
+    let zero_conf = flag_or(alloc, value, "zero_conf", true)?;
+    let include_unsafe = flag_or(alloc, value, "include_unsafe", false)?;
+    let group = flag_or(alloc, value, "group", false)?;
+    let coins = coins_or_none(alloc, value)?;
+    let bump = bump_or_none(alloc, value)?;
+    let replaceable = flag_or(alloc, value, "replaceable", true)?;
+    let locktime = number_or(alloc, value, "locktime", u32::MAX as u64, 0)? as u32;
+    Ok(Request {
+        recipients,
+        rate,
+        long_term,
+        discard,
+        change_target,
+        method,
+        seed,
+        tries,
+        take,
+        zero_conf,
+        include_unsafe,
+        group,
+        coins,
+        bump,
+        replaceable,
+        locktime,
+    })
+}
+
+/// The request that the bytes are.
+#[tactic(auto, unfolding(crate::specs::RequestText::request_of))]
+fn request_from(alloc: Global, bytes: &[u8]) -> Result<Request, Refusal>
+    ensures gives { Gives (λ r. r) result (request_of bytes.now) }
+    ensures seed { IfOk result (λ r. (d : Data) → parsed bytes.now ≡ Some d → draws r.method ≡ true → is_some (get (codes "seed") d) ≡ true) }
+    ensures cause { IfErr result HasCause }
+{
+    let value = parse(alloc, bytes)?;
+    request_in(alloc, &value)
+}
+
+/// The request that the bytes of a file are, or the first fault: the faults of JSON, then those of the whole object
+/// (its kind, the least unknown member, the first missing one), then the members in the order of the fields of
+/// [`Request`], each with its kind before its other rules. Of the recipients each entry comes with all its rules before
+/// the next; behind them come [`RequestFault::NoRecipients`] and [`RequestFault::SumRange`]. docs/FORMATS.md has each
+/// member with its default.
+pub fn read_request(alloc: Global, bytes: &[u8]) -> Result<Request, RequestFault>
+    // The request is the file's, and a fault is the first that the file has.
+    ensures exact { Reads result (request_of bytes.now) }
+
+    // What is read keeps the rules of a request; where its method draws, the file gives a seed.
+    ensures rules { IfOk result IsRequest }
+    ensures seed { IfOk result (λ r. (d : Data) → parsed bytes.now ≡ Some d → draws r.method ≡ true → is_some (get (codes "seed") d) ≡ true) }
+
+    // Want of memory is told as such, also where an address was read.
+    ensures cause { IfErr result (λ fault. HasCause (plain_fault fault)) }
+{
+    match request_from(alloc, bytes) {
+        Ok(request) => {
+            request.keeps_rules();
+            Ok(request)
+        }
+        Err(refusal) => Err(told(refusal)),
+    }
+}

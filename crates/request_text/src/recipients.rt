@@ -1,0 +1,182 @@
+//! The recipients of a request, each by an address or by a script.
+
+ghost use Rattle.std.specs.Prelude.{◌≡◌, ◌≤◌, ◌<◌, [], All, IfOk, IfErr, IsTrue, ◌↔◌, codes, length, nat_le};
+ghost use Rattle.serde_json.specs.Find.{get};
+ghost use Rattle.serde_json.specs.View.{view, items_view};
+ghost use Rattle.json_fields.specs.Fields.{each_from};
+ghost use Rattle.json_fields.specs.declared.fault.FieldFault.TheVariants.{Memory as NoMemory};
+ghost use Rattle.request_text.specs.PlainRequest.{IsRecipient, paid_to};
+ghost use Rattle.request_text.specs.RequestText.{amount_at, field, index_of, one_of, paid_at, recipient_behind, recipients_at, to_address_at, to_script_at};
+ghost use Rattle.request_text.specs.Told.{Gives, HasCause};
+ghost use Rattle.segwit_addr.specs.Reading.{decode_of};
+ghost use Rattle.fund_base.specs.Parsing.{YieldsAll, fault_as};
+ghost use Rattle.request_text.specs.declared.fault.Refusal.TheVariants.{Address as BadAddress};
+
+use crate::bounds::{are_bytes, index_of};
+use crate::fault::Refusal;
+use crate::request::Recipient;
+use fee_rates::dust;
+use fund_base::{MAX_MONEY, Script};
+use json_fields::{FieldFault, entries_of, hex_of, member_of, number_of, object_of, text_of};
+use segwit_addr::{AddrFault, decode};
+use serde_json::Value;
+use std::alloc::Global;
+
+/// The greatest length of a script, in bytes.
+const MAX_SCRIPT: usize = 10_000;
+
+/// That the entry has exactly one of an address and a script.
+fn one_of(alloc: Global, entry: &Value) -> Result<(), FieldFault>
+    ensures { YieldsAll NoMemory (λ _. tt) result (one_of (get (codes "address") (view entry.now)) (get (codes "script") (view entry.now))) }
+{
+    match (entry.get("address"), entry.get("script")) {
+        (Some(_), None) | (None, Some(_)) => Ok(()),
+        _ => Err(FieldFault::kind(alloc, "recipients")),
+    }
+}
+
+/// The amount of the entry.
+fn amount_of(alloc: Global, entry: &Value) -> Result<u64, Refusal>
+    ensures gives { Gives (λ n. n) result (amount_at (view entry.now)) }
+    ensures cause { IfErr result HasCause }
+{
+    let amount = member_of(alloc, entry, "amount")?;
+    Ok(number_of(alloc, amount, "amount", u64::MAX)?)
+}
+
+/// What is paid to the script, by the recipient at this index.
+#[tactic(auto, unfolding(crate::specs::RequestText::paid_at))]
+fn paid(index: u32, script: Script, amount: u64) -> Result<Recipient, Refusal>
+    requires some { 1 ≤ length script }
+    requires most { length script ≤ 10_000 }
+    ensures gives { Gives (λ r. r) result (paid_at index script amount) }
+    ensures is { IfOk result IsRecipient }
+    ensures cause { IfErr result HasCause }
+{
+    are_bytes(script.bytes());
+    if amount > MAX_MONEY {
+        return Err(Refusal::AmountRange(index));
+    }
+    if amount < dust(&script) {
+        return Err(Refusal::Dust(index));
+    }
+    Ok(Recipient { script, amount })
+}
+
+/// The script of the address, 1 to 10,000 bytes.
+#[tactic(auto, using(crate::proofs::Witness::some, crate::proofs::Witness::most))]
+fn script_of_address(alloc: Global, index: u32, text: &str) -> Result<Script, Refusal>
+    ensures gives { Gives (λ s. s) result (fault_as (BadAddress index) (decode_of text.now)) }
+    ensures some { IfOk result (λ s. 1 ≤ length s) }
+    ensures most { IfOk result (λ s. length s ≤ 10_000) }
+    ensures cause { IfErr result HasCause }
+{
+    match decode(alloc, text) {
+        Ok(script) => Ok(script),
+        Err(AddrFault::Memory) => Err(Refusal::Field(FieldFault::Memory)),
+        Err(fault) => Err(Refusal::Address(index, fault)),
+    }
+}
+
+/// The recipient of an entry that names an address.
+#[tactic(auto, unfolding(crate::specs::RequestText::to_address_at))]
+fn to_address(
+    alloc: Global,
+    index: u32,
+    address: &Value,
+    entry: &Value,
+) -> Result<Recipient, Refusal>
+    ensures gives { Gives (λ r. r) result (to_address_at index (view address.now) (view entry.now)) }
+    ensures is { IfOk result IsRecipient }
+    ensures cause { IfErr result HasCause }
+{
+    let text = text_of(alloc, address, "address")?;
+    let amount = amount_of(alloc, entry)?;
+    let script = script_of_address(alloc, index, text)?;
+    paid(index, script, amount)
+}
+
+/// The recipient of an entry that spells its script.
+#[tactic(auto, unfolding(crate::specs::RequestText::to_script_at))]
+fn to_script(alloc: Global, index: u32, entry: &Value) -> Result<Recipient, Refusal>
+    ensures gives { Gives (λ r. r) result (to_script_at index (view entry.now)) }
+    ensures is { IfOk result IsRecipient }
+    ensures cause { IfErr result HasCause }
+{
+    let spelled = member_of(alloc, entry, "script")?;
+    let bytes = hex_of(alloc, spelled, "script")?;
+    let amount = amount_of(alloc, entry)?;
+    if bytes.is_empty() || bytes.len() > MAX_SCRIPT {
+        return Err(Refusal::Script(index));
+    }
+    paid(index, Script::new(bytes), amount)
+}
+
+/// The recipient that an entry behind others is.
+#[tactic(auto, unfolding(crate::specs::RequestText::recipient_behind))]
+fn next_recipient(alloc: Global, before: &[Recipient], entry: &Value) -> Result<Recipient, Refusal>
+    ensures gives { Gives (λ r. r) result (recipient_behind before.now (view entry.now)) }
+    ensures is { IfOk result IsRecipient }
+    ensures cause { IfErr result HasCause }
+{
+    one_of(alloc, entry)?;
+    object_of(
+        alloc,
+        entry,
+        "recipients",
+        &["address", "script", "amount"],
+        &["amount"],
+    )?;
+    let index = index_of(before.len());
+    match entry.get("address") {
+        Some(address) => to_address(alloc, index, address, entry),
+        None => to_script(alloc, index, entry),
+    }
+}
+
+/// The recipients that these entries are.
+fn recipients_from(alloc: Global, values: &[Value]) -> Result<Vec<Recipient>, Refusal>
+    ensures gives { Gives (λ v. v.items) result (each_from recipient_behind [] (items_view values.now)) }
+    ensures are { IfOk result (λ v. All IsRecipient v.items) }
+    ensures cause { IfErr result HasCause }
+{
+    let mut recipients = Vec::new(alloc);
+    for value in values {
+        let recipient = next_recipient(alloc, &recipients, value)?;
+        recipients.push(recipient)?;
+    }
+    Ok(recipients)
+}
+
+/// Whether the recipients get at most 21,000,000 bitcoin together.
+fn is_money(recipients: &[Recipient]) -> bool
+    ensures { IsTrue result ↔ (paid_to recipients.now ≤ 2_100_000_000_000_000) }
+{
+    let mut left = MAX_MONEY;
+    for recipient in recipients {
+        if recipient.amount > left {
+            return false;
+        }
+        left -= recipient.amount;
+    }
+    true
+}
+
+/// The recipients, at least one and together at most 21,000,000 bitcoin.
+#[tactic(auto, unfolding(crate::specs::RequestText::recipients_at))]
+pub fn recipients_of(alloc: Global, value: &Value) -> Result<Vec<Recipient>, Refusal>
+    ensures gives { Gives (λ v. v.items) result (recipients_at (view value.now)) }
+    ensures some { IfOk result (λ v. 1 ≤ length v.items) }
+    ensures are { IfOk result (λ v. All IsRecipient v.items) }
+    ensures money { IfOk result (λ v. paid_to v.items ≤ 2_100_000_000_000_000) }
+    ensures cause { IfErr result HasCause }
+{
+    let recipients = recipients_from(alloc, entries_of(alloc, value, "recipients")?)?;
+    if recipients.is_empty() {
+        return Err(Refusal::NoRecipients);
+    }
+    if !is_money(&recipients) {
+        return Err(Refusal::SumRange);
+    }
+    Ok(recipients)
+}
