@@ -1,0 +1,15 @@
+pub mod Admissible
+pub mod Best
+pub mod ClosingTree
+pub mod Digest
+pub mod Examples
+pub mod Later
+pub mod Pool
+pub mod Problem
+pub mod Score
+pub mod SoFar
+pub mod Steps
+pub mod Tokens
+pub mod Trying
+pub mod Walk
+pub mod Waste
