@@ -1,6 +1,6 @@
 -- What a call of the feed gives is what the file holds there.
 use Rattle.std.proofs.Common.{◌≡◌, ◌≢◌, ℕ, ◌+◌, ◌<◌, ◌≤◌, Bool, false, ltb, List, [], ◌∷◌, ◌++◌, length, take, drop, Result, Ok, Err, Option, Some, None, refl, sym, ap, subst, ◌∙◌, append_assoc, arith, inl, inr}
-use Rattle.std.specs.Prelude.{◌⊎◌, IfOk, MatchResult, MatchOption, OnOk}
+use Rattle.std.specs.Prelude.{◌⊎◌, IfOk, IfSome, MatchResult, MatchOption, OnOk}
 use Rattle.std.specs.Int.{w32, to_le_bytes}
 use Rattle.std.proofs.lemmas.Bool.{ltb-false, le-ltb}
 use Rattle.std.proofs.lemmas.List.{take-append-drop, take_all, length-take, length-drop, length-append, drop-drop, take-append-le, drop-append-le}
@@ -149,6 +149,18 @@ file_found m file hash height place block behind fits e =
       most = f.most;
     }
 
+-- the place behind a record is greater than its own, and within the file
+pub file_moves : (m : ℕ) (file hash : List ℕ) (height place : ℕ) (block : ChainBlock) (behind : ℕ) → IsBytes (take m file) → next_at m file hash height place ≡ Ok (Some (block, behind)) → (place < behind) × (behind ≤ length file)
+file_moves m file hash height place block behind fits e =
+    let front : List ℕ = take m file in
+    let f = next_found (ltb m (length file)) front hash height place block behind fits e in
+    let rest : List ℕ = drop (8 + length f.body) (drop place front) in
+    let len = ap (λ (l : List ℕ). length l) f.parts in
+    let within : place + (8 + length f.body) ≤ length front = let l = f.least in omega (arith, length-append (record_text f.body) rest, length-record_text f.body, length-drop place front) in
+    let few = length-take m file in
+    let there = f.behind_is in
+    (omega arith, omega arith)
+
 -- what is read of a record that stands at a place, and the place behind it
 pub record IsRead (m : ℕ) (file hash : List ℕ) (height place : ℕ) (block : ChainBlock) (rest : List ℕ) : Type 0 where
   pub behind : ℕ
@@ -276,3 +288,10 @@ gives_first m file old new (Ok (Some found)) given moves (block ∷ blocks) is f
 gives_first m file old new (Err e) given moves (block ∷ blocks) is few =
     let r = file_again m file old.hash old.height old.place block is.0 is.1 (omega arith) in
     only_outside e (λ memory read. not_error (Some (block, r.behind)) e (next_at m file old.hash old.height old.place) r.reads (given memory read))
+
+-- the feed moves on within the file
+pub gives_within : (m : ℕ) (file : List ℕ) (old new : FeedState) (result : Result (Option ChainBlock) FeedFault) → Gives old new result (next_at m file old.hash old.height old.place) → OnOk result (IsBytes (take m file))
+    → IfOk result (λ o. IfSome o (λ _. (old.place < new.place) × (new.place ≤ length file)))
+gives_within m file old new (Ok None) given fits = tt
+gives_within m file old new (Ok (Some block)) given fits = file_moves m file old.hash old.height old.place block new.place fits given
+gives_within m file old new (Err e) given fits = tt

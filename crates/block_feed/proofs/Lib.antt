@@ -4,3 +4,4 @@ pub mod TreeLaws
 pub mod BlockLaws
 pub mod FeedLaws
 pub mod Limits
+pub mod FileLaws

@@ -3,3 +3,4 @@ pub mod BlockFile
 pub mod Merkle
 pub mod Reading
 pub mod Feed
+pub mod Blocks

@@ -201,6 +201,9 @@ impl Feed {
         ensures only { H.tells → self.old.fault ≡ None → let file = (H.view shelf.old).files name.now in (block : ChainBlock) (rest : List ℕ) → Begins self.old.hash self.old.height block (drop self.old.place file) rest → length file ≤ 1_073_741_824 + length rest → MatchResult result (λ o. (o ≡ Some block) × (drop self.new.place file ≡ rest)) IsOutside }
         ensures end { H.tells → self.old.fault ≡ None → IsEnd ((H.view shelf.old).files name.now) self.old.place → MatchResult result (λ o. o ≡ None) IsOutside }
 
+        // A block lies within the file, and takes bytes of it.
+        ensures within { H.tells → self.old.fault ≡ None → IfOk result (λ o. IfSome o (λ _. (self.old.place < self.new.place) × (self.new.place ≤ length ((H.view shelf.old).files name.now)))) }
+
         // Whether the shelf tells its files or not: where the feed then stands, and that what is given is a
         // block at the next height, linked to the one before.
         ensures moves { Moves self.old self.new result }

@@ -6,6 +6,7 @@ mod block;
 mod fault;
 mod feed;
 mod front;
+mod laws;
 mod merkle;
 mod reading;
 #[cfg(test)]
@@ -16,3 +17,4 @@ mod vectors;
 pub use block::Block;
 pub use fault::FeedFault;
 pub use feed::Feed;
+pub use laws::blocks_are;

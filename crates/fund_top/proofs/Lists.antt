@@ -4,7 +4,7 @@ use Rattle.std.proofs.Math.ListN.{drop_of_length-le}
 use Rattle.serde_json.specs.Data.{Data, Items}
 use Rattle.serde_json.specs.View.{view, items_view}
 use Rattle.serde_json.specs.declared.value.Value.{Value}
-use Rattle.fund_top.specs.Json.{Fails, each_from, only_item}
+use Rattle.fund_top.specs.Json.{Fails, each_from}
 use Rattle.fund_top.specs.declared.json.FormFault.{FormFault}
 use Rattle.fund_top.specs.declared.json.FormFault.TheVariants.{NotInForm, Memory}
 
@@ -39,9 +39,3 @@ is_done reading front values i total le so_far =
     let e : drop i values ≡ [] = drop_of_length-le values le in
     let one : each_from reading front (rest_of values i) ≡ Some front = rw e refl in
     sym so_far ∙ one
-
--- a list of none or of several has no only entry
-pub only_none : (values : List Value) → (length values ≡ 1 → ⊥) → only_item (items_view values) ≡ None
-only_none [] h = refl
-only_none (v ∷ []) h = absurd (h refl)
-only_none (v ∷ w ∷ vs) h = refl

@@ -14,34 +14,17 @@ use Rattle.fee_rates.specs.Fee.{fee_of, vsize_of, input_fee_of, effective_of}
 use Rattle.fee_rates.specs.Output.{output_size_of, dust_of}
 use Rattle.fee_rates.specs.Terms.{base_of, target_of, hi_of, small_of, change_fee_of, change_least_of}
 use Rattle.fee_rates.proofs.FeeLaws.{weighed_parts, input_fee_parts, fee_below, vsize_bytes}
+use Rattle.fund_top.specs.Candidate.{value_of}
 use Rattle.fund_top.specs.declared.coin.Coin.{Coin}
 use Rattle.fund_top.specs.declared.presets.Presets.TheVariants.{Short, Plain, Change}
 use Rattle.fund_top.specs.declared.request.Recipient.{Recipient}
 use Rattle.fund_top.specs.PlainWallet.{PlainWallet}
 use Rattle.fund_top.specs.PlainRequest.{PlainRequest}
-use Rattle.fund_top.specs.Pays.{Pays, load_of, paid_of, rates_of, payment_of, payment_weight, recipient_output, value_of, weight_of_inputs, fees_of_inputs}
+use Rattle.fund_top.specs.Pays.{Pays, load_of, paid_of, rates_of, payment_of, payment_weight, recipient_output, weight_of_inputs, fees_of_inputs}
 use Rattle.fund_top.specs.Presets.{presets_of}
 
 pub sum_one : {X : Type 0} (f : X → ℕ) (x : X) → sum_by f (x ∷ []) ≡ f x
 sum_one f x = omega (arith, sum_by-cons f x [])
-
--- a payment from one coin
-pub load_of_one : (w : PlainWallet) (r : PlainRequest) (c : Coin) → load_of w r (c ∷ []) ≡ record {
-  paid = paid_of r;
-  outputs = min (sum_by (λ (q : Recipient). output_size_of q.script) r.recipients) 1_000_000_000;
-  count = min (length r.recipients) 1_000_000_000;
-  coins = 1;
-  preset_effective = effective_of c.value r.rate c.weight;
-  preset_weight = c.weight;
-  has_presets = true;
-  burden = 0;
-  change_size = output_size_of w.change.script;
-  change_weight = w.change.weight;
-  change_dust = dust_of w.change.script;
-}
-unfolding load_of
-load_of_one w r c =
-    rw (sum_one (λ (d : Coin). d.value) c, sum_one (λ (d : Coin). input_fee_of r.rate d.weight) c, sum_one (λ (d : Coin). d.weight) c) refl
 
 -- each amount is within the sum
 pub amount_within : (rs : List Recipient) (i : ℕ) (q : Recipient) (most : ℕ) → q ≡ get_or rs i q → i < length rs → sum_by (λ (p : Recipient). p.amount) rs ≤ most → q.amount ≤ most
@@ -227,3 +210,25 @@ pays_none w r coins e (Some change) t p =
     let fee = rw (sum_change r.recipients t.outputs (record { value = change; script = w.change.script }) p.outputs) at p.fee in
     let back = left_back (paid_of r) base (value_of coins) (fees_of_inputs r.rate coins) (change_fee_of R l) (change_least_of R l) change fee p.change_worth in
     both_ways _ f.1 (change_test (small_of R l) (base_of l + weight_of_inputs coins + 4 * output_size_of w.change.script) back p.weight)
+
+-- what the outputs of those that pay take is within what they are worth
+pub plain_within : (w : PlainWallet) (r : PlainRequest) (coins : List Coin) → presets_of (rates_of r) (load_of w r coins) ≡ Plain → paid_of r ≤ value_of coins
+unfolding presets_of load_of
+plain_within w r coins e =
+    let l = load_of w r coins in
+    let R = rates_of r in
+    let base = fee_of r.rate (vsize_of (base_of l)) in
+    let f = plain_facts (target_of R l) (hi_of R l) (base_of l + weight_of_inputs coins) (was_plain _ _ _ e) in
+    let in_window = window (paid_of r) base (value_of coins) (fees_of_inputs r.rate coins) (change_fee_of R l) (change_least_of R l) f.0 f.1 in
+    omega (arith, in_window.0)
+
+pub change_within : (w : PlainWallet) (r : PlainRequest) (coins : List Coin) (change : ℕ) → presets_of (rates_of r) (load_of w r coins) ≡ Change change → paid_of r + change ≤ value_of coins
+unfolding presets_of load_of
+change_within w r coins change e =
+    let l = load_of w r coins in
+    let R = rates_of r in
+    let base = fee_of r.rate (vsize_of (base_of l)) in
+    let b = was_change _ _ _ _ e in
+    let f = change_facts (small_of R l) (base_of l + weight_of_inputs coins + 4 * output_size_of w.change.script) b.0 in
+    let rest = left (paid_of r) base (value_of coins) (fees_of_inputs r.rate coins) (change_fee_of R l) (change_least_of R l) change b.1 f.0 in
+    omega (arith, rest.0)

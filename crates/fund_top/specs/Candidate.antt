@@ -1,50 +1,62 @@
--- The coins of a wallet that may be spent.
-use Rattle.std.specs.Prelude.{◌≡◌, ◌≢◌, ◌≤◌, ◌&&◌, List, All, Contains, Bool, not, bytes_eq, slice_get, find, Option, Some, None, if◌then◌else◌}
-use Rattle.std.specs.List.{list_any}
-use Rattle.fund_base.specs.Outpoints.{same_outpoint}
-use Rattle.fund_base.specs.declared.outpoint.OutPoint.{OutPoint}
+-- The coins that may be spent.
+use Rattle.std.specs.Prelude.{ℕ, ◌≡◌, ◌≢◌, ◌≤◌, ◌+◌, ◌-◌, ◌&&◌, ◌||◌, List, length, filter, All, Contains, Bool, true, not, nat_le, slice_get, sum_by, Option, Some}
 use Rattle.tx_codec.specs.declared.tx.TxIn.{TxIn}
-use Rattle.tx_codec.specs.declared.tx.TxOut.{TxOut}
+use Rattle.tx_codec.specs.Transaction.{Transaction}
 use Rattle.tx_codec.specs.Txid.{txid_of}
-use Rattle.fund_top.specs.Json.{◌>>=◌}
+use Rattle.fund_top.specs.Coinbase.{is_coinbase_of}
+use Rattle.fund_top.specs.Coins.{Confirmed, coins_of, is_spent, weight_for}
 use Rattle.fund_top.specs.declared.coin.Coin.{Coin}
 use Rattle.fund_top.specs.declared.wallet.Watch.{Watch}
-use Rattle.fund_top.specs.PlainWallet.{PlainWallet}
 
--- A coin that may be spent: an output of the earlier transaction that pays a listed script, with the weight
--- declared for it, and that the transaction doesn't spend.
-pub record IsCandidate (w : PlainWallet) (c : Coin) : Type 0 where
-  pub txid : c.coin.txid ≡ txid_of w.earlier
-  pub output : slice_get w.earlier.outputs c.coin.index ≡ Some (record { value = c.value; script = c.script })
-  pub listed : Contains w.scripts (record { script = c.script; weight = c.weight })
-  pub unspent : All (λ (i : TxIn). i.prev ≢ c.coin) w.earlier.inputs
+-- what tells which coins may be spent: the listed scripts, the confirmed transactions in order, the height of the tip
+pub record Ledger : Type 0 where
+  pub scripts : List Watch
+  pub chain : List Confirmed
+  pub tip : ℕ
 
--- an output as a coin, with the weight that is declared for its script
-unfoldable pub coin_of : List Watch → OutPoint → TxOut → Option Coin
-coin_of scripts point output = do
-  watch ← find (λ (s : Watch). bytes_eq s.script output.script) scripts
-  Some (record { coin = point; value = output.value; weight = watch.weight; script = output.script })
+-- how deep a transaction at a height lies: 1 at the tip
+abbrev pub depth_of : ℕ → ℕ → ℕ
+depth_of tip height = tip + 1 - height
 
--- the earlier transaction has this txid, and doesn't spend the outpoint
-abbrev pub is_open : PlainWallet → OutPoint → Bool
-is_open w point = bytes_eq point.txid (txid_of w.earlier) && not (list_any (λ (i : TxIn). same_outpoint i.prev point) w.earlier.inputs)
+-- A coin that may be spent: an output at an index of at most 4,294,967,295 of a confirmed transaction, which pays a
+-- listed script with the weight declared for it. No confirmed transaction spends it, and it is at least 101 deep if
+-- its transaction is a coinbase.
+pub record IsCandidate (l : Ledger) (c : Coin) : Type 0 where
+  pub maker : Transaction
+  pub made : slice_get l.chain c.place ≡ Some (record { tx = maker; height = c.height })
+  pub txid : c.coin.txid ≡ txid_of maker
+  pub index : c.coin.index ≤ 4294967295
+  pub output : slice_get maker.outputs c.coin.index ≡ Some (record { value = c.value; script = c.script })
+  pub listed : Contains l.scripts (record { script = c.script; weight = c.weight })
+  pub coinbase : c.coinbase ≡ is_coinbase_of maker
+  pub unspent : All (λ (t : Confirmed). All (λ (i : TxIn). i.prev ≢ c.coin) t.tx.inputs) l.chain
+  pub deep : is_coinbase_of maker ≡ true → 101 ≤ depth_of l.tip c.height
 
--- the candidate at an outpoint
-unfoldable pub candidate_at : PlainWallet → OutPoint → Option Coin
-candidate_at w point =
-    if is_open w point
-    then (do
-      output ← slice_get w.earlier.outputs point.index
-      coin_of w.scripts point output)
-    else None
+-- a coin that no transaction of the chain spends, and that is deep enough
+unfoldable pub is_candidate : List Confirmed → ℕ → Coin → Bool
+is_candidate chain tip c = not (is_spent chain c.coin) && (not c.coinbase || nat_le 101 (depth_of tip c.height))
 
--- a coin that was found at an outpoint, or that there is none
-abbrev pub IsFound : PlainWallet → OutPoint → Option Coin → Type 0
-IsFound w point None = (c : Coin) → IsCandidate w c → c.coin ≢ point
-IsFound w point (Some c) = IsCandidate w c × (c.coin ≡ point)
+-- the candidates in order of creation
+unfoldable pub candidates : Ledger → List Coin
+candidates l = filter (is_candidate l.chain l.tip) (coins_of (weight_for l.scripts) l.chain)
+
+-- what coins are worth together
+abbrev pub value_of : List Coin → ℕ
+value_of coins = sum_by (λ (c : Coin). c.value) coins
 
 -- a weight that an input can have, and a value within 21,000,000 bitcoin
 pub record CoinFits (c : Coin) : Type 0 where
   pub least : 165 ≤ c.weight
   pub most : c.weight ≤ 400_000
   pub value : c.value ≤ 2_100_000_000_000_000
+
+-- at most 100,000 such coins
+pub record AreCounted (coins : List Coin) : Type 0 where
+  pub each : All CoinFits coins
+  pub count : length coins ≤ 100_000
+
+-- at most 100,000 such coins, of at most 21,000,000 bitcoin together
+pub record AreFit (coins : List Coin) : Type 0 where
+  pub each : All CoinFits coins
+  pub count : length coins ≤ 100_000
+  pub value : value_of coins ≤ 2_100_000_000_000_000

@@ -2,15 +2,18 @@
 use Rattle.std.specs.Prelude.{ℕ, ◌≡◌, ◌⊎◌, List, [], ◌++◌, codes}
 use Rattle.fund_base.specs.Causes.{ShelfView, SinkView, Rose, HasPart}
 use Rattle.fund_top.specs.declared.decision.Decision.TheVariants as decisions
-use Rattle.fund_top.specs.declared.decision.Funded.{Funded}
 use Rattle.fund_top.specs.declared.refusal.File.{File}
 use Rattle.fund_top.specs.declared.refusal.Refusal.{Refusal}
-use Rattle.fund_top.specs.declared.refusal.Refusal.TheVariants.{TooLong, NotYet, NotEligible}
+use Rattle.fund_top.specs.declared.refusal.Refusal.TheVariants.{TooLong, NotYet, BadBlocks, BookNotYet, NotEligible, Total}
 use Rattle.fund_top.specs.declared.status.Status.{Status}
 use Rattle.fund_top.specs.declared.status.Status.TheVariants as statuses
 use Rattle.fund_top.specs.PlainWallet.{PlainWallet}
 use Rattle.fund_top.specs.PlainRequest.{PlainRequest}
+use Rattle.block_feed.specs.Block.{ChainBlock}
+use Rattle.fund_top.specs.Coins.{maker_in}
 use Rattle.fund_top.specs.Decision.{Decides}
+use Rattle.fund_top.specs.Ledger.{chain_of, ledger_of}
+use Rattle.fund_top.specs.Selection.{Selection}
 use Rattle.psbt_codec.specs.Psbt.{IsPsbt}
 use Rattle.fund_top.specs.Ending.{psbt_of, report_of}
 use Rattle.fund_top.specs.Outcome.{Outcome, Refused, NoSelection, Funded as Paid, outcome_of}
@@ -27,7 +30,10 @@ GotLine line old new =
 abbrev pub status_of_refusal : Refusal → Status
 status_of_refusal (TooLong file) = statuses.Limit
 status_of_refusal (NotYet file) = statuses.Input
+status_of_refusal (BadBlocks fault) = statuses.Input
+status_of_refusal BookNotYet = statuses.Input
 status_of_refusal (NotEligible coin) = statuses.Input
+status_of_refusal (Total sum) = statuses.Input
 
 -- the status of what the files come to, where nothing fails
 abbrev pub status_of : Outcome → Status
@@ -47,26 +53,28 @@ IsReported (Refused refusal) = ⊥
 IsReported NoSelection = Unit {0}
 IsReported (Paid report) = Unit {0}
 
--- A wallet and a request whose listed coin pays: a candidate of the wallet, from which a transaction pays what is
--- asked. What a signer gets is a PSBT of version 0 (BIP 174), and the report tells of it. Where the files are told,
--- they hold this wallet, no blocks and this request.
+-- A wallet, blocks and a request whose listed coins pay: they are candidates, and the transaction made of them pays
+-- what is asked. What a signer gets is a PSBT of version 0 (BIP 174), and the report tells of it. Where the files are
+-- told, they hold this wallet, these blocks and this request.
 pub record IsFunded (told_files : Type 0) (files : List ℕ → List ℕ) (c : Command) (report : List ℕ) : Type 0 where
   pub wallet : PlainWallet
+  pub blocks : List ChainBlock
   pub asked : PlainRequest
-  pub funded : Funded
-  pub inputs : told_files → AreInputs files c wallet asked
-  pub pays : Decides wallet asked (decisions.Funded funded)
-  pub psbt : IsPsbt (psbt_of wallet asked funded)
-  pub reports : report ≡ report_of wallet asked funded
+  pub funded : Selection
+  pub inputs : told_files → AreInputs files c wallet blocks asked
+  pub pays : Decides wallet (ledger_of wallet blocks) asked (decisions.Funded funded)
+  pub psbt : IsPsbt (psbt_of wallet asked (maker_in (chain_of wallet.earlier blocks)) funded)
+  pub reports : report ≡ report_of wallet asked (maker_in (chain_of wallet.earlier blocks)) funded
   pub comes_to : told_files → outcome_of files c ≡ Paid report
 
--- A wallet and a request whose listed coin is a candidate of the wallet, but no transaction pays from it what is
--- asked. Where the files are told, they hold this wallet, no blocks and this request.
+-- A wallet, blocks and a request whose listed coins are candidates, but no transaction pays from them what is asked.
+-- Where the files are told, they hold this wallet, these blocks and this request.
 pub record IsNotFunded (told_files : Type 0) (files : List ℕ → List ℕ) (c : Command) : Type 0 where
   pub wallet : PlainWallet
+  pub blocks : List ChainBlock
   pub asked : PlainRequest
-  pub inputs : told_files → AreInputs files c wallet asked
-  pub pays_not : Decides wallet asked decisions.NoSelection
+  pub inputs : told_files → AreInputs files c wallet blocks asked
+  pub pays_not : Decides wallet (ledger_of wallet blocks) asked decisions.NoSelection
   pub comes_to : told_files → outcome_of files c ≡ NoSelection
 
 -- done: the log is written, and behind what was in the sink stands the report of a payment
@@ -79,7 +87,7 @@ abbrev pub EndsNotFunded : Type 0 → Type 0 → Command → ShelfView → Shelf
 EndsNotFunded told_files told c shelf shelf' sink sink' =
     IsNotFunded told_files shelf.files c × (told_files → shelf'.files c.log ≡ log_text) × (told → sink'.written ≡ sink.written ++ none_report)
 
--- A refusal of this status, with its line. A coin is refused because no candidate of the wallet is at its outpoint.
+-- A refusal of this status, with its line.
 abbrev pub EndsRefused : Status → Type 0 → Type 0 → Command → ShelfView → SinkView → SinkView → Type 0
 EndsRefused status told_files told c shelf sink sink' =
     (refusal : Refusal) × (status_of_refusal refusal ≡ status) × (told_files → IsDue shelf.files c refusal) × (told → GotLine (fault_line (refusal_words refusal)) sink sink')

@@ -63,9 +63,3 @@ each_from reading front no_items = Some front
 each_from reading front (item d ds) = do
   x ← reading front d
   each_from reading (front ++ x ∷ []) ds
-
--- exactly one entry
-abbrev pub only_item : Items → Option Data
-only_item no_items = None
-only_item (item d no_items) = Some d
-only_item (item d (item e ds)) = None

@@ -1,13 +1,18 @@
+pub mod Apart
+pub mod Book
 pub mod Candidate
 pub mod Code
 pub mod Coinbase
+pub mod Coins
 pub mod Command
 pub mod Conclusion
 pub mod Decision
 pub mod Ending
 pub mod Ends
+pub mod Held
 pub mod InputStop
 pub mod Json
+pub mod Ledger
 pub mod Outcome
 pub mod Pays
 pub mod PlainRequest
@@ -16,6 +21,7 @@ pub mod Presets
 pub mod Put
 pub mod Report
 pub mod RequestForm
+pub mod Selection
 pub mod Spelled
 pub mod Stop
 pub mod Stopped

@@ -10,6 +10,7 @@ use Rattle.fee_rates.specs.Output.{output_size_of, dust_of}
 use Rattle.fee_rates.specs.Terms.{base_of, change_fee_of, change_least_of}
 use Rattle.fee_rates.specs.declared.terms.Rates.{Rates}
 use Rattle.fee_rates.specs.declared.terms.Load.{Load}
+use Rattle.fund_top.specs.Candidate.{value_of}
 use Rattle.fund_top.specs.declared.coin.Coin.{Coin}
 use Rattle.fund_top.specs.declared.request.Recipient.{Recipient}
 use Rattle.fund_top.specs.PlainWallet.{PlainWallet}
@@ -22,10 +23,6 @@ rates_of r = record { rate = r.rate; long_term = 10_000; discard = 10_000; chang
 -- what the recipients get together
 abbrev pub paid_of : PlainRequest → ℕ
 paid_of r = sum_by (λ (q : Recipient). q.amount) r.recipients
-
--- what the coins are worth together
-abbrev pub value_of : List Coin → ℕ
-value_of coins = sum_by (λ (c : Coin). c.value) coins
 
 -- what their inputs are declared to weigh together
 abbrev pub weight_of_inputs : List Coin → ℕ

@@ -6,7 +6,7 @@ use Rattle.fund_top.specs.declared.request.Recipient.{Recipient}
 pub record PlainRequest : Type 0 where
   pub recipients : List Recipient
   pub rate : ℕ
-  pub coin : OutPoint
+  pub coins : List OutPoint
 
 -- amounts of at most 21,000,000 bitcoin together, and a rate within its range
 pub record AreAsked (recipients : List Recipient) (rate : ℕ) : Type 0 where

@@ -1,12 +1,14 @@
 -- What the wallet file tells, without where it lies in memory.
-use Rattle.std.specs.Prelude.{◌≤◌, List, length, All}
-use Rattle.tx_codec.specs.Transaction.{Transaction}
+use Rattle.std.specs.Prelude.{ℕ, ◌≤◌, List, length, All}
+use Rattle.fund_top.specs.declared.wallet.Earlier.{Earlier}
 use Rattle.fund_top.specs.declared.wallet.Watch.{Watch}
 
 pub record PlainWallet : Type 0 where
+  pub height : ℕ
+  pub hash : List ℕ
   pub scripts : List Watch
   pub change : Watch
-  pub earlier : Transaction
+  pub earlier : List Earlier
 
 -- a script of at most 10,000 bytes, and a weight that an input can have
 pub record IsWatch (w : Watch) : Type 0 where

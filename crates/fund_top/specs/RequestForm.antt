@@ -1,12 +1,14 @@
 -- The request file in the form that is read today.
-use Rattle.std.specs.Prelude.{ℕ, ◌+◌, ◌==◌, List, [], length, bytes_eq, codes, sum_by, nat_lt, nat_le, if◌then◌else◌, Option, Some, None, option_and_then, ⊤}
+use Rattle.std.specs.Prelude.{ℕ, ◌+◌, ◌==◌, ◌&&◌, List, [], length, bytes_eq, codes, sum_by, nat_lt, nat_le, if◌then◌else◌, Option, Some, None, ⊤}
 use Rattle.std.specs.List.{before_first, after_first, position_or_len}
 use Rattle.serde_json.specs.Data.{Data}
 use Rattle.serde_json.specs.Find.{get, as_array, as_str}
 use Rattle.fund_base.specs.Decimal.{number_of}
+use Rattle.fund_base.specs.Outpoints.{same_outpoint}
 use Rattle.fund_base.specs.declared.outpoint.OutPoint.{OutPoint}
 use Rattle.fee_rates.specs.Output.{dust_of}
-use Rattle.fund_top.specs.Json.{◌>>=◌, object_at, whole_at, hash_at, each_from, only_item, parsed}
+use Rattle.fund_top.specs.Apart.{are_apart}
+use Rattle.fund_top.specs.Json.{◌>>=◌, object_at, whole_at, hash_at, each_from, parsed}
 use Rattle.fund_top.specs.WalletForm.{script_at}
 use Rattle.fund_top.specs.PlainRequest.{PlainRequest}
 use Rattle.fund_top.specs.declared.request.Recipient.{Recipient}
@@ -53,7 +55,14 @@ is_manual d = do
   text ← as_str d
   if bytes_eq text (codes "manual") then Some tt else None
 
--- The whole request: an object with exactly recipients, rate, method and coins, the method manual and one coin.
+-- one coin at least, and each of them once
+unfoldable pub coins_at : Data → Option (List OutPoint)
+coins_at d = do
+  entries ← as_array d
+  coins ← each_from (λ _. coin_at) [] entries
+  if nat_lt 0 (length coins) && are_apart same_outpoint coins then Some coins else None
+
+-- The whole request: an object with exactly recipients, rate, method and coins, the method manual.
 unfoldable pub request_at : Data → Option PlainRequest
 request_at d = do
   whole ← object_at 4 d
@@ -64,9 +73,8 @@ request_at d = do
   m ← get (codes "method") d
   manual ← is_manual m
   c ← get (codes "coins") d
-  only ← option_and_then only_item (as_array c)
-  coin ← coin_at only
-  Some (record { recipients = recipients; rate = rate; coin = coin })
+  coins ← coins_at c
+  Some (record { recipients = recipients; rate = rate; coins = coins })
 
 -- the request that the bytes of a file are, where they have this form
 unfoldable pub request_form : List ℕ → Option PlainRequest

@@ -3,7 +3,9 @@
 use Rattle.std.specs.Prelude.{ℕ, ◌≡◌, ◌+◌, ◌<◌, ◌^◌, List, length, All}
 use Rattle.fund_base.specs.declared.outpoint.OutPoint.{OutPoint}
 use Rattle.tx_codec.specs.TransactionText.{IsTransaction}
+use Rattle.block_feed.specs.Block.{ChainBlock}
 use Rattle.fund_top.specs.declared.request.Recipient.{Recipient}
+use Rattle.fund_top.specs.declared.wallet.Earlier.{Earlier}
 use Rattle.fund_top.specs.PlainWallet.{PlainWallet}
 use Rattle.fund_top.specs.PlainRequest.{PlainRequest}
 
@@ -24,17 +26,19 @@ pub record AreRecipients (recipients : List Recipient) : Type 0 where
   pub some : 0 < length recipients
   pub few : length recipients + 1 < 2 ^ 64
 
--- a wallet whose earlier transaction has a text, and whose change is paid to bytes
+-- a wallet whose earlier transactions have texts, and whose change is paid to bytes
 pub record IsSpelledWallet (w : PlainWallet) : Type 0 where
-  pub earlier : IsTransaction w.earlier
+  pub earlier : All (λ (e : Earlier). IsTransaction e.tx) w.earlier
   pub change : AreBytes w.change.script
 
--- a request of recipients that fit, and of a coin that does
+-- a request of recipients that fit, and of coins that do, one at least
 pub record IsSpelledRequest (r : PlainRequest) : Type 0 where
   pub recipients : AreRecipients r.recipients
-  pub coin : IsPoint r.coin
+  pub coins : All IsPoint r.coins
+  pub some : 0 < length r.coins
 
--- A wallet and a request whose numbers and bytes fit the fields of a transaction, with a recipient.
-pub record AreSpelled (w : PlainWallet) (r : PlainRequest) : Type 0 where
+-- A wallet, blocks and a request whose numbers and bytes fit the fields of transactions, with a recipient and a coin.
+pub record AreSpelled (w : PlainWallet) (bs : List ChainBlock) (r : PlainRequest) : Type 0 where
   pub wallet : IsSpelledWallet w
+  pub blocks : All (λ (b : ChainBlock). All IsTransaction b.txs) bs
   pub request : IsSpelledRequest r

@@ -1,20 +1,25 @@
 //! The files of a command, read one by one.
 
-ghost use Rattle.std.specs.Prelude.{◌≡◌, ◌≤◌, ◌<◌, length, ℕ, List, Some, None, [], IfOk, IfErr, OnOk};
+ghost use Rattle.std.specs.Prelude.{◌≡◌, ◌≤◌, ◌<◌, length, Some, IfOk, IfErr, OnOk};
 ghost use Rattle.fund_base.specs.Causes.{NeverFall, Rose};
 ghost use Rattle.fund_top.specs.Command.{plain};
-ghost use Rattle.fund_top.specs.Stop.{AreInputs, StopsFor};
+ghost use Rattle.fund_top.specs.Stop.{StopsFor};
+ghost use Rattle.fund_top.specs.Held.{AreHeld, AreKept, IsBlocksRefusal, stop_of};
 ghost use Rattle.fund_top.specs.InputStop.{StopsAt, IsWalletRefusal, IsRequestRefusal};
-ghost use Rattle.fund_top.specs.Spelled.{AreSpelled, IsSpelledRequest, IsSpelledWallet};
+ghost use Rattle.fund_top.specs.Spelled.{IsSpelledRequest, IsSpelledWallet};
 ghost use Rattle.fund_top.specs.WalletForm.{wallet_form};
 ghost use Rattle.fund_top.specs.RequestForm.{request_form};
 
+use crate::blocks::read_blocks;
+use crate::book::{Book, Kept};
+use crate::coin::weights_of;
 use crate::json::FormFault;
 use crate::refusal::{File, Refusal};
 use crate::request::{Request, read_request};
 use crate::wallet::{Wallet, read_wallet};
 use crate::words::Command;
-use fund_base::{ReadError, Shelf, read_whole};
+use block_feed::FeedFault;
+use fund_base::{Memory, ReadError, Shelf, read_whole};
 use std::alloc::Global;
 
 /// The greatest length of a wallet file, in bytes.
@@ -78,23 +83,55 @@ fn wallet_from<H: Shelf>(alloc: Global, shelf: &mut H, name: &str) -> Result<Wal
     }
 }
 
-/// That the block file is empty.
-fn no_blocks<H: Shelf>(alloc: Global, shelf: &mut H, name: &str) -> Result<(), Stop>
-    ensures empty { H.tells → OnOk result (length ((H.view shelf.old).files name.now) ≡ 0) }
+/// Why the reading of the blocks stops, as a stop.
+fn blocks_stop(fault: FeedFault) -> Stop
+    ensures { result ≡ stop_of fault }
+{
+    match fault {
+        FeedFault::Read => Stop::Read(File::Blocks),
+        FeedFault::Memory => Stop::Memory,
+        FeedFault::Limit => Stop::Refused(Refusal::TooLong(File::Blocks)),
+        _ => Stop::Refused(Refusal::BadBlocks(fault)),
+    }
+}
+
+/// The coins of the wallet's earlier transactions and of the blocks that may be spent.
+fn coins_from<H: Shelf>(
+    alloc: Global,
+    shelf: &mut H,
+    name: &str,
+    wallet: &Wallet,
+) -> Result<Kept, Stop>
+    ensures kept { IfOk result (λ k. AreKept H.tells ((H.view shelf.old).files name.now) wallet.now k) }
     ensures same { H.tells → (H.view shelf.new).files ≡ (H.view shelf.old).files }
     ensures reads { NeverFall (H.view shelf.old).reads (H.view shelf.new).reads }
     ensures writes { (H.view shelf.new).writes ≡ (H.view shelf.old).writes }
-    ensures stop { IfErr result (StopsAt File.Blocks (Rose ((H.view shelf.old).reads name.now) ((H.view shelf.new).reads name.now)) (λ refusal. (refusal ≡ Refusal.NotYet File.Blocks) × (H.tells → 0 < length ((H.view shelf.old).files name.now)))) }
+    ensures stop { IfErr result (StopsAt File.Blocks (Rose ((H.view shelf.old).reads name.now) ((H.view shelf.new).reads name.now)) (λ refusal. H.tells → IsBlocksRefusal wallet.now ((H.view shelf.old).files name.now) refusal)) }
 {
-    read_input(
+    let Ok(weights) = weights_of(alloc, &wallet.scripts) else {
+        return Err(Stop::Memory);
+    };
+    let mut book = Book::new(alloc);
+    if let Err(Memory) = book.add_earlier(alloc, &weights, &wallet.earlier) {
+        return Err(Stop::Memory);
+    }
+    let outcome = read_blocks(
         alloc,
         shelf,
-        File::Blocks,
         name,
-        0,
-        Refusal::NotYet(File::Blocks),
-    )?;
-    Ok(())
+        &wallet.hash,
+        wallet.height,
+        &weights,
+        &mut book,
+    );
+    match outcome {
+        Err(fault) => Err(blocks_stop(fault)),
+        Ok(tip) => match book.close(alloc, tip) {
+            Ok(Some(kept)) => Ok(kept),
+            Ok(None) => Err(Stop::Refused(Refusal::BookNotYet)),
+            Err(Memory) => Err(Stop::Memory),
+        },
+    }
 }
 
 /// The request.
@@ -117,28 +154,33 @@ fn request_from<H: Shelf>(alloc: Global, shelf: &mut H, name: &str) -> Result<Re
 }
 
 /// What the files of a command hold.
-#[derive(Debug, Drop)]
+#[derive(Drop)]
 pub struct Inputs {
     pub wallet: Wallet,
+    /// The coins that may be spent.
+    pub kept: Kept,
     pub request: Request,
 }
 
-/// What the files of a command hold: the wallet, which is read first, then the blocks, of which there are none
-/// yet, then the request. A file that is refused leaves those behind it unread.
+/// What the files of a command hold: the wallet, which is read first, then the blocks, of which the coins are kept
+/// that may be spent, then the request. A file that is refused leaves those behind it unread.
 pub fn read_inputs<H: Shelf>(
     alloc: Global,
     command: &Command,
     shelf: &mut H,
 ) -> Result<Inputs, Stop>
-    ensures forms { H.tells → IfOk result (λ x. AreInputs (H.view shelf.old).files (plain command.now) x.wallet x.request) }
-    ensures spelled { IfOk result (λ x. AreSpelled x.wallet x.request) }
+    ensures held { IfOk result (λ x. AreHeld H.tells (H.view shelf.old).files (plain command.now) x.wallet x.request x.kept) }
     ensures same { H.tells → (H.view shelf.new).files ≡ (H.view shelf.old).files }
     ensures reads { NeverFall (H.view shelf.old).reads (H.view shelf.new).reads }
     ensures writes { (H.view shelf.new).writes ≡ (H.view shelf.old).writes }
     ensures stop { IfErr result (StopsFor H.tells (plain command.now) (H.view shelf.old) (H.view shelf.new)) }
 {
     let wallet = wallet_from(alloc, shelf, command.wallet)?;
-    no_blocks(alloc, shelf, command.blocks)?;
+    let kept = coins_from(alloc, shelf, command.blocks, &wallet)?;
     let request = request_from(alloc, shelf, command.request)?;
-    Ok(Inputs { wallet, request })
+    Ok(Inputs {
+        wallet,
+        kept,
+        request,
+    })
 }

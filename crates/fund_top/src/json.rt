@@ -1,9 +1,9 @@
 //! Looking into JSON values, each of which has the wanted form or hasn't.
 
-ghost use Rattle.std.specs.Prelude.{◌≡◌, ◌≤◌, ℕ, List, length, option_and_then, IfOk};
+ghost use Rattle.std.specs.Prelude.{◌≡◌, ◌≤◌, ℕ, List, length, IfOk};
 ghost use Rattle.serde_json.specs.View.{view, items_view, members_view};
 ghost use Rattle.serde_json.specs.Find.{get, as_array, as_str};
-ghost use Rattle.fund_top.specs.Json.{Gives, parsed, object_at, whole_at, hex_at, hash_at, member_count, only_item};
+ghost use Rattle.fund_top.specs.Json.{Gives, parsed, object_at, whole_at, hex_at, hash_at, member_count};
 ghost use Rattle.fund_top.specs.Spelled.{AreBytes};
 ghost use Rattle.fund_top.specs.declared.json.FormFault.TheVariants.{Memory as WantOfMemory};
 
@@ -154,21 +154,4 @@ pub fn hash_of(text: &str) -> Result<[u8; 32], FormFault>
         }
         Err(_) => Err(FormFault::NotInForm),
     }
-}
-
-#[tactic(auto, using(crate::proofs::Lists::only_none))]
-fn only_of(values: &[Value]) -> Result<&Value, FormFault>
-    ensures { Gives (λ v. view v.now) result (only_item (items_view values.now)) }
-{
-    match values {
-        [only] => Ok(only),
-        _ => Err(FormFault::NotInForm),
-    }
-}
-
-/// The only entry of a list.
-pub fn only_entry(value: &Value) -> Result<&Value, FormFault>
-    ensures { Gives (λ v. view v.now) result (option_and_then only_item (as_array (view value.now))) }
-{
-    only_of(entries_of(value)?)
 }

@@ -2,6 +2,9 @@
 //! and writes its log and its report. This is the only place where the outside and the pure layers meet.
 #![tactic(auto)]
 
+mod apart;
+mod blocks;
+mod book;
 mod coin;
 mod decision;
 mod ending;

@@ -52,22 +52,32 @@ fn recipient_outputs(alloc: Global, recipients: &[Recipient]) -> Result<Vec<TxOu
     Ok(outputs)
 }
 
-/// The unsigned transaction that spends the coin and pays the recipients, in order, and then `change` satoshi to
-/// the wallet's change script: version 2, lock time 0, and an input that lets the payment be replaced (BIP 125).
+/// The inputs that spend the coins, in order.
+fn inputs(alloc: Global, coins: &[Coin]) -> Result<Vec<TxIn>, Memory>
+    ensures { IfOk result (λ v. v.items ≡ map unsigned_input coins.now) }
+{
+    let mut inputs = Vec::new(alloc);
+    for coin in coins {
+        inputs.push(input(alloc, coin))?;
+    }
+    Ok(inputs)
+}
+
+/// The unsigned transaction that spends the coins and pays the recipients, in order, and then `change` satoshi to
+/// the wallet's change script: version 2, lock time 0, and inputs that let the payment be replaced (BIP 125).
 #[tactic(auto, unfolding(crate::specs::Pays::payment_of))]
 pub fn unsigned(
     alloc: Global,
     wallet: &Wallet,
     request: &Request,
-    coin: &Coin,
+    coins: &[Coin],
     change: Option<u64>,
 ) -> Result<Tx, Memory>
     requires { IfSome change (λ c. c ≤ MAX_MONEY) }
-    ensures { IfOk result (λ t. t ≡ payment_of wallet.now request.now (coin.now ∷ []) change) }
+    ensures { IfOk result (λ t. t ≡ payment_of wallet.now request.now coins.now change) }
 {
     let _rate = request.rate;
-    let mut inputs = Vec::new(alloc);
-    inputs.push(input(alloc, coin))?;
+    let inputs = inputs(alloc, coins)?;
     let mut outputs = recipient_outputs(alloc, &request.recipients)?;
     if let Some(value) = change {
         outputs.push(output(alloc, value, &wallet.change.script)?)?;

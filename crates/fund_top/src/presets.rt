@@ -4,13 +4,14 @@ ghost use Rattle.std.specs.Prelude.{◌≡◌, ◌≤◌, ◌≤ℤ◌, ◌+ℤ�
 ghost use Rattle.fee_rates.specs.Output.{output_size_of};
 ghost use Rattle.fee_rates.specs.Terms.{AreRates, IsLoad};
 ghost use Rattle.fund_top.specs.declared.request.Recipient.{Recipient};
-ghost use Rattle.fund_top.specs.Pays.{load_of, paid_of, rates_of};
+ghost use Rattle.fund_top.specs.Candidate.{AreFit, value_of};
+ghost use Rattle.fund_top.specs.Pays.{fees_of_inputs, load_of, paid_of, rates_of, weight_of_inputs};
 ghost use Rattle.fund_top.specs.Presets.{ChangeFits, presets_of};
 
 use crate::coin::Coin;
 use crate::request::{Recipient, Request};
 use crate::wallet::Wallet;
-use fee_rates::{Load, MAX_WEIGHT, Rates, Terms, dust, effective, output_size};
+use fee_rates::{Load, MAX_WEIGHT, Rates, Terms, dust, input_fee, output_size};
 use fund_base::MAX_MONEY;
 
 /// The rate at which coins are expected to be spent in the long run, in satoshi per 1,000 virtual bytes.
@@ -85,12 +86,55 @@ fn count(recipients: &[Recipient]) -> u64
     (recipients.len() as u64).min(MOST_COUNTED)
 }
 
-/// The payment of a request from one coin, as its fee is reckoned.
-#[tactic(auto, using(crate::proofs::PaysLaws::load_of_one))]
-pub fn load(wallet: &Wallet, request: &Request, coin: &Coin) -> Load
-    requires weight { coin.now.weight ≤ 400_000 }
-    requires value { coin.now.value ≤ MAX_MONEY }
-    ensures value { result ≡ load_of wallet.now request.now (coin.now ∷ []) }
+/// What the coins are worth together, in satoshi.
+pub fn value(coins: &[Coin]) -> u64
+    requires { AreFit coins.now }
+    ensures value { result ≡ value_of coins.now }
+    ensures most { result ≤ MAX_MONEY }
+{
+    coins.iter().map(|coin| coin.value).sum()
+}
+
+/// What their inputs are declared to weigh together, in weight units.
+fn weight(coins: &[Coin]) -> u64
+    requires { weight_of_inputs coins.now ≤ 40_000_000_000 }
+    ensures { result ≡ weight_of_inputs coins.now }
+{
+    coins.iter().map(|coin| coin.weight).sum()
+}
+
+/// What their inputs pay for themselves together at this rate, in satoshi.
+pub fn fees(rate: u64, coins: &[Coin]) -> u64
+    requires rate { rate ≤ 100_000_000 }
+    requires coins { AreFit coins.now }
+    ensures value { result ≡ fees_of_inputs rate coins.now }
+    ensures most { result ≤ 1_000_000_000_000_000 }
+{
+    let mut fees = 0;
+    for coin in coins {
+        fees += input_fee(rate, coin.weight);
+    }
+    fees
+}
+
+/// What the coins are worth less what their inputs pay for themselves at this rate, in satoshi.
+fn effective(rate: u64, coins: &[Coin]) -> i128
+    requires rate { rate ≤ 100_000_000 }
+    requires coins { AreFit coins.now }
+    ensures value { result ≡ pos (value_of coins.now) -ℤ pos (fees_of_inputs rate coins.now) }
+    ensures low { neg_ℤ (pos 1_000_000_000_000_000) ≤ℤ result }
+    ensures high { result ≤ℤ pos MAX_MONEY }
+{
+    let value = value(coins);
+    let fees = fees(rate, coins);
+    i128::from(value) - i128::from(fees)
+}
+
+/// The payment of a request from coins, as its fee is reckoned.
+#[tactic(auto, using(crate::proofs::SumLaws::weights_within), unfolding(crate::specs::Pays::load_of))]
+pub fn load(wallet: &Wallet, request: &Request, coins: &[Coin]) -> Load
+    requires { AreFit coins.now }
+    ensures value { result ≡ load_of wallet.now request.now coins.now }
     ensures fit { IsLoad result }
     ensures presets { result.has_presets ≡ true }
     ensures worth { result.preset_effective ≤ℤ pos MAX_MONEY }
@@ -99,9 +143,9 @@ pub fn load(wallet: &Wallet, request: &Request, coin: &Coin) -> Load
         paid: paid(request),
         outputs: outputs_size(&request.recipients),
         count: count(&request.recipients),
-        coins: 1,
-        preset_effective: i128::from(effective(coin.value, request.rate, coin.weight)),
-        preset_weight: coin.weight,
+        coins: coins.len() as u64,
+        preset_effective: effective(request.rate, coins),
+        preset_weight: weight(coins),
         has_presets: true,
         burden: 0,
         change_size: output_size(&wallet.change.script),

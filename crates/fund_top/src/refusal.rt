@@ -3,6 +3,7 @@
 ghost use Rattle.std.specs.Prelude.{◌≡◌};
 ghost use Rattle.fund_top.specs.Text.{file_word};
 
+use block_feed::FeedFault;
 use fund_base::OutPoint;
 
 /// A file that the command reads.
@@ -20,8 +21,14 @@ pub enum Refusal {
     TooLong(File),
     /// The file has a form that isn't read yet.
     NotYet(File),
+    /// The block file isn't one: its first fault.
+    BadBlocks(FeedFault),
+    /// Two of the coins are one output, or there are more than 100,000. That isn't taken yet.
+    BookNotYet,
     /// The listed coin may not be spent.
     NotEligible(OutPoint),
+    /// The coins that may be spent are together worth this much, which is more than 21,000,000 bitcoin; in satoshi.
+    Total(u128),
 }
 
 impl File {

@@ -1,11 +1,12 @@
 //! The report of a payment from listed coins.
 
-ghost use Rattle.std.specs.Prelude.{◌≡◌, ◌++◌, codes, List, IfOk, string_bytes};
+ghost use Rattle.std.specs.Prelude.{◌≡◌, ◌++◌, ◌∷◌, [], codes, List, IfOk, string_bytes};
 ghost use Rattle.fund_top.specs.Text.{change_text};
-ghost use Rattle.fund_top.specs.Report.{chosen_lines, figures_lines, payment_lines, report_text};
+ghost use Rattle.fund_top.specs.Report.{chosen_lines, figures_lines, payment_lines, report_text, spent_line};
 
+use crate::coin::Coin;
 use crate::text::coin_text;
-use fund_base::{Memory, OutPoint};
+use fund_base::Memory;
 use std::alloc::Global;
 
 /// What a report says of a payment.
@@ -30,15 +31,24 @@ fn change_text(alloc: Global, change: Option<u64>) -> Result<String, Memory>
     }
 }
 
-#[tactic(auto, using(crate::proofs::ReportLines::chosen), unfolding(crate::specs::Report::chosen_lines))]
-fn chosen_lines(alloc: Global, coin: &OutPoint, value: u64) -> Result<String, Memory>
-    ensures { IfOk result (λ text. string_bytes text ≡ chosen_lines coin.now value) }
+/// The line of a coin that is spent.
+#[tactic(auto, unfolding(crate::specs::Report::spent_line))]
+fn spent_line(alloc: Global, coin: &Coin) -> Result<String, Memory>
+    ensures { IfOk result (λ text. string_bytes text ≡ spent_line coin.now ++ (10 ∷ [])) }
 {
-    let coin = coin_text(alloc, coin)?;
-    Ok(format!(in alloc;
-        "funded given\nrow 0\nstage presets\ntries 0\nin {} {}\n",
-        coin, value
-    )?)
+    let point = coin_text(alloc, &coin.coin)?;
+    Ok(format!(in alloc; "in {} {}\n", point, coin.value)?)
+}
+
+fn chosen_lines(alloc: Global, coins: &[Coin]) -> Result<String, Memory>
+    ensures { IfOk result (λ text. string_bytes text ≡ chosen_lines coins.now) }
+{
+    let mut text = format!(in alloc; "funded given\nrow 0\nstage presets\ntries 0\n")?;
+    for coin in coins {
+        let line = spent_line(alloc, coin)?;
+        text.push_str(line.as_str())?;
+    }
+    Ok(text)
 }
 
 #[tactic(auto, unfolding(crate::specs::Report::figures_lines))]
@@ -59,18 +69,17 @@ fn payment_lines(alloc: Global, change: Option<u64>, psbt: &str) -> Result<Strin
     Ok(format!(in alloc; "change {}\npsbt {}\n", change, psbt)?)
 }
 
-/// The report: which coin is spent and its value, what the payment comes to, and the PSBT as text.
+/// The report: which coins are spent and their values, what the payment comes to, and the PSBT as text.
 pub fn report_text(
     alloc: Global,
-    coin: &OutPoint,
-    value: u64,
+    coins: &[Coin],
     figures: &Figures,
     change: Option<u64>,
     psbt: &str,
 ) -> Result<String, Memory>
-    ensures { IfOk result (λ text. string_bytes text ≡ report_text coin.now value figures.now change psbt.now) }
+    ensures { IfOk result (λ text. string_bytes text ≡ report_text coins.now figures.now change psbt.now) }
 {
-    let chosen = chosen_lines(alloc, coin, value)?;
+    let chosen = chosen_lines(alloc, coins)?;
     let figures = figures_lines(alloc, figures)?;
     let payment = payment_lines(alloc, change, psbt)?;
     Ok(format!(in alloc; "{}{}{}", chosen, figures, payment)?)

@@ -1,18 +1,19 @@
-//! The request file in the form that is read today: recipients by script, and one listed coin.
+//! The request file in the form that is read today: recipients by script, and listed coins.
 
-ghost use Rattle.std.specs.Prelude.{◌≡◌, ◌≤◌, ◌+◌, List, [], ℕ, length, sum_by, All, IfOk};
+ghost use Rattle.std.specs.Prelude.{◌≡◌, ◌≤◌, ◌<◌, ◌+◌, ◌&&◌, nat_lt, List, [], ℕ, length, sum_by, All, IfOk};
 ghost use Rattle.fund_top.specs.declared.request.Recipient.{Recipient};
 ghost use Rattle.serde_json.specs.View.{view, items_view};
+ghost use Rattle.fund_base.specs.Outpoints.{same_outpoint};
+ghost use Rattle.fund_top.specs.Apart.{are_apart};
 ghost use Rattle.fund_top.specs.Json.{Gives, each_from, hash_at, parsed};
 ghost use Rattle.fund_top.specs.Spelled.{AreBytes, AreRecipients, IsPoint, IsSpelledRequest};
-ghost use Rattle.fund_top.specs.RequestForm.{point_at, coin_at, recipient_at, recipient_behind, recipients_at, is_manual, request_at, request_form};
+ghost use Rattle.fund_top.specs.RequestForm.{point_at, coin_at, coins_at, recipient_at, recipient_behind, recipients_at, is_manual, request_at, request_form};
 
-use crate::json::{
-    FormFault, entries_of, hash_of, member_of, object_of, only_entry, parse, text_of, whole_of,
-};
+use crate::apart::are_apart;
+use crate::json::{FormFault, entries_of, hash_of, member_of, object_of, parse, text_of, whole_of};
 use crate::wallet::script_of;
 use fee_rates::{MAX_RATE, dust};
-use fund_base::{MAX_MONEY, OutPoint, Script, Txid, read_decimal};
+use fund_base::{MAX_MONEY, Memory, OutPoint, Script, Txid, read_decimal};
 use serde_json::Value;
 use std::alloc::Global;
 use std::marker::Model;
@@ -32,8 +33,8 @@ pub struct Request {
     pub recipients: Vec<Recipient>,
     /// The fee rate, in satoshi per 1,000 virtual bytes, at most 100,000,000.
     pub rate: u64,
-    /// The coin to spend.
-    pub coin: OutPoint,
+    /// The coins to spend, each of them once.
+    pub coins: Vec<OutPoint>,
 }
 
 impl Model for Request {
@@ -41,7 +42,7 @@ impl Model for Request {
 
     ghost Value = { PlainRequest };
 
-    ghost view = { λ r. record { recipients = r.recipients.items; rate = r.rate; coin = r.coin } };
+    ghost view = { λ r. record { recipients = r.recipients.items; rate = r.rate; coins = r.coins.items } };
 
     ghost use Rattle.fund_top.specs.PlainRequest.{AreAsked};
 
@@ -163,6 +164,44 @@ fn recipients_of(alloc: Global, value: &Value) -> Result<Vec<Recipient>, FormFau
     Ok(recipients)
 }
 
+fn coins_from(alloc: Global, values: &[Value]) -> Result<Vec<OutPoint>, FormFault>
+    ensures gives { Gives (λ v. v.items) result (each_from (λ _. coin_at) [] (items_view values.now)) }
+    ensures are { IfOk result (λ v. All IsPoint v.items) }
+{
+    let mut coins = Vec::new(alloc);
+    for value in values {
+        let coin = coin_of(value)?;
+        coins.push(coin)?;
+    }
+    Ok(coins)
+}
+
+/// Whether there is one at least, and each stands once.
+fn are_listed(alloc: Global, coins: &[OutPoint]) -> Result<bool, Memory>
+    ensures { IfOk result (λ r. r ≡ (nat_lt 0 (length coins.now) && are_apart same_outpoint coins.now)) }
+{
+    if coins.is_empty() {
+        return Ok(false);
+    }
+    are_apart(alloc, coins)
+}
+
+/// The coins, one at least and each of them once.
+#[tactic(auto, unfolding(crate::specs::RequestForm::coins_at))]
+fn coins_of(alloc: Global, value: &Value) -> Result<Vec<OutPoint>, FormFault>
+    ensures gives { Gives (λ v. v.items) result (coins_at (view value.now)) }
+    ensures are { IfOk result (λ v. All IsPoint v.items) }
+    ensures some { IfOk result (λ v. 0 < length v.items) }
+{
+    let entries = entries_of(value)?;
+    let coins = coins_from(alloc, entries)?;
+    let listed = are_listed(alloc, &coins)?;
+    if !listed {
+        return Err(FormFault::NotInForm);
+    }
+    Ok(coins)
+}
+
 #[tactic(auto, unfolding(crate::specs::RequestForm::request_at))]
 fn request_of(alloc: Global, value: &Value) -> Result<Request, FormFault>
     ensures gives { Gives (λ r. r) result (request_at (view value.now)) }
@@ -172,11 +211,11 @@ fn request_of(alloc: Global, value: &Value) -> Result<Request, FormFault>
     let recipients = recipients_of(alloc, member_of(value, "recipients")?)?;
     let rate = whole_of(member_of(value, "rate")?, MAX_RATE)?;
     is_manual(member_of(value, "method")?)?;
-    let coin = coin_of(only_entry(member_of(value, "coins")?)?)?;
+    let coins = coins_of(alloc, member_of(value, "coins")?)?;
     Ok(Request {
         recipients,
         rate,
-        coin,
+        coins,
     })
 }
 

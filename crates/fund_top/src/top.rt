@@ -13,7 +13,7 @@ ghost use Rattle.fund_top.specs.Text.{fault_line, refusal_words};
 ghost use Rattle.fund_top.specs.Words.{command_of};
 
 use crate::ending::{Ending, conclude};
-use crate::files::{Stop, read_inputs};
+use crate::files::{Inputs, Stop, read_inputs};
 use crate::output::{finish, put_fault, put_line, want_of_memory};
 use crate::refusal::{File, Refusal};
 use crate::status::Status;
@@ -36,8 +36,12 @@ fn outcome<H: Shelf>(alloc: Global, command: &Command, shelf: &mut H) -> Result<
     ensures writes { (H.view shelf.new).writes ≡ (H.view shelf.old).writes }
     ensures stop { IfErr result (StopsFor H.tells (plain command.now) (H.view shelf.old) (H.view shelf.new)) }
 {
-    let inputs = read_inputs(alloc, command, shelf)?;
-    conclude(alloc, &inputs.wallet, &inputs.request)
+    let Inputs {
+        wallet,
+        kept,
+        request,
+    } = read_inputs(alloc, command, shelf)?;
+    conclude(alloc, &wallet, kept, &request)
 }
 
 /// The name of a file of the command.
@@ -57,7 +61,7 @@ fn status_of(refusal: &Refusal) -> Status
 {
     match refusal {
         Refusal::TooLong(_) => Status::Limit,
-        Refusal::NotYet(_) | Refusal::NotEligible(_) => Status::Input,
+        _ => Status::Input,
     }
 }
 
@@ -136,7 +140,7 @@ fn fund<H: Shelf, O: Sink>(alloc: Global, command: &Command, shelf: &mut H, out:
     }
 }
 
-/// Funds a payment from a listed coin, as the words say, which are `fund WALLET BLOCKS REQUEST LOG`: it reads the
+/// Funds a payment from listed coins, as the words say, which are `fund WALLET BLOCKS REQUEST LOG`: it reads the
 /// three files, writes the log, and then prints the report to `out`. What is refused gets its fault line there.
 ///
 /// The clauses on content hold where the shelf and the sink tell theirs.
@@ -151,10 +155,10 @@ pub fn run<H: Shelf, O: Sink>(
     ensures usage_line { O.tells → result ≡ Status.Usage → GotLine (fault_line (codes "usage")) (O.view out.old) (O.view out.new) }
     ensures untouched { result ≡ Status.Usage → (H.view shelf.new) ≡ (H.view shelf.old) }
 
-    // Done: the coin is a candidate, the transaction pays what is asked, the log is written, the report is printed.
+    // Done: the coins are candidates, the transaction pays what is asked, the log is written, the report is printed.
     ensures done { result ≡ Status.Done → IfSome (command_of words.now.items) (λ c. EndsFunded H.tells O.tells c (H.view shelf.old) (H.view shelf.new) (O.view out.old) (O.view out.new)) }
 
-    // No selection: the listed coin is a candidate from which no transaction pays what is asked.
+    // No selection: the listed coins are candidates from which no transaction pays what is asked.
     ensures none { result ≡ Status.NoSelection → IfSome (command_of words.now.items) (λ c. EndsNotFunded H.tells O.tells c (H.view shelf.old) (H.view shelf.new) (O.view out.old) (O.view out.new)) }
 
     // Refusals: of the first rule that a file breaks.

@@ -1,24 +1,25 @@
-//! The wallet file in the form that is read today: one earlier transaction and no pending ones.
+//! The wallet file in the form that is read today: no pending transactions, and no locked coins.
 
-ghost use Rattle.std.specs.Prelude.{◌≡◌, ◌≤◌, ℕ, List, [], length, All, bytes_eq, IfOk};
+ghost use Rattle.std.specs.Prelude.{◌≡◌, ◌≤◌, [], length, map, All, bytes_eq, IfOk};
 ghost use Rattle.std.specs.List.{list_any};
 ghost use Rattle.serde_json.specs.View.{view, items_view};
 ghost use Rattle.fund_top.specs.Json.{Gives, each_from};
 ghost use Rattle.fund_top.specs.PlainWallet.{IsWatch};
 ghost use Rattle.tx_codec.specs.TransactionText.{IsTransaction};
-ghost use Rattle.fund_top.specs.Coinbase.{is_coinbase_of};
+ghost use Rattle.tx_codec.specs.Txid.{txid_of};
+ghost use Rattle.fund_top.specs.declared.wallet.Earlier.{Earlier as Entry};
 ghost use Rattle.fund_top.specs.Spelled.{AreBytes, IsSpelledWallet};
-ghost use Rattle.fund_top.specs.WalletForm.{script_at, watch_at, watch_behind, transaction_at, earlier_at, wallet_at, wallet_form};
+ghost use Rattle.fund_top.specs.WalletForm.{script_at, watch_at, watch_behind, transaction_at, earlier_at, earlier_list_at, wallet_at, wallet_form};
 
+use crate::apart::are_apart;
 use crate::json::{
-    FormFault, entries_of, hash_of, hex_of, member_of, object_of, only_entry, parse, text_of,
-    whole_of,
+    FormFault, entries_of, hash_of, hex_of, member_of, object_of, parse, text_of, whole_of,
 };
-use fund_base::Script;
+use fund_base::{Memory, Script, Txid};
 use serde_json::Value;
 use std::alloc::Global;
 use std::marker::Model;
-use tx_codec::{Tx, TxFault, read_whole_tx};
+use tx_codec::{Tx, TxFault, read_whole_tx, txid};
 
 /// A script that the wallet owns.
 #[derive(Debug, Drop)]
@@ -28,15 +29,27 @@ pub struct Watch {
     pub weight: u64,
 }
 
+/// A transaction that stood in the chain before the block file.
+#[derive(Debug, Drop)]
+pub struct Earlier {
+    pub tx: Tx,
+    /// The height of its block.
+    pub height: u32,
+}
+
 /// What the wallet file tells.
 #[derive(Debug, Drop)]
 pub struct Wallet {
+    /// The chain's height before the block file.
+    pub height: u32,
+    /// The hash of the block at that height, as stored; it is shown with its bytes reversed.
+    pub hash: [u8; 32],
     /// The scripts whose outputs are coins, no script twice.
     pub scripts: Vec<Watch>,
     /// Where change is paid.
     pub change: Watch,
-    /// The earlier transaction.
-    pub earlier: Tx,
+    /// Earlier confirmed transactions, no txid twice.
+    pub earlier: Vec<Earlier>,
 }
 
 impl Model for Wallet {
@@ -44,7 +57,7 @@ impl Model for Wallet {
 
     ghost Value = { PlainWallet };
 
-    ghost view = { λ w. record { scripts = w.scripts.items; change = w.change; earlier = w.earlier } };
+    ghost view = { λ w. record { height = w.height; hash = w.hash; scripts = w.scripts.items; change = w.change; earlier = w.earlier.items } };
 
     ghost use Rattle.fund_top.specs.PlainWallet.{AreWatches};
 
@@ -122,45 +135,72 @@ fn watches_of(alloc: Global, values: &[Value]) -> Result<Vec<Watch>, FormFault>
     Ok(watches)
 }
 
-/// Whether the transaction makes new coins: it has one input, whose previous txid is 32 zero bytes and whose index
-/// is FFFFFFFF.
-fn is_coinbase(tx: &Tx) -> bool
-    ensures { result ≡ is_coinbase_of tx.now }
-{
-    match tx.inputs.as_slice() {
-        [input] => input.prev.txid.bytes() == &[0; 32] && input.prev.index == u32::MAX,
-        _ => false,
-    }
-}
-
-/// The transaction in hex, which has witnesses and isn't a coinbase.
+/// The transaction in hex.
 #[tactic(auto, unfolding(crate::specs::WalletForm::transaction_at))]
 fn transaction_of(alloc: Global, value: &Value) -> Result<Tx, FormFault>
     ensures gives { Gives (λ t. t) result (transaction_at (view value.now)) }
     ensures is { IfOk result IsTransaction }
 {
     let bytes = hex_of(alloc, value)?;
-    let tx = match read_whole_tx(alloc, &bytes) {
-        Ok(tx) => tx,
-        Err(TxFault::Memory) => return Err(FormFault::Memory),
-        Err(_) => return Err(FormFault::NotInForm),
-    };
-    if !tx.segwit || is_coinbase(&tx) {
-        return Err(FormFault::NotInForm);
+    match read_whole_tx(alloc, &bytes) {
+        Ok(tx) => Ok(tx),
+        Err(TxFault::Memory) => Err(FormFault::Memory),
+        Err(_) => Err(FormFault::NotInForm),
     }
-    Ok(tx)
 }
 
-/// The transaction of the one earlier entry.
+/// An earlier entry, its height at most this one.
 #[tactic(auto, unfolding(crate::specs::WalletForm::earlier_at))]
-fn earlier_of(alloc: Global, value: &Value, height: u64) -> Result<Tx, FormFault>
-    ensures gives { Gives (λ t. t) result (earlier_at height (view value.now)) }
-    ensures is { IfOk result IsTransaction }
+fn entry_of(alloc: Global, value: &Value, height: u32) -> Result<Earlier, FormFault>
+    ensures gives { Gives (λ e. e) result (earlier_at height (view value.now)) }
+    ensures is { IfOk result (λ e. IsTransaction e.tx) }
 {
     object_of(value, 2)?;
     let tx = transaction_of(alloc, member_of(value, "tx")?)?;
-    whole_of(member_of(value, "height")?, height)?;
-    Ok(tx)
+    let own = whole_of(member_of(value, "height")?, u64::from(height))?;
+    Ok(Earlier {
+        tx,
+        height: own as u32,
+    })
+}
+
+fn earlier_from(alloc: Global, values: &[Value], height: u32) -> Result<Vec<Earlier>, FormFault>
+    ensures gives { Gives (λ v. v.items) result (each_from (λ _. earlier_at height) [] (items_view values.now)) }
+    ensures all { IfOk result (λ v. All (λ (e : Entry). IsTransaction e.tx) v.items) }
+{
+    let mut earlier = Vec::new(alloc);
+    for value in values {
+        let entry = entry_of(alloc, value, height)?;
+        earlier.push(entry)?;
+    }
+    Ok(earlier)
+}
+
+/// The txids of earlier transactions, in order.
+fn txids_of(alloc: Global, earlier: &[Earlier]) -> Result<Vec<Txid>, Memory>
+    ensures { IfOk result (λ v. v.items ≡ map (λ (e : Entry). txid_of e.tx) earlier.now) }
+{
+    let mut txids = Vec::new(alloc);
+    for entry in earlier {
+        txids.push(txid(&entry.tx))?;
+    }
+    Ok(txids)
+}
+
+/// The earlier entries, of which no two have one txid.
+#[tactic(auto, unfolding(crate::specs::WalletForm::earlier_list_at))]
+fn earlier_of(alloc: Global, value: &Value, height: u32) -> Result<Vec<Earlier>, FormFault>
+    ensures gives { Gives (λ v. v.items) result (earlier_list_at height (view value.now)) }
+    ensures all { IfOk result (λ v. All (λ (e : Entry). IsTransaction e.tx) v.items) }
+{
+    let entries = entries_of(value)?;
+    let earlier = earlier_from(alloc, entries, height)?;
+    let txids = txids_of(alloc, &earlier)?;
+    let apart = are_apart(alloc, &txids)?;
+    if !apart {
+        return Err(FormFault::NotInForm);
+    }
+    Ok(earlier)
 }
 
 #[tactic(auto, unfolding(crate::specs::WalletForm::wallet_at))]
@@ -169,12 +209,14 @@ fn wallet_of(alloc: Global, value: &Value) -> Result<Wallet, FormFault>
     ensures spelled { IfOk result IsSpelledWallet }
 {
     object_of(value, 5)?;
-    let height = whole_of(member_of(value, "height")?, MOST_HEIGHT)?;
-    hash_of(text_of(member_of(value, "hash")?)?)?;
+    let height = whole_of(member_of(value, "height")?, MOST_HEIGHT)? as u32;
+    let hash = hash_of(text_of(member_of(value, "hash")?)?)?;
     let scripts = watches_of(alloc, entries_of(member_of(value, "scripts")?)?)?;
     let change = watch_of(alloc, member_of(value, "change")?)?;
-    let earlier = earlier_of(alloc, only_entry(member_of(value, "earlier")?)?, height)?;
+    let earlier = earlier_of(alloc, member_of(value, "earlier")?, height)?;
     Ok(Wallet {
+        height,
+        hash,
         scripts,
         change,
         earlier,

@@ -1,13 +1,13 @@
-use Rattle.std.proofs.Common.{arith, subst, sym}
-use Rattle.std.proofs.lemmas.Grind.{common_steps}
-use Rattle.fund_top.specs.Decision.{Decides, decision_of}
-use Rattle.fund_top.proofs.DecisionLaws.{decision_is}
+use Rattle.std.proofs.Common.{◌≡◌, ◌≤◌, List, arith, subst}
+use Rattle.fund_top.specs.Candidate.{value_of}
+use Rattle.fund_top.specs.declared.coin.Coin.{Coin}
+use Rattle.fund_top.proofs.SelectionLaws.{listed_fit}
 use Rattle.fund_top.proofs.decision.decide.Goals as goal
 
-pub returns-in-Some-clause-exact : goal.returns-in-Some-clause-exact
-unfolding decision_of
-returns-in-Some-clause-exact c = grind (arith, common_steps)
-
-pub returns-in-Some-clause-meaning : goal.returns-in-Some-clause-meaning
-returns-in-Some-clause-meaning c =
-    subst (Decides c.args.wallet.now c.args.request.now) (sym (returns-in-Some-clause-exact c)) (decision_is c.args.wallet.now c.args.request.now)
+pub fund-requires : goal.fund-requires
+fund-requires c =
+    let most = c.from-most.ensures in
+    let sum = c.total-sum.ensures in
+    let few : value_of c.deref.result.now ≤ 2_100_000_000_000_000 = omega (arith, c.if-sum-most.false, most, sum) in
+    let within = subst (λ (l : List Coin). value_of l ≤ 2_100_000_000_000_000) c.deref.ensures.value few in
+    rw c.in_ok-coins-in-None.ensures (listed_fit c.deref-in-None.result.now c.args.coins.items c.requires within)

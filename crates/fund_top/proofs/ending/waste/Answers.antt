@@ -1,18 +1,28 @@
 use Rattle.std.specs.Prelude.{ℕ, ℤ, pos, neg_ℤ, ◌≡◌, ◌≤◌, ◌≤ℤ◌, ◌+ℤ◌, ◌-ℤ◌}
-use Rattle.std.proofs.Common.{arith, ap, ◌∙◌}
+use Rattle.std.proofs.Common.{arith, rules, ap, ◌∙◌}
 use Rattle.std.proofs.lemmas.Int.{ints}
 use Rattle.fund_top.specs.Report.{waste_of}
 use Rattle.fund_top.proofs.ending.waste.Goals as goal
 use mir.Syntax.{w128}
-use mir.Val.{to_z, of_z}
+use mir.Val.{to_z, of_z, SFits}
 
-less : (a b x y : ℤ) → neg_ℤ (pos 10_000_000_000) ≤ℤ a → a ≤ℤ pos 10_000_000_000 → neg_ℤ (pos 1_000_000_000_000_000_000_000) ≤ℤ b → b ≤ℤ pos 1_002_000_000_000_000_000_000 → a ≡ x → b ≡ y
+less : (a b x y : ℤ) → neg_ℤ (pos 1_000_000_000_000_000) ≤ℤ a → a ≤ℤ pos 1_000_000_000_000_000 → neg_ℤ (pos 1_000_000_000_000_000_000_000) ≤ℤ b → b ≤ℤ pos 1_002_000_000_000_000_000_000 → a ≡ x → b ≡ y
     → to_z w128 (of_z w128 (to_z w128 (of_z w128 a) -ℤ to_z w128 (of_z w128 b))) ≡ x -ℤ y
 less a b x y low high least most p q = omega (arith, ints)
 
-more : (a b x : ℤ) (n : ℕ) → neg_ℤ (pos 10_000_000_000) ≤ℤ a → a ≤ℤ pos 10_000_000_000 → n ≤ 100_010_000_000_000 → a ≡ x → b ≡ pos n
+more : (a b x : ℤ) (n : ℕ) → neg_ℤ (pos 1_000_000_000_000_000) ≤ℤ a → a ≤ℤ pos 1_000_000_000_000_000 → n ≤ 100_010_000_000_000 → a ≡ x → b ≡ pos n
     → to_z w128 (of_z w128 (to_z w128 (of_z w128 a) +ℤ to_z w128 (of_z w128 b))) ≡ x +ℤ pos n
 more a b x n low high most p q = omega (arith, ints)
+
+fits : (a b : ℤ) → neg_ℤ (pos 1_000_000_000_000_000) ≤ℤ a → a ≤ℤ pos 1_000_000_000_000_000 → neg_ℤ (pos 1_000_000_000_000_000_000_000) ≤ℤ b → b ≤ℤ pos 1_002_000_000_000_000_000_000
+    → SFits w128 (to_z w128 (of_z w128 a) -ℤ to_z w128 (of_z w128 b))
+fits a b low high least most = search (rules, ints)
+
+pub overflow_sub-result : goal.overflow_sub-result
+overflow_sub-result c =
+    let t = c.new-terms.ensures in
+    let k = c.cost-cost.ensures in
+    fits c.cost-cost.result c.new-terms.result.target k.low k.high t.target_low t.target_high
 
 pub returns-in-None : goal.returns-in-None
 unfolding waste_of

@@ -1,4 +1,4 @@
-use Rattle.block_feed.proofs.FeedLaws.{gives_before, gives_first, gives_found, gives_only, gives_end}
+use Rattle.block_feed.proofs.FeedLaws.{gives_before, gives_first, gives_found, gives_only, gives_end, gives_within}
 use Rattle.block_feed.proofs.Limits.{gives_limit}
 use Rattle.block_feed.proofs.feed.Feed.next.Goals as goal
 
@@ -25,3 +25,7 @@ returns-clause-first g c = λ told fine.
 pub returns-clause-limit : goal.returns-clause-limit
 returns-clause-limit g c = λ told fine limit.
     gives_limit 1073741824 ((g.H.Shelf.view c.args.shelf.now).files c.args.name.now) c.args.self.now c.advance.new.self c.advance.result (c.advance.ensures.exact told fine) limit
+
+pub returns-clause-within : goal.returns-clause-within
+returns-clause-within g c = λ told fine.
+    gives_within 1073741824 ((g.H.Shelf.view c.args.shelf.now).files c.args.name.now) c.args.self.now c.advance.new.self c.advance.result (c.advance.ensures.exact told fine) (c.advance.ensures.bytes told fine)
