@@ -1,3 +1,4 @@
+pub mod Candidates
 pub mod Causes
 pub mod CompactSize
 pub mod Cursor
