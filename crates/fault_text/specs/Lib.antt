@@ -1,0 +1,4 @@
+pub mod Coin
+pub mod Lines
+pub mod Name
+pub mod Words

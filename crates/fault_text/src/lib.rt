@@ -1,0 +1,24 @@
+//! The words in which faults, coins and names are told, in fault lines and in listings: pure functions from
+//! a value to its text. A fault is told by its variant's name and its fields, each after one blank, and a
+//! fault within a fault likewise.
+#![tactic(auto)]
+
+mod address;
+mod blocks;
+mod coin;
+mod laws;
+mod name;
+mod request;
+#[cfg(test)]
+mod tests;
+mod transaction;
+mod wallet;
+
+pub use address::address_fault_words;
+pub use blocks::feed_fault_words;
+pub use coin::{coin_text, shown_hash};
+pub use laws::names_are_told_apart;
+pub use name::shown_name;
+pub use request::request_fault_words;
+pub use transaction::tx_fault_words;
+pub use wallet::wallet_fault_words;
