@@ -1,0 +1,195 @@
+-- One block more.
+use Rattle.std.proofs.Common.{◌≡◌, ◌≢◌, ◌∙◌, ℕ, ◌+◌, ◌<◌, ◌≤◌, Bool, true, false, cond, ◌||◌, ◌&&◌, not, List, [], ◌∷◌, ◌++◌, length, map, filter, Option, Some, None, All, Vec, Global, refl, sym, ap, subst, arith, append_assoc, true≢false}
+use Rattle.std.specs.Prelude.{bytes_eq, is_none, is_some, nat_le, nat_lt}
+use Rattle.std.specs.List.{AllByRecursion, IsDistinct, flat_map, list_any}
+use Rattle.std.specs.Map.{keys_of, lookup}
+use Rattle.std.specs.Option.{option_or}
+use Rattle.std.proofs.lemmas.Bool.{le-ltb, leb-false, leb-true, lt-ltb, ltb-false, ltb-true}
+use Rattle.std.proofs.lemmas.Grind.{flat_map-append}
+use Rattle.std.proofs.lemmas.List.{append-nil, length-append, length-map, map-append}
+use Rattle.std.proofs.lemmas.List.Folds.{list_any-append}
+use Rattle.std.proofs.lemmas.Map.Keys.{IsDistinct-head, IsDistinct-tail}
+use Rattle.std.proofs.lemmas.Map.Made.{is_some-lookup}
+use Rattle.std.proofs.lemmas.Slice.Eq.{bytes_eq-Decides}
+use Rattle.indexmap.specs.IndexMap.{insert_all}
+use Rattle.fund_base.specs.Outpoints.{same_outpoint}
+use Rattle.fund_base.specs.declared.outpoint.OutPoint.{OutPoint}
+use Rattle.tx_codec.specs.Transaction.{Transaction}
+use Rattle.tx_codec.specs.Txid.{txid_of}
+use Rattle.block_feed.specs.Block.{ChainBlock}
+use Rattle.wallet_text.specs.PlainWallet.{PlainWallet}
+use Rattle.std.specs.declared.snapshot.Snapshot.{Snapshot}
+use Rattle.coin_book.specs.Coins.{Made, coin_at, coins_below, confirmed_made, is_open, made_by, made_in, pending_made, weight_for}
+use Rattle.coin_book.specs.Faults.{fault_behind, fault_of, full_at, points}
+use Rattle.coin_book.specs.History.{Confirmed, History, confirmed_at, confirmed_before, confirmed_in, with_block}
+use Rattle.coin_book.specs.Kept.{HoldsChain, HoldsCoins, IsKept, history_of, points_in, weigher}
+use Rattle.coin_book.specs.Spends.{height_of, spends_below, spends_of}
+use Rattle.coin_book.specs.Steps.{all_in, shares, spends_in, staying, stays}
+use Rattle.coin_book.specs.declared.coin.Spend.{Spend}
+use Rattle.coin_book.specs.declared.fault.BookFault.{BookFault}
+use Rattle.coin_book.specs.declared.fault.BookFault.TheVariants.{Full}
+use Rattle.coin_book.specs.declared.held.Held.{Held}
+use Rattle.coin_book.specs.declared.ledger.Ledger.{Ledger}
+use Rattle.coin_book.proofs.ChainSteps.{points_push}
+use Rattle.coin_book.proofs.FaultSteps.{fault_first, fault_rest, held_count, no_room_for, room_for, sound_confirmed}
+use Rattle.coin_book.proofs.ListSteps.{all_is_one}
+use Rattle.coin_book.proofs.MapSteps.{fault_more}
+use Rattle.coin_book.proofs.MergeSteps.{coins_behind, heights_behind, lookup_both}
+use Rattle.coin_book.proofs.PendingSteps.{both_hold, height_at}
+use Rattle.coin_book.proofs.StaySteps.{left_is, settled}
+
+-- ---- two ledgers put together
+
+pub chain_joined : (weigh : List ℕ → Option ℕ) (before behind : List Confirmed) (base more new : Ledger) → HoldsChain weigh [] before base → HoldsChain weigh before behind more → fault_behind (points_in weigh before) (points_in weigh behind) ≡ None
+    → IsDistinct bytes_eq (keys_of more.heights.entries) → IsDistinct same_outpoint (keys_of more.spends.entries)
+    → new.coins.entries ≡ insert_all same_outpoint base.coins.entries more.coins.entries → new.heights.entries ≡ insert_all bytes_eq base.heights.entries more.heights.entries
+    → ((o : OutPoint) → spends_in new.spends.entries o ≡ spends_in base.spends.entries o ++ all_in more.spends.entries o) → HoldsChain weigh [] (before ++ behind) new
+unfolding height_of spends_below
+chain_joined weigh before behind base more new under h fresh once each coins heights spends =
+    let known : (t : List ℕ) → height_of before t ≡ lookup (bytes_eq t) base.heights.entries = λ t. under.heights t in
+    let apart : (t : List ℕ) → is_some (lookup (bytes_eq t) base.heights.entries) ≡ true → lookup (bytes_eq t) more.heights.entries ≡ None = λ t there. h.apart t (ap (λ (o : Option ℕ). is_some o) (known t) ∙ there) in
+    let tall = heights ∙ heights_behind base.heights.entries more.heights.entries once apart in
+    let put = coins ∙ coins_behind base.coins.entries more.coins.entries ((λ k. fault_behind (under.coins.keys_are k) (h.coins.keys_are k)) ∙ fresh) in
+    record {
+      coins = subst (λ (m : List Made). HoldsCoins m new.coins.entries) (sym (flat_map-append (made_by weigh) before behind))
+          (both_hold (flat_map (made_by weigh) before) (flat_map (made_by weigh) behind) base.coins.entries more.coins.entries new.coins.entries under.coins h.coins put);
+      spends = λ o.
+          h.spends o
+          ∙ ap (λ (l : List Spend). l ++ spends_in more.spends.entries o) (under.spends o)
+          ∙ ap (λ (l : List Spend). spends_in base.spends.entries o ++ l) (sym (all_is_one more.spends.entries o each))
+          ∙ sym (spends o);
+      heights = λ t.
+          h.heights t
+          ∙ ap (λ (o : Option ℕ). option_or o (lookup (bytes_eq t) more.heights.entries)) (known t)
+          ∙ sym (lookup_both (bytes_eq t) base.heights.entries more.heights.entries)
+          ∙ ap (lookup (bytes_eq t)) (sym tall);
+      apart = λ t there. absurd cc;
+    }
+
+-- a ledger that tells the same
+pub chain_same : (weigh : List ℕ → Option ℕ) (before : List Confirmed) (base new : Ledger) → HoldsChain weigh [] before base → new.coins.entries ≡ base.coins.entries → new.heights.entries ≡ base.heights.entries
+    → ((o : OutPoint) → spends_in new.spends.entries o ≡ spends_in base.spends.entries o) → HoldsChain weigh [] before new
+unfolding height_of spends_below
+chain_same weigh before base new h coins heights spends = record {
+  coins = subst (λ (es : List (OutPoint × Held)). HoldsCoins (flat_map (made_by weigh) before) es) (sym coins) h.coins;
+  spends = λ o. h.spends o ∙ sym (spends o);
+  heights = λ t. h.heights t ∙ ap (lookup (bytes_eq t)) (sym heights);
+  apart = λ t there. absurd cc;
+}
+
+-- ---- the fault of the history with the block
+
+made_more : (h : History) (b : ChainBlock) → points (confirmed_made (with_block h b)) ≡ points (confirmed_made h) ++ points_in (weight_for h.scripts) (confirmed_in b)
+made_more h b = points_push (weight_for h.scripts) h.confirmed (confirmed_in b)
+
+confirmed_fault : (h : History) (b : ChainBlock) → fault_of h ≡ None → fault_behind [] (points (confirmed_made (with_block h b))) ≡ fault_behind (points_in (weight_for h.scripts) h.confirmed) (points_in (weight_for h.scripts) (confirmed_in b))
+confirmed_fault h b sound =
+    ap (fault_behind []) (made_more h b)
+    ∙ fault_more [] (points (confirmed_made h)) (points_in (weight_for h.scripts) (confirmed_in b))
+    ∙ ap (λ (o : Option BookFault). option_or o (fault_behind (points (confirmed_made h)) (points_in (weight_for h.scripts) (confirmed_in b)))) (sound_confirmed h sound)
+
+pub block_fault : (h : History) (ws : List (Vec ℕ Global × ℕ)) (l : Ledger) (ps : List (OutPoint × Held)) (txids : List (List ℕ)) (count : ℕ) (b : ChainBlock) (e : BookFault) → IsKept h ws l ps txids count
+    → fault_behind (points_in (weigher ws) h.confirmed) (points_in (weigher ws) (confirmed_in b)) ≡ Some e → fault_of (with_block h b) ≡ Some e
+block_fault h ws l ps txids count b e k is =
+    fault_first (with_block h b) e (confirmed_fault h b k.sound ∙ sym (λ j. fault_behind (points_in (k.weights_are j) h.confirmed) (points_in (k.weights_are j) (confirmed_in b))) ∙ is)
+
+-- the ledger under the weights that are held
+pub kept_chain : (h : History) (ws : List (Vec ℕ Global × ℕ)) (l : Ledger) (ps : List (OutPoint × Held)) (txids : List (List ℕ)) (count : ℕ) → IsKept h ws l ps txids count → HoldsChain (weigher ws) [] h.confirmed l
+kept_chain h ws l ps txids count k = subst (λ (f : List ℕ → Option ℕ). HoldsChain f [] h.confirmed l) (sym k.weights_are) k.chain
+
+-- What is known before a block is added: the book, the block's own ledger, and how many coins still wait.
+pub record IsNext (h : History) (b : ChainBlock) (ws : List (Vec ℕ Global × ℕ)) (l more : Ledger) (ps : List (OutPoint × Held)) (txids : List (List ℕ)) (count left : ℕ) : Type 0 where
+  pub kept : IsKept h ws l ps txids count
+  pub holds : HoldsChain (weigher ws) h.confirmed (confirmed_in b) more
+  pub none : fault_behind (points_in (weigher ws) h.confirmed) (points_in (weigher ws) (confirmed_in b)) ≡ None
+  pub many : left ≡ length (pending_made (with_block h b))
+
+pub block_next : (h : History) (b : ChainBlock) (ws : List (Vec ℕ Global × ℕ)) (l more : Ledger) (ps : List (OutPoint × Held)) (txids : List (List ℕ)) (count left : ℕ) (chain : List Confirmed) → IsKept h ws l ps txids count → chain ≡ confirmed_in b
+    → HoldsChain (weigher ws) h.confirmed chain more → fault_behind (points_in (weigher ws) h.confirmed) (points_in (weigher ws) chain) ≡ None
+    → left ≡ cond (shares txids more.heights.entries) (length (filter (stays more.heights.entries) (keys_of ps))) (length ps) → IsNext h b ws l more ps txids count left
+block_next h b ws l more ps txids count left chain k same holds none told =
+    let held = subst (λ (c : List Confirmed). HoldsChain (weigher ws) h.confirmed c more) same holds in
+    record {
+      kept = k;
+      holds = held;
+      none = subst (λ (c : List Confirmed). fault_behind (points_in (weigher ws) h.confirmed) (points_in (weigher ws) c) ≡ None) same none;
+      many = left_is h b (weigher ws) more ps txids left held k.waiting k.txids_are told;
+    }
+
+-- the coins of the ledgers and those that still wait are all
+block_total : (h : History) (b : ChainBlock) (ws : List (Vec ℕ Global × ℕ)) (l more : Ledger) (ps : List (OutPoint × Held)) (txids : List (List ℕ)) (count left : ℕ) → IsNext h b ws l more ps txids count left
+    → fault_of (with_block h b) ≡ full_at (length l.coins.entries + length more.coins.entries + left)
+block_total h b ws l more ps txids count left n =
+    let c = held_count (confirmed_made h) l.coins.entries n.kept.chain.coins in
+    let d = held_count (flat_map (made_by (weigher ws)) (confirmed_in b)) more.coins.entries n.holds.coins in
+    let w = ap (λ (f : List ℕ → Option ℕ). length (flat_map (made_by f) (confirmed_in b))) n.kept.weights_are in
+    let m = ap (λ (l : List Made). length l) (flat_map-append (made_by (weight_for h.scripts)) h.confirmed (confirmed_in b)) in
+    let s = length-append (confirmed_made h) (flat_map (made_by (weight_for h.scripts)) (confirmed_in b)) in
+    let many = n.many in
+    let all : length (confirmed_made (with_block h b)) + length (pending_made (with_block h b)) ≡ length l.coins.entries + length more.coins.entries + left = omega arith in
+    fault_rest (with_block h b) (confirmed_fault h b n.kept.sound ∙ sym (λ j. fault_behind (points_in (n.kept.weights_are j) h.confirmed) (points_in (n.kept.weights_are j) (confirmed_in b))) ∙ n.none)
+    ∙ ap full_at all
+
+pub block_full : (h : History) (b : ChainBlock) (ws : List (Vec ℕ Global × ℕ)) (l more : Ledger) (ps : List (OutPoint × Held)) (txids : List (List ℕ)) (count left : ℕ) → IsNext h b ws l more ps txids count left
+    → nat_le (length l.coins.entries + length more.coins.entries + left) 100_000 ≡ false → fault_of (with_block h b) ≡ Some Full
+block_full h b ws l more ps txids count left n over =
+    block_total h b ws l more ps txids count left n
+    ∙ no_room_for (length l.coins.entries + length more.coins.entries + left) (leb-false (length l.coins.entries + length more.coins.entries + left) 100_000 over)
+
+pub block_sound : (h : History) (b : ChainBlock) (ws : List (Vec ℕ Global × ℕ)) (l more : Ledger) (ps : List (OutPoint × Held)) (txids : List (List ℕ)) (count left : ℕ) → IsNext h b ws l more ps txids count left
+    → nat_le (length l.coins.entries + length more.coins.entries + left) 100_000 ≡ true → fault_of (with_block h b) ≡ None
+block_sound h b ws l more ps txids count left n within =
+    block_total h b ws l more ps txids count left n
+    ∙ room_for (length l.coins.entries + length more.coins.entries + left) (leb-true (length l.coins.entries + length more.coins.entries + left) 100_000 within)
+
+-- ---- the book with it
+
+-- what the ledger became
+pub record Joins (l more new : Ledger) : Type 0 where
+  pub coins : new.coins.entries ≡ insert_all same_outpoint l.coins.entries more.coins.entries
+  pub heights : new.heights.entries ≡ insert_all bytes_eq l.heights.entries more.heights.entries
+  pub spends : (o : OutPoint) → spends_in new.spends.entries o ≡ spends_in l.spends.entries o ++ all_in more.spends.entries o
+  pub heights_apart : IsDistinct bytes_eq (keys_of more.heights.entries)
+  pub spends_apart : IsDistinct same_outpoint (keys_of more.spends.entries)
+
+pub block_kept : (h g : History) (b : ChainBlock) (ws : List (Vec ℕ Global × ℕ)) (l more new : Ledger) (ps rest : List (OutPoint × Held)) (txids : List (List ℕ)) (count left total : ℕ) → IsNext h b ws l more ps txids count left → Joins l more new
+    → nat_le (length l.coins.entries + length more.coins.entries + left) 100_000 ≡ true → rest ≡ cond (nat_lt left (length ps)) (staying new.heights.entries ps) ps → total ≡ count + length b.txs → with_block h b ≡ g → IsKept g ws new rest txids total
+block_kept h g b ws l more new ps rest txids count left total n j within settle sum same =
+    let weights = n.kept.weights_are in
+    let chain = chain_joined (weight_for h.scripts) h.confirmed (confirmed_in b) l more new n.kept.chain (subst (λ (f : List ℕ → Option ℕ). HoldsChain f h.confirmed (confirmed_in b) more) weights n.holds)
+    (sym (λ i. fault_behind (points_in (weights i) h.confirmed) (points_in (weights i) (confirmed_in b))) ∙ n.none) j.heights_apart j.spends_apart j.coins j.heights j.spends in
+    let a = n.kept.count_is in
+    let m = length-map b.txs (confirmed_at b.height) in
+    let c = length-append h.confirmed (confirmed_in b) in
+    subst (λ (g : History). IsKept g ws new rest txids total) same
+    (record {
+      weights_are = weights;
+      chain = chain;
+      waiting = settled h b (weigher ws) more ps rest new.heights.entries left n.holds n.kept.waiting (λ t. height_at (weight_for h.scripts) (h.confirmed ++ confirmed_in b) new t chain) n.many settle;
+      txids_are = n.kept.txids_are;
+      count_is = omega arith;
+      sound = block_sound h b ws l more ps txids count left n within;
+    })
+
+-- a ledger that tells the same serves as well
+pub block_back : (h : History) (ws : List (Vec ℕ Global × ℕ)) (l new : Ledger) (ps : List (OutPoint × Held)) (txids : List (List ℕ)) (count : ℕ) → IsKept h ws l ps txids count
+    → new.coins.entries ≡ l.coins.entries → new.heights.entries ≡ l.heights.entries → ((o : OutPoint) → spends_in new.spends.entries o ≡ spends_in l.spends.entries o) → IsKept h ws new ps txids count
+block_back h ws l new ps txids count k coins heights spends = record {
+  weights_are = k.weights_are;
+  chain = chain_same (weight_for h.scripts) h.confirmed l new k.chain coins heights spends;
+  waiting = k.waiting;
+  txids_are = k.txids_are;
+  count_is = k.count_is;
+  sound = k.sound;
+}
+
+pub one_block : (w : PlainWallet) (waiting : List (Snapshot Transaction)) (old all new : List (Snapshot ChainBlock)) (s : Snapshot ChainBlock) (b : ChainBlock) → s.value ≡ b → all ≡ old → new ≡ all ++ s ∷ [] → with_block (history_of w old waiting) b ≡ history_of w new waiting
+one_block w waiting old all new s b is same put =
+    let f : Snapshot ChainBlock → List Confirmed = λ s. confirmed_in s.value in
+    let front = map confirmed_before w.earlier in
+    let tail : front ++ flat_map f new ≡ (front ++ flat_map f old) ++ confirmed_in b =
+    ap (λ (l : List (Snapshot ChainBlock)). front ++ flat_map f l) (put ∙ ap (λ (l : List (Snapshot ChainBlock)). l ++ s ∷ []) same)
+    ∙ ap (λ (l : List Confirmed). front ++ l) (flat_map-append f old (s ∷ []) ∙ ap (λ (l : List Confirmed). flat_map f old ++ l) (append-nil (f s) ∙ ap confirmed_in is))
+    ∙ sym (append_assoc front (flat_map f old) (confirmed_in b))
+    in
+    λ k. record { scripts = w.scripts; confirmed = sym tail k; pending = map (λ (s : Snapshot Transaction). s.value) waiting }

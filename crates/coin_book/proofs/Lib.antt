@@ -1,0 +1,15 @@
+pub mod Shown
+pub mod Calls
+pub mod ChainSteps
+pub mod CoinSteps
+pub mod MapSteps
+pub mod WeightSteps
+pub mod Started
+pub mod FaultSteps
+pub mod WaitSteps
+pub mod MergeSteps
+pub mod PendingSteps
+pub mod ListSteps
+pub mod StaySteps
+pub mod BlockSteps
+pub mod LawSteps

@@ -1,0 +1,5 @@
+use Rattle.coin_book.proofs.Calls.{comes_to}
+use Rattle.coin_book.proofs.laws.order_of_calls.Goals as goal
+
+pub returns : goal.returns
+returns c = comes_to

@@ -1,0 +1,28 @@
+use Rattle.std.proofs.Common.{◌≡◌, ◌∙◌, ◌+◌, ◌-◌, ◌≤◌, ap, sym, refl, take, ◌++◌, [], List, arith, length}
+use Rattle.std.proofs.lemmas.List.{append-nil}
+use Rattle.fund_base.specs.declared.outpoint.OutPoint.{OutPoint}
+use Rattle.coin_book.specs.Steps.{all_in, spends_in}
+use Rattle.coin_book.specs.declared.coin.Spend.{Spend}
+use Rattle.coin_book.proofs.ListSteps.{cut_one}
+use Rattle.coin_book.proofs.merging.cut_lists.Goals as goal
+
+pub loop-left-preserved-in-Some : goal.loop-left-preserved-in-Some
+loop-left-preserved-in-Some c =
+    let es = c.args.more.now.entries in
+    let some = c.loop-left-test.true in
+    let le = c.loop-left.invariant.within in
+    let next : c.loop-left.left ≡ c.loop-left.left - 1 + 1 = omega arith in
+    record {
+      within = omega arith;
+      cut = λ front first o.
+          cut_one es (c.loop-left.left - 1) c.in-Some.point.now c.in-Some.list.now c.len.result (front o) (spends_in c.loop-left.spends.entries o) (spends_in c.cut_list.new.spends.entries o) o
+          (sym c.in-Some.ensures.entry) (c.len.ensures ∙ c.in-Some.list.now.ok.0)
+          (c.loop-left.invariant.cut front first o ∙ ap (λ n. front o ++ all_in (take n es) o) next)
+          (c.cut_list.ensures o);
+    }
+
+pub returns : goal.returns
+returns c = λ front first o.
+    let done = c.loop-left-test.false in
+    let none : c.loop-left.left ≡ 0 = omega arith in
+    c.loop-left.invariant.cut front first o ∙ ap (λ n. front o ++ all_in (take n c.args.more.now.entries) o) none ∙ append-nil (front o)

@@ -1,0 +1,45 @@
+-- What the steps of adding a transaction speak of.
+use Rattle.std.specs.Prelude.{ℕ, ◌≡◌, ◌≢◌, Bool, List, [], filter, flat_map, Option, Some, None, is_none, Result, Ok, Err, Vec, bytes_eq, if◌then◌else◌}
+use Rattle.std.specs.List.{list_any}
+use Rattle.std.specs.declared.alloc.Global.{Global}
+use Rattle.std.specs.Map.{keys_of, lookup}
+use Rattle.std.specs.Option.{option_map_or}
+use Rattle.fund_base.specs.Outpoints.{same_outpoint}
+use Rattle.fund_base.specs.declared.outpoint.OutPoint.{OutPoint}
+use Rattle.coin_book.specs.declared.coin.Spend.{Spend}
+use Rattle.coin_book.specs.declared.fault.BookFault.{BookFault}
+use Rattle.coin_book.specs.declared.fault.BookFault.TheVariants.{Memory}
+use Rattle.coin_book.specs.declared.held.Held.{Held}
+
+-- the outpoint of what is held
+abbrev pub held_point : Held → OutPoint
+held_point held = held.coin.coin
+
+-- what is held, under its outpoint
+abbrev pub entry_of : Held → OutPoint × Held
+entry_of held = (held.coin.coin, held)
+
+-- the spends that are kept of an outpoint
+abbrev pub spends_in : List (OutPoint × Vec Spend Global) → OutPoint → List Spend
+spends_in entries o = option_map_or (λ (v : Vec Spend Global). v.items) (lookup (same_outpoint o) entries) []
+
+-- all spends of an outpoint in the entries under it
+abbrev pub all_in : List (OutPoint × Vec Spend Global) → OutPoint → List Spend
+all_in entries o = flat_map (λ (e : OutPoint × Vec Spend Global). if same_outpoint e.0 o then e.1.items else []) entries
+
+-- a coin at this outpoint stays among those that wait, since its txid has no height among these
+abbrev pub stays : List (List ℕ × ℕ) → OutPoint → Bool
+stays heights o = is_none (lookup (bytes_eq o.txid) heights)
+
+-- the entries that stay
+abbrev pub staying : List (List ℕ × ℕ) → List (OutPoint × Held) → List (OutPoint × Held)
+staying heights entries = filter (λ (e : OutPoint × Held). stays heights e.0) entries
+
+-- some txid has a height
+abbrev pub shares : List (List ℕ) → List (List ℕ × ℕ) → Bool
+shares txids heights = list_any (λ (t : List ℕ). list_any (bytes_eq t) txids) (keys_of heights)
+
+-- the call found no fault where there is none, or the first, or memory was short
+abbrev pub Meets : {A : Type 0} → Result A BookFault → Option BookFault → Type 0
+Meets (Ok a) fault = fault ≡ None
+Meets (Err e) fault = e ≢ Memory → fault ≡ Some e

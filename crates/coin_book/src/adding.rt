@@ -1,0 +1,114 @@
+//! Transactions added to a ledger.
+
+ghost use Rattle.std.specs.Prelude.{ℕ, ◌≡◌, ◌+◌, ◌<◌, ◌^◌, ◌++◌, ◌∷◌, [], IfOk, List, OnOk, Some, bytes_eq, length, map, if◌then◌else◌};
+ghost use Rattle.std.specs.Map.{lookup};
+ghost use Rattle.fund_base.specs.declared.outpoint.OutPoint.{OutPoint};
+ghost use Rattle.coin_book.specs.Coins.{made_by};
+ghost use Rattle.coin_book.specs.Faults.{points, fault_behind};
+ghost use Rattle.coin_book.specs.History.{Confirmed, confirmed_at};
+ghost use Rattle.coin_book.specs.Kept.{HoldsChain, is_known, points_in, weigher};
+ghost use Rattle.coin_book.specs.Spends.{has_input};
+ghost use Rattle.coin_book.specs.Steps.{Meets, spends_in};
+
+use crate::coin::Spend;
+use crate::fault::BookFault;
+use crate::ledger::{Ledger, Weights, add_coins, add_spends};
+use crate::making::held_in;
+use fund_base::{Memory, Txid};
+use std::alloc::Global;
+use tx_codec::{Tx, TxIn, txid};
+
+impl Ledger {
+    /// Whether a transaction of this txid stands here or in the other ledger.
+    fn is_known(&self, base: &Ledger, txid: &Txid) -> bool
+        ensures { result ≡ is_known base.now self.now txid.now }
+    {
+        base.heights.contains_key(txid) || self.heights.contains_key(txid)
+    }
+
+    /// Adds the height and the spends of a transaction of this txid, unless one stands here or in the other ledger.
+    fn add_spender(
+        &mut self,
+        alloc: Global,
+        base: &Ledger,
+        inputs: &[TxIn],
+        spend: &Spend,
+    ) -> Result<(), Memory>
+        ensures coins { self.new.coins ≡ self.old.coins }
+        ensures heights { (t : List ℕ) → OnOk result (lookup (bytes_eq t) self.new.heights.entries ≡ (if is_known base.now self.old spend.now.txid then lookup (bytes_eq t) self.old.heights.entries else if bytes_eq spend.now.txid t then Some spend.now.height else lookup (bytes_eq t) self.old.heights.entries)) }
+        ensures spends { (o : OutPoint) → OnOk result (spends_in self.new.spends.entries o ≡ spends_in self.old.spends.entries o ++ (if is_known base.now self.old spend.now.txid then [] else if has_input o inputs.now then spend.now ∷ [] else [])) }
+    {
+        if self.is_known(base, &spend.txid) {
+            return Ok(());
+        }
+        self.heights.insert(spend.txid, spend.height)?;
+        add_spends(alloc, &mut self.spends, inputs, spend)?;
+        Ok(())
+    }
+
+    /// Adds the transaction that stands behind these and those of `base`, at this height and place. RepeatCoin or Full
+    /// comes exactly where an outpoint would be a coin twice or a coin be number 100,001, by the first coin of which this
+    /// is so.
+    pub fn add(
+        &mut self,
+        alloc: Global,
+        base: &Ledger,
+        weights: &Weights,
+        tx: &Tx,
+        height: u32,
+        place: u64,
+    ) -> Result<(), BookFault>
+        ensures holds { (before behind : List Confirmed) → HoldsChain (weigher weights.now.entries) [] before base.now → HoldsChain (weigher weights.now.entries) before behind self.old → place ≡ length (before ++ behind)
+            → OnOk result (HoldsChain (weigher weights.now.entries) before (behind ++ confirmed_at height tx.now ∷ []) self.new) }
+        ensures exact { (before behind : List Confirmed) → HoldsChain (weigher weights.now.entries) [] before base.now → HoldsChain (weigher weights.now.entries) before behind self.old
+            → Meets result (fault_behind (points_in (weigher weights.now.entries) before ++ points_in (weigher weights.now.entries) behind) (points (made_by (weigher weights.now.entries) (confirmed_at height tx.now)))) }
+    {
+        let txid = txid(tx);
+        let held = held_in(alloc, weights, tx, txid, Some(height))?;
+        match add_coins(&mut self.coins, &base.coins, held) {
+            Ok(()) => {}
+            Err(fault) => return Err(fault),
+        }
+        let spend = Spend {
+            txid,
+            height,
+            place,
+        };
+        self.add_spender(alloc, base, &tx.inputs, &spend)?;
+        Ok(())
+    }
+}
+
+/// A ledger of transactions at one height, which stand behind those of `base`, the first at this place. RepeatCoin or
+/// Full comes exactly where an outpoint would be a coin twice or a coin be number 100,001, by the first coin of which
+/// this is so.
+pub fn ledger_behind(
+    alloc: Global,
+    base: &Ledger,
+    weights: &Weights,
+    txs: &[Tx],
+    height: u32,
+    first: u64,
+) -> Result<Ledger, BookFault>
+    requires { first + length txs.now < 2 ^ 64 }
+    ensures holds { (before : List Confirmed) → HoldsChain (weigher weights.now.entries) [] before base.now → first ≡ length before
+        → IfOk result (λ l. HoldsChain (weigher weights.now.entries) before (map (confirmed_at height) txs.now) l) }
+    ensures exact { (before : List Confirmed) → HoldsChain (weigher weights.now.entries) [] before base.now → first ≡ length before
+        → Meets result (fault_behind (points_in (weigher weights.now.entries) before) (points_in (weigher weights.now.entries) (map (confirmed_at height) txs.now))) }
+{
+    let mut ledger = Ledger::new(alloc);
+    for index in 0..txs.len() {
+        match ledger.add(
+            alloc,
+            base,
+            weights,
+            &txs[index],
+            height,
+            first + index as u64,
+        ) {
+            Ok(()) => {}
+            Err(fault) => return Err(fault),
+        }
+    }
+    Ok(ledger)
+}

@@ -1,0 +1,47 @@
+//! What a wallet tells of coins before any block: its scripts, and its earlier transactions.
+
+ghost use Rattle.std.specs.Prelude.{◌≡◌, [], IfOk, map};
+ghost use Rattle.coin_book.specs.Coins.{weight_for};
+ghost use Rattle.coin_book.specs.Faults.{fault_behind};
+ghost use Rattle.coin_book.specs.History.{confirmed_before};
+ghost use Rattle.coin_book.specs.Kept.{HoldsChain, points_in, weigher};
+ghost use Rattle.coin_book.specs.Steps.{Meets};
+
+use crate::fault::BookFault;
+use crate::ledger::{Ledger, Weights};
+use fund_base::Memory;
+use indexmap::IndexMap;
+use std::alloc::Global;
+use wallet_text::{Earlier, Watch};
+
+/// The listed scripts with their weights.
+pub fn weights_of(alloc: Global, scripts: &[Watch]) -> Result<Weights, Memory>
+    ensures { IfOk result (λ m. weigher m.entries ≡ weight_for scripts.now) }
+{
+    let mut weights = IndexMap::new(alloc);
+    for watch in scripts {
+        if !weights.contains_key(watch.script.bytes()) {
+            let script = watch.script.bytes().to_vec(alloc)?;
+            weights.insert(script, watch.weight)?;
+        }
+    }
+    Ok(weights)
+}
+
+/// A ledger of the earlier transactions. RepeatCoin or Full comes exactly where an outpoint would be a coin twice or a
+/// coin be number 100,001, by the first coin of which this is so.
+pub fn ledger_of(alloc: Global, weights: &Weights, earlier: &[Earlier]) -> Result<Ledger, BookFault>
+    ensures holds { IfOk result (λ l. HoldsChain (weigher weights.now.entries) [] (map confirmed_before earlier.now) l) }
+    ensures exact { Meets result (fault_behind [] (points_in (weigher weights.now.entries) (map confirmed_before earlier.now))) }
+{
+    let base = Ledger::new(alloc);
+    let mut ledger = Ledger::new(alloc);
+    for index in 0..earlier.len() {
+        let entry = &earlier[index];
+        match ledger.add(alloc, &base, weights, &entry.tx, entry.height, index as u64) {
+            Ok(()) => {}
+            Err(fault) => return Err(fault),
+        }
+    }
+    Ok(ledger)
+}

@@ -1,0 +1,192 @@
+//! What is held of confirmed transactions.
+
+ghost use Rattle.std.specs.Prelude.{◌≡◌, ◌++◌, ◌∷◌, [], ◌+◌, List, IfOk, OnErr, OnOk, length, map, nat_lt, ◌||◌, if◌then◌else◌};
+ghost use Rattle.std.specs.List.{list_any};
+ghost use Rattle.std.specs.Map.{keys_of};
+ghost use Rattle.indexmap.specs.IndexSet.{contains};
+ghost use Rattle.fund_base.specs.Outpoints.{same_outpoint};
+ghost use Rattle.fund_base.specs.declared.outpoint.OutPoint.{OutPoint};
+ghost use Rattle.coin_book.specs.Spends.{has_input};
+ghost use Rattle.coin_book.specs.Faults.{fault_behind};
+ghost use Rattle.coin_book.specs.Steps.{Meets, entry_of, held_point, spends_in};
+ghost use Rattle.coin_book.specs.declared.coin.Spend.{Spend};
+
+use crate::coin::Spend;
+use crate::fault::BookFault;
+use crate::held::Held;
+use fund_base::{Memory, OutPoint, Txid};
+use indexmap::{IndexMap, IndexSet};
+use std::alloc::Global;
+use tx_codec::TxIn;
+
+/// The most coins that a book has.
+pub const MOST_COINS: usize = 100_000;
+
+/// The listed scripts, each with the weight that is declared for an input which spends it, in weight units.
+pub type Weights = IndexMap<Vec<u8>, u64>;
+
+/// The spends of each outpoint, in chain order.
+pub type SpendLists = IndexMap<OutPoint, Vec<Spend>>;
+
+/// The coins of confirmed transactions in order, what these spend, and the height of the first of each txid.
+#[derive(Drop)]
+pub struct Ledger {
+    pub coins: IndexMap<OutPoint, Held>,
+    pub spends: SpendLists,
+    pub heights: IndexMap<Txid, u32>,
+}
+
+impl Ledger {
+    /// A ledger of no transactions.
+    pub fn new(alloc: Global) -> Ledger
+        ensures coins { result.coins.entries ≡ [] }
+        ensures spends { result.spends.entries ≡ [] }
+        ensures heights { result.heights.entries ≡ [] }
+    {
+        Ledger {
+            coins: IndexMap::new(alloc),
+            spends: IndexMap::new(alloc),
+            heights: IndexMap::new(alloc),
+        }
+    }
+}
+
+/// Whether a coin stands at this outpoint, in either of two maps.
+fn stands(
+    base: &IndexMap<OutPoint, Held>,
+    coins: &IndexMap<OutPoint, Held>,
+    point: &OutPoint,
+) -> bool
+    ensures { result ≡ (list_any (same_outpoint point.now) (keys_of base.now.entries) || list_any (same_outpoint point.now) (keys_of coins.now.entries)) }
+{
+    base.contains_key(point) || coins.contains_key(point)
+}
+
+/// Whether one coin more is within the most, where those of the two maps are there.
+fn has_room(base: &IndexMap<OutPoint, Held>, coins: &IndexMap<OutPoint, Held>) -> bool
+    ensures { result ≡ nat_lt (length base.now.entries + length coins.now.entries) 100_000 }
+{
+    base.len() < MOST_COINS && coins.len() < MOST_COINS - base.len()
+}
+
+fn point_of(held: &Held) -> OutPoint
+    ensures { result ≡ held_point held.now }
+{
+    held.coin.coin
+}
+
+/// Adds a coin behind the others, which stand behind those of `base`. RepeatCoin comes exactly where its outpoint
+/// stands there, and Full where it doesn't and the coin would be number 100,001.
+fn add_coin(
+    coins: &mut IndexMap<OutPoint, Held>,
+    base: &IndexMap<OutPoint, Held>,
+    point: OutPoint,
+    held: Held,
+) -> Result<(), BookFault>
+    requires { point ≡ held_point held }
+    ensures added { OnOk result (coins.new.entries ≡ coins.old.entries ++ entry_of held ∷ []) }
+    ensures exact { Meets result (fault_behind (keys_of base.now.entries ++ keys_of coins.old.entries) (held_point held ∷ [])) }
+{
+    if stands(base, coins, &point) {
+        return Err(BookFault::RepeatCoin(point));
+    }
+    if !has_room(base, coins) {
+        return Err(BookFault::Full);
+    }
+    coins.insert(point, held)?;
+    Ok(())
+}
+
+/// Adds coins behind the others, which stand behind those of `base`. RepeatCoin or Full comes exactly where an outpoint
+/// would stand twice or a coin be number 100,001, by the first coin of which this is so.
+pub fn add_coins(
+    coins: &mut IndexMap<OutPoint, Held>,
+    base: &IndexMap<OutPoint, Held>,
+    held: Vec<Held>,
+) -> Result<(), BookFault>
+    ensures added { OnOk result (coins.new.entries ≡ coins.old.entries ++ map entry_of held.items) }
+    ensures exact { Meets result (fault_behind (keys_of base.now.entries ++ keys_of coins.old.entries) (map held_point held.items)) }
+{
+    for one in held {
+        match add_coin(coins, base, point_of(&one), one) {
+            Ok(()) => {}
+            Err(fault) => return Err(fault),
+        }
+    }
+    Ok(())
+}
+
+/// Takes the spends of an outpoint, and leaves none.
+fn take_list(alloc: Global, spends: &mut SpendLists, point: OutPoint) -> Result<Vec<Spend>, Memory>
+    ensures taken { IfOk result (λ v. v.items ≡ spends_in spends.old.entries point) }
+    ensures others { (o : OutPoint) → OnOk result (spends_in spends.new.entries o ≡ (if same_outpoint point o then [] else spends_in spends.old.entries o)) }
+{
+    match spends.insert(point, Vec::new(alloc))? {
+        Some(list) => Ok(list),
+        None => Ok(Vec::new(alloc)),
+    }
+}
+
+/// Gives an outpoint these spends.
+fn put_list(spends: &mut SpendLists, point: OutPoint, list: Vec<Spend>) -> Result<(), Memory>
+    ensures { (o : OutPoint) → OnOk result (spends_in spends.new.entries o ≡ (if same_outpoint point o then list.items else spends_in spends.old.entries o)) }
+{
+    spends.insert(point, list)?;
+    Ok(())
+}
+
+fn pushed(mut list: Vec<Spend>, spend: &Spend) -> Result<Vec<Spend>, Memory>
+    ensures { IfOk result (λ v. v.items ≡ list.items ++ spend.now ∷ []) }
+{
+    list.push(*spend)?;
+    Ok(list)
+}
+
+/// Adds a spend of one outpoint.
+fn add_spend(
+    alloc: Global,
+    spends: &mut SpendLists,
+    point: OutPoint,
+    spend: &Spend,
+) -> Result<(), Memory>
+    ensures { (o : OutPoint) → OnOk result (spends_in spends.new.entries o ≡ spends_in spends.old.entries o ++ (if same_outpoint point o then spend.now ∷ [] else [])) }
+{
+    let list = pushed(take_list(alloc, spends, point)?, spend)?;
+    put_list(spends, point, list)?;
+    Ok(())
+}
+
+/// Adds a spend of an outpoint that isn't among those that are seen, and then is.
+fn add_first(
+    alloc: Global,
+    spends: &mut SpendLists,
+    seen: &mut IndexSet<OutPoint>,
+    point: &OutPoint,
+    spend: &Spend,
+) -> Result<(), Memory>
+    ensures seen { (o : OutPoint) → OnOk result (contains same_outpoint seen.new o ≡ (same_outpoint point.now o || contains same_outpoint seen.old o)) }
+    ensures spends { (o : OutPoint) → OnOk result (spends_in spends.new.entries o ≡ spends_in spends.old.entries o ++ (if contains same_outpoint seen.old point.now then [] else if same_outpoint point.now o then spend.now ∷ [] else [])) }
+{
+    let fresh = seen.insert(*point)?;
+    if fresh {
+        add_spend(alloc, spends, *point, spend)
+    } else {
+        Ok(())
+    }
+}
+
+/// Adds the spend of each outpoint that an input spends, once.
+pub fn add_spends(
+    alloc: Global,
+    spends: &mut SpendLists,
+    inputs: &[TxIn],
+    spend: &Spend,
+) -> Result<(), Memory>
+    ensures { (o : OutPoint) → OnOk result (spends_in spends.new.entries o ≡ spends_in spends.old.entries o ++ (if has_input o inputs.now then spend.now ∷ [] else [])) }
+{
+    let mut seen = IndexSet::new(alloc);
+    for input in inputs {
+        add_first(alloc, spends, &mut seen, &input.prev, spend)?;
+    }
+    Ok(())
+}

@@ -1,0 +1,21 @@
+//! The coins of a wallet in order of creation, the transactions that made them, and what confirmed transactions spend.
+#![tactic(auto)]
+
+mod adding;
+mod book;
+mod coin;
+mod coinbase;
+mod earlier;
+mod fault;
+mod held;
+mod laws;
+mod ledger;
+mod making;
+mod merging;
+mod moving;
+mod waiting;
+
+pub use book::Book;
+pub use coin::{Coin, Spend};
+pub use fault::BookFault;
+pub use laws::{first_fault_stays, order_of_calls};

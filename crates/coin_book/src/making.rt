@@ -1,0 +1,129 @@
+//! The coins of a transaction.
+
+ghost use Rattle.std.specs.Prelude.{◌≡◌, ◌<◌, IfOk, length, map};
+ghost use Rattle.tx_codec.specs.Txid.{txid_of};
+ghost use Rattle.coin_book.specs.Coins.{Made, coin_at, coin_of, coins_below, made_in};
+ghost use Rattle.coin_book.specs.declared.coin.Coin.{Coin};
+ghost use Rattle.coin_book.specs.Kept.{coin_made, held_made, weigher};
+
+use crate::coin::Coin;
+use crate::coinbase::is_coinbase;
+use crate::held::Held;
+use crate::ledger::Weights;
+use fund_base::{Memory, OutPoint, Txid};
+use std::alloc::Global;
+use std::rc::Rc;
+use tx_codec::{Tx, TxOut};
+
+/// The output as a coin. None exactly where its script isn't listed.
+#[tactic(auto, unfolding(crate::specs::Coins::coin_of))]
+fn coin_from(
+    alloc: Global,
+    weights: &Weights,
+    tx: &Tx,
+    txid: Txid,
+    height: Option<u32>,
+    index: u32,
+    output: &TxOut,
+) -> Result<Option<Coin>, Memory>
+    requires { txid ≡ txid_of tx.now }
+    ensures { IfOk result (λ found. found ≡ coin_made (coin_of (weigher weights.now.entries) height tx.now index output.now)) }
+{
+    let Some(weight) = weights.get(output.script.bytes()) else {
+        return Ok(None);
+    };
+    let script = output.script.copy(alloc)?;
+    Ok(Some(Coin {
+        coin: OutPoint { txid, index },
+        value: output.value.get(),
+        script,
+        weight: *weight,
+        height,
+        coinbase: is_coinbase(tx),
+    }))
+}
+
+/// The coin at this place of the outputs. None exactly where its script isn't listed, or the place is above
+/// 4,294,967,295.
+#[tactic(auto, unfolding(crate::specs::Coins::coin_at))]
+fn coin_at(
+    alloc: Global,
+    weights: &Weights,
+    tx: &Tx,
+    txid: Txid,
+    height: Option<u32>,
+    index: usize,
+) -> Result<Option<Coin>, Memory>
+    requires txid { txid ≡ txid_of tx.now }
+    requires index { index < length tx.now.outputs }
+    ensures { IfOk result (λ found. found ≡ coin_made (coin_at (weigher weights.now.entries) height tx.now index)) }
+{
+    if index > u32::MAX as usize {
+        return Ok(None);
+    }
+    coin_from(
+        alloc,
+        weights,
+        tx,
+        txid,
+        height,
+        index as u32,
+        &tx.outputs[index],
+    )
+}
+
+/// The coins of the transaction, in order.
+fn coins_in(
+    alloc: Global,
+    weights: &Weights,
+    tx: &Tx,
+    txid: Txid,
+    height: Option<u32>,
+) -> Result<Vec<Coin>, Memory>
+    requires { txid ≡ txid_of tx.now }
+    ensures { IfOk result (λ v. v.items ≡ map (λ (m : Made). m.coin) (coins_below (coin_at (weigher weights.now.entries) height tx.now) (length tx.now.outputs))) }
+{
+    let mut coins = Vec::new(alloc);
+    for index in 0..tx.outputs.len() {
+        match coin_at(alloc, weights, tx, txid, height, index)? {
+            Some(coin) => coins.push(coin)?,
+            None => {}
+        }
+    }
+    Ok(coins)
+}
+
+/// The coins, each with its transaction.
+fn held_by(alloc: Global, coins: Vec<Coin>, maker: Rc<Tx>) -> Result<Vec<Held>, Memory>
+    ensures { IfOk result (λ v. map held_made v.items ≡ map (λ (c : Coin). record { coin = c; maker = maker.value }) coins.items) }
+{
+    let mut held = Vec::new(alloc);
+    for coin in coins {
+        held.push(Held {
+            coin,
+            maker: maker.clone()?,
+        })?;
+    }
+    Ok(held)
+}
+
+/// The coins of the transaction of this txid, in order, each with a copy of the transaction that they share.
+#[tactic(auto, unfolding(crate::specs::Coins::made_in))]
+pub fn held_in(
+    alloc: Global,
+    weights: &Weights,
+    tx: &Tx,
+    txid: Txid,
+    height: Option<u32>,
+) -> Result<Vec<Held>, Memory>
+    requires { txid ≡ txid_of tx.now }
+    ensures { IfOk result (λ v. map held_made v.items ≡ made_in (weigher weights.now.entries) height tx.now) }
+{
+    let coins = coins_in(alloc, weights, tx, txid, height)?;
+    if coins.is_empty() {
+        return Ok(Vec::new(alloc));
+    }
+    let maker = Rc::new(alloc, tx.copy(alloc)?)?;
+    let held = held_by(alloc, coins, maker)?;
+    Ok(held)
+}

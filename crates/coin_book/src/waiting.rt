@@ -1,0 +1,51 @@
+//! The coins of transactions that wait for a block.
+
+ghost use Rattle.std.specs.Prelude.{ℕ, ◌≡◌, ◌+◌, [], IfOk, bytes_eq, is_some, nat_le, if◌then◌else◌};
+ghost use Rattle.std.specs.Map.{keys_of, lookup};
+ghost use Rattle.tx_codec.specs.Txid.{txid_of};
+ghost use Rattle.coin_book.specs.Coins.{made_in};
+ghost use Rattle.coin_book.specs.Faults.{fault_behind, points};
+ghost use Rattle.coin_book.specs.Kept.{HoldsCoins, made_waiting, weigher};
+ghost use Rattle.coin_book.specs.Steps.{Meets};
+
+use crate::fault::BookFault;
+use crate::held::Held;
+use crate::ledger::{MOST_COINS, Weights, add_coins};
+use crate::making::held_in;
+use fund_base::{OutPoint, Txid};
+use indexmap::IndexMap;
+use std::alloc::Global;
+use tx_codec::Tx;
+
+/// Whether so many coins are within the most.
+pub fn fits(confirmed: usize, waiting: usize, more: usize) -> bool
+    ensures { result ≡ nat_le (confirmed + waiting + more) 100_000 }
+{
+    confirmed <= MOST_COINS
+        && waiting <= MOST_COINS - confirmed
+        && more <= MOST_COINS - confirmed - waiting
+}
+
+/// The coins of a transaction of this txid, which is to wait beside others. There are none where it is confirmed.
+pub fn coins_beside(
+    alloc: Global,
+    weights: &Weights,
+    heights: &IndexMap<Txid, u32>,
+    pending: &IndexMap<OutPoint, Held>,
+    tx: &Tx,
+    txid: Txid,
+) -> Result<IndexMap<OutPoint, Held>, BookFault>
+    requires { txid ≡ txid_of tx.now }
+    ensures made { IfOk result (λ m. HoldsCoins (made_waiting (weigher weights.now.entries) heights.now.entries tx.now) m.entries) }
+    ensures exact { Meets result (fault_behind (keys_of pending.now.entries) (points (made_waiting (weigher weights.now.entries) heights.now.entries tx.now))) }
+{
+    let mut coins = IndexMap::new(alloc);
+    if heights.contains_key(&txid) {
+        return Ok(coins);
+    }
+    let held = held_in(alloc, weights, tx, txid, None)?;
+    match add_coins(&mut coins, pending, held) {
+        Ok(()) => Ok(coins),
+        Err(fault) => Err(fault),
+    }
+}
