@@ -1,0 +1,13 @@
+use Rattle.std.proofs.Common.{◌∙◌, ℕ, List, ap}
+use Rattle.std.specs.Prelude.{bytes_eq, position}
+use Rattle.payment_states.specs.Steps.{place_among}
+use Rattle.payment_states.specs.declared.state.Payment.{Payment}
+use Rattle.payment_states.proofs.Positions.{position-map}
+use Rattle.payment_states.proofs.states.States.place.Goals as goal
+
+pub returns : goal.returns
+returns c =
+    c.get_index_of.ensures.index
+    ∙ ap (λ (l : List (List ℕ)). position (bytes_eq c.args.txid.now) l) c.self.invariant
+    ∙ position-map (bytes_eq c.args.txid.now) (λ (p : Payment). p.txid) c.self.inside.payments.items
+    ∙ ap (λ (ps : List Payment). place_among ps c.args.txid.now) c.self.view_is

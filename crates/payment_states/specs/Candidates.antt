@@ -1,0 +1,135 @@
+-- Which coins may be spent, and what is known of each.
+use Rattle.std.specs.Prelude.{ℕ, ◌==◌, ◌+◌, ◌-◌, ◌&&◌, ◌||◌, not, Bool, true, false, List, map, filter, length, min, count_by, nat_le, is_some, Option, Some, None}
+use Rattle.std.specs.List.{list_any, list_all}
+use Rattle.std.specs.Option.{option_map_or}
+use Rattle.fund_base.specs.Outpoints.{same_outpoint}
+use Rattle.fund_base.specs.declared.candidate.Candidate.{Candidate}
+use Rattle.fund_base.specs.declared.outpoint.OutPoint.{OutPoint}
+use Rattle.tx_codec.specs.Transaction.{Transaction}
+use Rattle.tx_codec.specs.Txid.{txid_of}
+use Rattle.tx_codec.specs.declared.tx.TxIn.{TxIn}
+use Rattle.wallet_text.specs.PlainWallet.{PlainWallet}
+use Rattle.coin_book.specs.Coins.{coins_of, parent_of}
+use Rattle.coin_book.specs.History.{History}
+use Rattle.coin_book.specs.Spends.{has_input, spends_of}
+use Rattle.coin_book.specs.declared.coin.Coin.{Coin}
+use Rattle.payment_states.specs.Graph.{within, below, kin}
+use Rattle.payment_states.specs.Payments.{state_at}
+use Rattle.payment_states.specs.World.{World, world_of, tx_at, parents, graph, family, place_in}
+use Rattle.payment_states.specs.declared.state.State.{State}
+use Rattle.payment_states.specs.declared.state.State.TheVariants as state
+use Rattle.std.specs.Prelude.{bytes_eq}
+
+abbrev pub is_pending_state : State → Bool
+is_pending_state state.Pending = true
+is_pending_state _ = false
+
+-- the transaction at this place is Pending
+abbrev pub is_pending : World → ℕ → Bool
+is_pending w i = is_pending_state (state_at w i)
+
+abbrev pub is_replaced_by : List ℕ → State → Bool
+is_replaced_by txid (state.Replaced by) = bytes_eq by txid
+is_replaced_by txid _ = false
+
+-- a transaction is Replaced by the one of this txid
+abbrev pub replaces : World → List ℕ → Bool
+replaces w txid = list_any (λ j. is_replaced_by txid (state_at w j)) (below (length w.pending))
+
+-- the outpoint is that of a coin
+abbrev pub is_coin : List Coin → OutPoint → Bool
+is_coin coins o = list_any (λ (c : Coin). same_outpoint o c.coin) coins
+
+-- every input spends a coin
+abbrev pub is_mine : List Coin → Transaction → Bool
+is_mine coins t = list_all (λ (i : TxIn). is_coin coins i.prev) t.inputs
+
+-- at each place the parents that are Pending
+abbrev pub pending_graph : World → List (List ℕ)
+pending_graph w = map (λ (t : Transaction). filter (is_pending w) (parents w.chain w.pending t)) w.pending
+
+-- the transaction at this place is mine and replaces none
+unfoldable pub is_own : World → List Coin → ℕ → Bool
+is_own w coins j = is_mine coins (tx_at w j) && not (replaces w (txid_of (tx_at w j)))
+
+-- so are it and all that it reaches through Pending parents alone
+unfoldable pub is_safe : World → List Coin → ℕ → Bool
+is_safe w coins i = list_all (is_own w coins) (kin (pending_graph w) i)
+
+-- the greatest number that is told
+abbrev pub most : ℕ
+most = 4_294_967_295
+
+-- the number of Pending ones among it and its ancestors
+abbrev pub ancestors : World → ℕ → ℕ
+ancestors w i = min most (count_by (is_pending w) (family w i))
+
+-- the number of Pending ones among it and its descendants
+abbrev pub descendants : World → ℕ → ℕ
+descendants w i = min most (count_by (λ j. is_pending w j && within (graph w) (length (graph w)) j i) (below (length w.pending)))
+
+-- how many blocks deep a transaction of this height is; 0 if it has none
+abbrev pub depth : ℕ → Option ℕ → ℕ
+depth tip None = 0
+depth tip (Some height) = tip + 1 - height
+
+-- the transaction of the coin is mine
+abbrev pub comes_from_mine : History → Coin → Bool
+comes_from_mine h c = option_map_or (is_mine (coins_of h)) (parent_of h c.coin) false
+
+-- what is known of a coin whose transaction has this place in the pending list, where it waits for a block
+abbrev pub candidate_at : PlainWallet → History → ℕ → Coin → Option ℕ → Option ℕ → Candidate
+candidate_at w h tip c (Some height) place = record {
+  coin = c.coin;
+  value = c.value;
+  weight = c.weight;
+  script = c.script;
+  depth = depth tip (Some height);
+  mine = comes_from_mine h c;
+  safe = true;
+  ancestors = 0;
+  descendants = 0;
+}
+candidate_at w h tip c None place = record {
+  coin = c.coin;
+  value = c.value;
+  weight = c.weight;
+  script = c.script;
+  depth = 0;
+  mine = comes_from_mine h c;
+  safe = option_map_or (is_safe (world_of w h) (coins_of h)) place false;
+  ancestors = option_map_or (ancestors (world_of w h)) place 0;
+  descendants = option_map_or (descendants (world_of w h)) place 0;
+}
+
+abbrev pub candidate_of : PlainWallet → History → ℕ → Coin → Candidate
+candidate_of w h tip c = candidate_at w h tip c c.height (place_in w.pending c.coin.txid)
+
+-- the coin's transaction is Confirmed or Pending
+abbrev pub is_live : PlainWallet → History → Coin → Bool
+is_live w h c = is_some c.height || option_map_or (is_pending (world_of w h)) (place_in w.pending c.coin.txid) false
+
+-- a confirmed transaction spends the outpoint
+abbrev pub is_spent : History → OutPoint → Bool
+is_spent h o = not (length (spends_of h.confirmed o) == 0)
+
+-- a Pending transaction spends the outpoint
+abbrev pub is_claimed : World → OutPoint → Bool
+is_claimed w o = list_any (λ i. is_pending w i && has_input o (tx_at w i).inputs) (below (length w.pending))
+
+-- the outpoint is locked
+abbrev pub is_locked : PlainWallet → OutPoint → Bool
+is_locked w o = list_any (λ x. same_outpoint x o) w.locked
+
+-- a coinbase's coin is at least 101 deep
+abbrev pub is_deep : ℕ → Coin → Bool
+is_deep tip c = not c.coinbase || nat_le 101 (depth tip c.height)
+
+-- The coin may be spent.
+unfoldable pub is_candidate : PlainWallet → History → ℕ → Coin → Bool
+is_candidate w h tip c =
+    is_live w h c && (not (is_spent h c.coin) && (not (is_claimed (world_of w h) c.coin) && (not (is_locked w c.coin) && is_deep tip c)))
+
+-- the coins that may be spent in order of creation
+unfoldable pub candidates_of : PlainWallet → History → ℕ → List Candidate
+candidates_of w h tip = map (candidate_of w h tip) (filter (is_candidate w h tip) (coins_of h))

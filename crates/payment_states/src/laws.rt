@@ -1,0 +1,38 @@
+//! What the definitions of states come to.
+
+ghost use Rattle.std.specs.Prelude.{◌≡◌, ◌<◌, ◌↔◌, ◌≢◌, ◌&&◌, not, IsTrue, List, ℕ, length, All, Any, Contains, Some, None};
+ghost use Rattle.std.specs.List.{list_all};
+ghost use Rattle.tx_codec.specs.Transaction.{Transaction};
+ghost use Rattle.tx_codec.specs.Txid.{txid_of};
+ghost use Rattle.tx_codec.specs.declared.tx.TxIn.{TxIn};
+ghost use Rattle.wallet_text.specs.WalletRules.{AreDistinct, ParentsComeFirst};
+ghost use Rattle.coin_book.specs.Spends.{height_of};
+ghost use Rattle.coin_book.specs.declared.coin.Coin.{Coin};
+ghost use Rattle.payment_states.specs.Candidates.{is_mine, is_safe, pending_graph, replaces};
+ghost use Rattle.payment_states.specs.Graph.{IsInOrder, Reaches, steps, within};
+ghost use Rattle.payment_states.specs.Payments.{payments_in, state_at, state_of};
+ghost use Rattle.payment_states.specs.World.{World, graph, tx_at};
+
+/// The law of ancestry: where parents stand before their children, as many steps as there are transactions reach all
+/// that can be reached.
+pub fn reaches_by_steps()
+    ensures { (g : List (List ℕ)) (i j : ℕ) → IsInOrder g → i < length g → IsTrue (within g (length g) i j) ↔ Reaches g i j }
+{}
+
+/// The law of looking states up: each transaction of the pending list has its own, and no other txid has one.
+pub fn finds_states()
+    ensures own { (w : World) (i : ℕ) → AreDistinct w.pending → i < length w.pending → state_of (payments_in w) (txid_of (tx_at w i)) ≡ Some (state_at w i) }
+    ensures none { (w : World) (txid : List ℕ) → (state_of (payments_in w) txid ≡ None) ↔ All (λ (t : Transaction). txid_of t ≢ txid) w.pending }
+{}
+
+/// The law of parents: they are the transactions of the pending list that no confirmed one has the txid of, and an
+/// output of which some input spends.
+pub fn parents_by_inputs()
+    ensures { (w : World) (i p : ℕ) → AreDistinct w.pending → i < length w.pending → Contains (steps (graph w) i) p ↔ ((p < length w.pending) × (height_of w.chain (txid_of (tx_at w p)) ≡ None) × Any (λ (x : TxIn). x.prev.txid ≡ txid_of (tx_at w p)) (tx_at w i).inputs) }
+{}
+
+/// The law of safety: a transaction of the pending list is safe exactly where every input spends a coin of the book, no
+/// payment is replaced by it, and each parent that is Pending is safe.
+pub fn safe_by_parents()
+    ensures { (w : World) (coins : List Coin) (i : ℕ) → ParentsComeFirst w.pending → i < length w.pending → is_safe w coins i ≡ ((is_mine coins (tx_at w i) && not (replaces w (txid_of (tx_at w i)))) && list_all (is_safe w coins) (steps (pending_graph w) i)) }
+{}

@@ -1,0 +1,27 @@
+//! The states of a wallet's pending payments, and the coins that it may spend: both are told by the book of its coins
+//! and by the wallet's own lists, from the whole of them.
+#![tactic(auto)]
+
+mod alive;
+mod choice;
+mod clash;
+mod counts;
+mod describe;
+mod facts;
+mod graph;
+mod kin;
+mod laws;
+mod replaced;
+mod standing;
+mod state;
+mod states;
+mod taken;
+#[cfg(test)]
+mod tests;
+#[cfg(test)]
+mod vectors;
+
+pub use choice::candidates;
+pub use laws::{finds_states, parents_by_inputs, reaches_by_steps, safe_by_parents};
+pub use state::{Payment, State};
+pub use states::{States, all_states};
