@@ -1,0 +1,14 @@
+pub mod CountLaws
+pub mod CutLaws
+pub mod GroupLaws
+pub mod ItemLaws
+pub mod MeetLaws
+pub mod Members
+pub mod OnceLaws
+pub mod OrderLaws
+pub mod PartLaws
+pub mod PlaceLaws
+pub mod PoolLaws
+pub mod ScriptLaws
+pub mod UniqueLaws
+pub mod ValueLaws

@@ -1,0 +1,7 @@
+pub mod Forming
+pub mod Kept
+pub mod Ladder
+pub mod Measures
+pub mod PlainPool
+pub mod Pool
+pub mod Runs

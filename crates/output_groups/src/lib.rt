@@ -1,0 +1,20 @@
+//! What a payment may choose from: the rows of the ladder, the groups that coins form, and the pool of a row, which is
+//! the groups that the row takes, in order, each with the item that a search sees of it.
+#![tactic(auto)]
+
+mod fault;
+mod forming;
+mod group;
+mod kept;
+mod laws;
+mod part;
+mod row_pool;
+mod rows;
+#[cfg(test)]
+mod tests;
+
+pub use fault::PoolFault;
+pub use group::Group;
+pub use laws::{one_pool, values_are_effective};
+pub use row_pool::{RowPool, pool};
+pub use rows::{Row, ladder, meets};
