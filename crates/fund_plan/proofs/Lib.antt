@@ -1,0 +1,7 @@
+pub mod AnswerLaws
+pub mod OnceLaws
+pub mod PaymentLaws
+pub mod PaysLaws
+pub mod SumLaws
+pub mod SelectionLaws
+pub mod StepLaws

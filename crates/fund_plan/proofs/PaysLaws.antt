@@ -1,0 +1,301 @@
+-- What pays: sums over one coin, and whether it does.
+use Rattle.std.specs.Prelude.{ℕ, ℤ, pos, ◌≡◌, ◌+◌, ◌-◌, ◌*◌, ◌≤◌, ◌<◌, ◌-ℤ◌, ◌+ℤ◌, ◌≤ℤ◌, ◌&&◌, List, [], ◌∷◌, ◌++◌, length, map, sum_by, Bool, true, false, cond, T, Option, Some, None, IfSome, int_le, nat_le, not, ◌==◌, unsigned_abs, if◌then◌else◌}
+use Rattle.std.specs.Int.{int_max}
+use Rattle.std.specs.Int.Signed.{le_z_yes, pos-nat_abs, yes_non_neg}
+use Rattle.std.proofs.Common.{arith, refl, sym, ap, subst, get_or, ◌∙◌}
+use Rattle.std.proofs.lemmas.Bool.{and_parts, and_from, leb-true, le-leb, eqb-true, not-false, both_ways}
+use Rattle.std.proofs.lemmas.Float.{T_from_true}
+use Rattle.std.proofs.lemmas.Int.{ints, int_max_is}
+use Rattle.std.proofs.lemmas.List.Sums.{sum_by-cons, sum_by-append, get_or-le-sum_by}
+use Rattle.fund_base.specs.declared.candidate.Candidate.{Candidate}
+use Rattle.tx_codec.specs.declared.tx.TxOut.{TxOut}
+use Rattle.tx_codec.specs.Transaction.{Transaction}
+use Rattle.fee_rates.specs.Fee.{fee_of, vsize_of}
+use Rattle.fee_rates.specs.Output.{output_size_of}
+use Rattle.fee_rates.specs.Terms.{base_of, target_of, hi_of, small_of, change_fee_of, change_least_of}
+use Rattle.fee_rates.specs.declared.terms.Load.{Load}
+use Rattle.fee_rates.proofs.FeeLaws.{weighed_parts, input_fee_parts, fee_below, vsize_bytes}
+use Rattle.request_text.specs.PlainRequest.{PlainRequest, paid_to}
+use Rattle.request_text.specs.declared.request.Recipient.{Recipient}
+use Rattle.wallet_text.specs.declared.wallet.Watch.{Watch}
+use Rattle.fund_plan.specs.Amounts.{AreWithin, fees_of, value_of, weight_of}
+use Rattle.fund_plan.specs.Answer.{IsSelection}
+use Rattle.fund_plan.specs.Figures.{cost_of, excess_of}
+use Rattle.fund_plan.specs.Pays.{Pays, change_outputs, outputs_of, payment_of, raised_of, recipient_output}
+use Rattle.fund_plan.specs.Presets.{presets_of}
+use Rattle.fund_plan.specs.Selection.{AreSorted}
+use Rattle.fund_plan.specs.Terms.{load_of, rates_of}
+use Rattle.fund_plan.specs.declared.presets.Presets.TheVariants.{Short, Plain, Change}
+
+pub sum_one : {X : Type 0} (f : X → ℕ) (x : X) → sum_by f (x ∷ []) ≡ f x
+sum_one f x = omega (arith, sum_by-cons f x [])
+
+-- each amount is within the sum
+pub amount_within : (rs : List Recipient) (i : ℕ) (q : Recipient) (most : ℕ) → q ≡ get_or rs i q → i < length rs → sum_by (λ (p : Recipient). p.amount) rs ≤ most → q.amount ≤ most
+amount_within rs i q most is lt h = let e = ap (λ (p : Recipient). p.amount) is in omega (arith, get_or-le-sum_by (λ (p : Recipient). p.amount) rs i q lt)
+
+-- the tests of the order of ℤ
+le_true : (x y : ℤ) → int_le x y ≡ true → x ≤ℤ y
+le_true x y e = le_z_yes (T_from_true (int_le x y) e)
+
+true_from_T : (b : Bool) → T b → b ≡ true
+true_from_T true t = refl
+true_from_T false t = absurd t
+
+le_test : (x y : ℤ) → x ≤ℤ y → int_le x y ≡ true
+le_test x y h = true_from_T (int_le x y) h.le
+
+-- what the recipients get of the outputs
+sum_of_recipients : (rs : List Recipient) → sum_by (λ (o : TxOut). o.value) (map recipient_output rs) ≡ paid_to rs
+sum_of_recipients [] = refl
+sum_of_recipients (q ∷ rs) =
+    omega (arith, sum_of_recipients rs, sum_by-cons (λ (o : TxOut). o.value) (recipient_output q) (map recipient_output rs), sum_by-cons (λ (p : Recipient). p.amount) q rs)
+
+pub sum_plain : (rs : List Recipient) (outputs : List TxOut) → outputs ≡ map recipient_output rs ++ [] → sum_by (λ (o : TxOut). o.value) outputs ≡ paid_to rs
+sum_plain rs outputs e = rw e (omega (arith, sum_of_recipients rs, sum_by-append (λ (o : TxOut). o.value) (map recipient_output rs) []))
+
+pub sum_change : (rs : List Recipient) (outputs : List TxOut) (change : TxOut) → outputs ≡ map recipient_output rs ++ change ∷ [] → sum_by (λ (o : TxOut). o.value) outputs ≡ paid_to rs + change.value
+sum_change rs outputs change e =
+    rw e (omega (arith, sum_of_recipients rs, sum_by-append (λ (o : TxOut). o.value) (map recipient_output rs) (change ∷ []), sum_one (λ (o : TxOut). o.value) change))
+
+-- ---- the target, its window, and what is left
+
+-- what coins have to bring, the paid amount, the fee of the base, the burden and the raise being these
+abbrev needed : (paid base burden raised value fees : ℕ) → ℤ
+needed paid base burden raised value fees = pos (paid + base + burden + raised) -ℤ (pos value -ℤ pos fees)
+
+-- within the window
+window : (paid base burden raised value fees cf cl : ℕ) → needed paid base burden raised value fees ≤ℤ pos 0 → pos 0 ≤ℤ ((needed paid base burden raised value fees +ℤ pos cf +ℤ pos cl) -ℤ pos 1)
+    → (paid + base + fees + burden + raised ≤ value) × (value + 1 ≤ paid + base + fees + burden + raised + cf + cl)
+window paid base burden raised value fees cf cl a b = (omega (arith, ints), omega (arith, ints))
+
+window_back : (paid base burden raised value fees cf cl : ℕ) → paid + base + fees + burden + raised ≤ value → value + 1 ≤ paid + base + fees + burden + raised + cf + cl
+    → (needed paid base burden raised value fees ≤ℤ pos 0) × (pos 0 ≤ℤ ((needed paid base burden raised value fees +ℤ pos cf +ℤ pos cl) -ℤ pos 1))
+window_back paid base burden raised value fees cf cl a b = (omega (arith, ints), omega (arith, ints))
+
+-- enough for the least change
+left_as : (paid base burden raised value fees cf cl change : ℕ) → pos change ≡ (pos 0 -ℤ needed paid base burden raised value fees) -ℤ pos cf → (needed paid base burden raised value fees +ℤ pos cf +ℤ pos cl) ≤ℤ pos 0
+    → (value ≡ paid + change + base + fees + burden + raised + cf) × (cl ≤ change)
+left_as paid base burden raised value fees cf cl change e h = (omega (arith, ints, e), omega (arith, ints, e))
+
+left_some : (paid base burden raised value fees cf cl : ℕ) → (needed paid base burden raised value fees +ℤ pos cf +ℤ pos cl) ≤ℤ pos 0 → pos 0 ≤ℤ ((pos 0 -ℤ needed paid base burden raised value fees) -ℤ pos cf)
+left_some paid base burden raised value fees cf cl h = omega (arith, ints)
+
+left : (paid base burden raised value fees cf cl change : ℕ) → change ≡ unsigned_abs ((pos 0 -ℤ needed paid base burden raised value fees) -ℤ pos cf) → (needed paid base burden raised value fees +ℤ pos cf +ℤ pos cl) ≤ℤ pos 0
+    → (value ≡ paid + change + base + fees + burden + raised + cf) × (cl ≤ change)
+left paid base burden raised value fees cf cl change is h =
+    left_as paid base burden raised value fees cf cl change (ap (λ n. pos n) is ∙ pos-nat_abs _ (yes_non_neg (left_some paid base burden raised value fees cf cl h))) h
+
+left_back : (paid base burden raised value fees cf cl change : ℕ) → value ≡ paid + change + base + fees + burden + raised + cf → cl ≤ change → (needed paid base burden raised value fees +ℤ pos cf +ℤ pos cl) ≤ℤ pos 0
+left_back paid base burden raised value fees cf cl change a b = omega (arith, ints)
+
+-- the target is raised where there are no coins
+raised_as : (some : Bool) (n value fees : ℕ) → (some ≡ false → (value ≡ 0) × (fees ≡ 0))
+    → (if some then pos n -ℤ (pos value -ℤ pos fees) else int_max (pos n -ℤ (pos value -ℤ pos fees)) (pos 1)) ≡ pos (n + (if some then 0 else 1 - n)) -ℤ (pos value -ℤ pos fees)
+raised_as true n value fees none = ap (λ m. pos m -ℤ (pos value -ℤ pos fees)) (omega arith)
+raised_as false n value fees none = omega (arith, ints, int_max_is (pos n -ℤ (pos value -ℤ pos fees)) (pos 1), (none refl).0, (none refl).1)
+
+none_worth : (rate : ℕ) (coins : List Candidate) → not (length coins == 0) ≡ false → (value_of coins ≡ 0) × (fees_of rate coins ≡ 0)
+none_worth rate [] e = (refl, refl)
+none_worth rate (c ∷ coins) e = let none = eqb-true (length (c ∷ coins)) 0 (not-false _ e) in absurd (omega (arith, none))
+
+-- what the payment from the coins has to bring
+target_here : (r : PlainRequest) (w : Watch) (coins : List Candidate)
+    → target_of (rates_of r) (load_of r w coins) ≡ needed (paid_to r.recipients) (fee_of r.rate (vsize_of (base_of (load_of r w coins)))) 0 (raised_of r.rate (load_of r w coins)) (value_of coins) (fees_of r.rate coins)
+unfolding load_of
+target_here r w coins =
+    raised_as (not (length coins == 0)) (paid_to r.recipients + fee_of r.rate (vsize_of (base_of (load_of r w coins))) + 0) (value_of coins) (fees_of r.rate coins) (none_worth r.rate coins)
+
+-- which of three it was
+was_plain : (a b : Bool) (n : ℕ) → cond a Plain (cond b (Change n) Short) ≡ Plain → a ≡ true
+was_plain true b n e = refl
+was_plain false true n e = absurd (cc)
+was_plain false false n e = absurd (cc)
+
+was_change : (a b : Bool) (n k : ℕ) → cond a Plain (cond b (Change n) Short) ≡ Change k → (b ≡ true) × (k ≡ n)
+was_change true b n k e = absurd (cc)
+was_change false true n k e = (refl, cc)
+was_change false false n k e = absurd (cc)
+
+was_short : (a b : Bool) (n : ℕ) → cond a Plain (cond b (Change n) Short) ≡ Short → (a ≡ false) × (b ≡ false)
+was_short true b n e = absurd (cc)
+was_short false true n e = absurd (cc)
+was_short false false n e = (refl, refl)
+
+-- the fee of the whole weight is within those of the parts
+plain_covers : (rate base paid more value : ℕ) (coins : List Candidate) → paid + fee_of rate (vsize_of base) + fees_of rate coins + 0 + more ≤ value → paid + fee_of rate (vsize_of (base + weight_of coins)) ≤ value
+plain_covers rate base paid more value coins h = omega (arith, weighed_parts (λ (c : Candidate). c.weight) rate base coins)
+
+change_covers : (rate base paid more value size : ℕ) (coins : List Candidate) → value ≡ paid + fee_of rate (vsize_of base) + fees_of rate coins + 0 + more + fee_of rate size → paid + fee_of rate (vsize_of (base + weight_of coins + 4 * size)) ≤ value
+change_covers rate base paid more value size coins h =
+    omega (
+      arith,
+      weighed_parts (λ (c : Candidate). c.weight) rate base coins,
+      input_fee_parts rate (base + weight_of coins) (4 * size),
+      fee_below rate (vsize_of (4 * size)) rate size (omega arith) (omega (arith, vsize_bytes size)),
+    )
+
+-- ---- the tests as facts, at plain numbers
+
+plain_facts : (target hi : ℤ) (weight : ℕ) → (int_le target (pos 0) && int_le (pos 0) hi && nat_le weight 400_000) ≡ true → (target ≤ℤ pos 0) × (pos 0 ≤ℤ hi) × (weight ≤ 400_000)
+plain_facts target hi weight e =
+    let all = and_parts (int_le target (pos 0) && int_le (pos 0) hi) (nat_le weight 400_000) e in
+    let two = and_parts (int_le target (pos 0)) (int_le (pos 0) hi) all.0 in
+    (le_true target (pos 0) two.0, le_true (pos 0) hi two.1, leb-true weight 400_000 all.1)
+
+plain_test : (target hi : ℤ) (weight : ℕ) → target ≤ℤ pos 0 → pos 0 ≤ℤ hi → weight ≤ 400_000 → (int_le target (pos 0) && int_le (pos 0) hi && nat_le weight 400_000) ≡ true
+plain_test target hi weight a b h =
+    and_from (int_le target (pos 0) && int_le (pos 0) hi) (nat_le weight 400_000)
+    (and_from (int_le target (pos 0)) (int_le (pos 0) hi) (le_test target (pos 0) a) (le_test (pos 0) hi b))
+    (le-leb weight 400_000 h)
+
+change_facts : (small : ℤ) (weight : ℕ) → (int_le small (pos 0) && nat_le weight 400_000) ≡ true → (small ≤ℤ pos 0) × (weight ≤ 400_000)
+change_facts small weight e =
+    let all = and_parts (int_le small (pos 0)) (nat_le weight 400_000) e in
+    (le_true small (pos 0) all.0, leb-true weight 400_000 all.1)
+
+change_test : (small : ℤ) (weight : ℕ) → small ≤ℤ pos 0 → weight ≤ 400_000 → (int_le small (pos 0) && nat_le weight 400_000) ≡ true
+change_test small weight a h = and_from (int_le small (pos 0)) (nat_le weight 400_000) (le_test small (pos 0) a) (le-leb weight 400_000 h)
+
+-- ---- what the coins of a request come to
+
+-- the fee of the base
+abbrev base_fee : PlainRequest → Watch → List Candidate → ℕ
+base_fee r w coins = fee_of r.rate (vsize_of (base_of (load_of r w coins)))
+
+-- inputs less outputs, where they pay without change
+plain_window : (r : PlainRequest) (w : Watch) (coins : List Candidate) → target_of (rates_of r) (load_of r w coins) ≤ℤ pos 0 → pos 0 ≤ℤ hi_of (rates_of r) (load_of r w coins)
+    → (paid_to r.recipients + base_fee r w coins + fees_of r.rate coins + 0 + raised_of r.rate (load_of r w coins) ≤ value_of coins)
+    × (value_of coins + 1 ≤ paid_to r.recipients + base_fee r w coins + fees_of r.rate coins + 0 + raised_of r.rate (load_of r w coins) + change_fee_of (rates_of r) (load_of r w coins) + change_least_of (rates_of r) (load_of r w coins))
+plain_window r w coins low high =
+    let l = load_of r w coins in
+    let cf = change_fee_of (rates_of r) l in
+    let cl = change_least_of (rates_of r) l in
+    window (paid_to r.recipients) (base_fee r w coins) 0 (raised_of r.rate l) (value_of coins) (fees_of r.rate coins) cf cl
+    (subst (λ (t : ℤ). t ≤ℤ pos 0) (target_here r w coins) low)
+    (subst (λ (t : ℤ). pos 0 ≤ℤ ((t +ℤ pos cf +ℤ pos cl) -ℤ pos 1)) (target_here r w coins) high)
+
+-- inputs less outputs, where they pay with change
+change_rest : (r : PlainRequest) (w : Watch) (coins : List Candidate) (amount : ℕ) → amount ≡ unsigned_abs ((pos 0 -ℤ target_of (rates_of r) (load_of r w coins)) -ℤ pos (change_fee_of (rates_of r) (load_of r w coins))) → small_of (rates_of r) (load_of r w coins) ≤ℤ pos 0
+    → (value_of coins ≡ paid_to r.recipients + amount + base_fee r w coins + fees_of r.rate coins + 0 + raised_of r.rate (load_of r w coins) + change_fee_of (rates_of r) (load_of r w coins))
+    × (change_least_of (rates_of r) (load_of r w coins) ≤ amount)
+change_rest r w coins amount is small =
+    let l = load_of r w coins in
+    let cf = change_fee_of (rates_of r) l in
+    let cl = change_least_of (rates_of r) l in
+    left (paid_to r.recipients) (base_fee r w coins) 0 (raised_of r.rate l) (value_of coins) (fees_of r.rate coins) cf cl amount
+    (is ∙ ap (λ (t : ℤ). unsigned_abs ((pos 0 -ℤ t) -ℤ pos cf)) (target_here r w coins))
+    (subst (λ (t : ℤ). (t +ℤ pos cf +ℤ pos cl) ≤ℤ pos 0) (target_here r w coins) small)
+
+-- without change they pay
+pub pays_plain : (r : PlainRequest) (w : Watch) (coins : List Candidate) → AreSorted coins → presets_of (rates_of r) (load_of r w coins) ≡ Plain → Pays r w (load_of r w coins) coins None (payment_of r w (record { coins = coins; change = None }))
+unfolding presets_of load_of payment_of
+pays_plain r w coins sorted e =
+    let l = load_of r w coins in
+    let f = plain_facts (target_of (rates_of r) l) (hi_of (rates_of r) l) (base_of l + weight_of coins) (was_plain _ _ _ e) in
+    let within = plain_window r w coins f.0 f.1 in
+    let total = sum_plain r.recipients (map recipient_output r.recipients ++ []) refl in
+    record {
+      inputs = refl;
+      sorted = sorted;
+      outputs = refl;
+      version = refl;
+      locktime = refl;
+      bare = refl;
+      fee = rw total within;
+      change_worth = tt;
+      weight = f.2;
+      fee_covers = rw total (plain_covers r.rate (base_of l) (paid_to r.recipients) (raised_of r.rate l) (value_of coins) coins within.0);
+    }
+
+-- with change they pay
+pub pays_change : (r : PlainRequest) (w : Watch) (coins : List Candidate) (amount : ℕ) → AreSorted coins → presets_of (rates_of r) (load_of r w coins) ≡ Change amount
+    → Pays r w (load_of r w coins) coins (Some amount) (payment_of r w (record { coins = coins; change = Some amount }))
+unfolding presets_of load_of payment_of
+pays_change r w coins amount sorted e =
+    let l = load_of r w coins in
+    let b = was_change _ _ _ _ e in
+    let f = change_facts (small_of (rates_of r) l) (base_of l + weight_of coins + 4 * output_size_of w.script) b.0 in
+    let rest = change_rest r w coins amount b.1 f.0 in
+    let total = sum_change r.recipients (map recipient_output r.recipients ++ record { value = amount; script = w.script } ∷ []) (record { value = amount; script = w.script }) refl in
+    record {
+      inputs = refl;
+      sorted = sorted;
+      outputs = refl;
+      version = refl;
+      locktime = refl;
+      bare = refl;
+      fee = rw total rest.0;
+      change_worth = rest.1;
+      weight = f.1;
+      fee_covers = rw total (change_covers r.rate (base_of l) (paid_to r.recipients + amount) (raised_of r.rate l) (value_of coins) (output_size_of w.script) coins rest.0);
+    }
+
+-- otherwise nothing pays
+pub pays_none : (r : PlainRequest) (w : Watch) (coins : List Candidate) → presets_of (rates_of r) (load_of r w coins) ≡ Short → (amount : Option ℕ) (t : Transaction) → Pays r w (load_of r w coins) coins amount t → ⊥
+unfolding presets_of load_of
+pays_none r w coins e None t p =
+    let l = load_of r w coins in
+    let f = was_short _ _ _ e in
+    let cf = change_fee_of (rates_of r) l in
+    let cl = change_least_of (rates_of r) l in
+    let fee = rw (sum_plain r.recipients t.outputs p.outputs) at p.fee in
+    let back = window_back (paid_to r.recipients) (base_fee r w coins) 0 (raised_of r.rate l) (value_of coins) (fees_of r.rate coins) cf cl fee.0 fee.1 in
+    let low = subst (λ (t : ℤ). t ≤ℤ pos 0) (sym (target_here r w coins)) back.0 in
+    let high = subst (λ (t : ℤ). pos 0 ≤ℤ ((t +ℤ pos cf +ℤ pos cl) -ℤ pos 1)) (sym (target_here r w coins)) back.1 in
+    both_ways _ f.0 (plain_test (target_of (rates_of r) l) (hi_of (rates_of r) l) (base_of l + weight_of coins) low high p.weight)
+pays_none r w coins e (Some amount) t p =
+    let l = load_of r w coins in
+    let f = was_short _ _ _ e in
+    let fee = rw (sum_change r.recipients t.outputs (record { value = amount; script = w.script }) p.outputs) at p.fee in
+    let cf = change_fee_of (rates_of r) l in
+    let cl = change_least_of (rates_of r) l in
+    let back = left_back (paid_to r.recipients) (base_fee r w coins) 0 (raised_of r.rate l) (value_of coins) (fees_of r.rate coins) cf cl amount fee p.change_worth in
+    let small = subst (λ (t : ℤ). (t +ℤ pos cf +ℤ pos cl) ≤ℤ pos 0) (sym (target_here r w coins)) back in
+    both_ways _ f.1 (change_test (small_of (rates_of r) l) (base_of l + weight_of coins + 4 * output_size_of w.script) small p.weight)
+
+-- ---- what pays is a selection
+
+pub outputs_sum : (r : PlainRequest) (w : Watch) (amount : Option ℕ) → sum_by (λ (o : TxOut). o.value) (map recipient_output r.recipients ++ change_outputs w amount) ≡ outputs_of r amount
+outputs_sum r w None = sum_plain r.recipients (map recipient_output r.recipients ++ []) refl
+outputs_sum r w (Some amount) = sum_change r.recipients (map recipient_output r.recipients ++ record { value = amount; script = w.script } ∷ []) (record { value = amount; script = w.script }) refl
+
+-- the outputs take no more than the coins are worth
+pub pays_within : (r : PlainRequest) (w : Watch) (l : Load) (coins : List Candidate) (amount : Option ℕ) (t : Transaction) → Pays r w l coins amount t → outputs_of r amount ≤ value_of coins
+pays_within r w l coins amount t p = let sum = ap (sum_by (λ (o : TxOut). o.value)) p.outputs ∙ outputs_sum r w amount in omega (arith, sum, p.fee_covers)
+
+-- nothing pays from no coins
+none_pay : (r : PlainRequest) (w : Watch) (amount : Option ℕ) (t : Transaction) → Pays r w (load_of r w []) [] amount t → ⊥
+unfolding load_of
+none_pay r w None t p =
+    let sum = sum_plain r.recipients t.outputs p.outputs in
+    let due = p.fee.0 in
+    absurd (omega (arith, due, sum))
+none_pay r w (Some amount) t p =
+    let sum = sum_change r.recipients t.outputs (record { value = amount; script = w.script }) p.outputs in
+    let due = p.fee in
+    absurd (omega (arith, due, sum, p.change_worth))
+
+pub pays_some : (r : PlainRequest) (w : Watch) (coins : List Candidate) (amount : Option ℕ) (t : Transaction) → Pays r w (load_of r w coins) coins amount t → 0 < length coins
+pays_some r w [] amount t p = absurd (none_pay r w amount t p)
+pays_some r w (c ∷ coins) amount t p = omega arith
+
+amount_most : (r : PlainRequest) (amount : Option ℕ) → outputs_of r amount ≤ 2_100_000_000_000_000 → IfSome amount (λ n. n ≤ 2_100_000_000_000_000)
+amount_most r None h = tt
+amount_most r (Some n) h = omega (arith, h)
+
+pub selection_is : (r : PlainRequest) (w : Watch) (coins : List Candidate) (amount : Option ℕ) (t : Transaction) → AreWithin coins → Pays r w (load_of r w coins) coins amount t → IsSelection r (record { coins = coins; change = amount })
+selection_is r w coins amount t h p =
+    let within = pays_within r w (load_of r w coins) coins amount t p in
+    record { coins = h; some = pays_some r w coins amount t p; change = amount_most r amount (omega (arith, within, h.value)); within = within }
+
+-- ---- what coins bring beyond what is due
+
+excess : (paid base burden raised value fees : ℕ) (cost : ℤ) → cost -ℤ needed paid base burden raised value fees ≡ cost +ℤ (pos value -ℤ pos (paid + base + fees + burden + raised))
+excess paid base burden raised value fees cost = omega (arith, ints)
+
+pub by_excess : (r : PlainRequest) (w : Watch) (coins : List Candidate) → cost_of r coins -ℤ target_of (rates_of r) (load_of r w coins) ≡ cost_of r coins +ℤ excess_of r (load_of r w coins) coins
+unfolding load_of
+by_excess r w coins =
+    ap (λ (t : ℤ). cost_of r coins -ℤ t) (target_here r w coins)
+    ∙ excess (paid_to r.recipients) (base_fee r w coins) 0 (raised_of r.rate (load_of r w coins)) (value_of coins) (fees_of r.rate coins) (cost_of r coins)

@@ -1,0 +1,8 @@
+use Rattle.fund_plan.proofs.PaymentLaws.{answer_text, none_signed}
+use Rattle.fund_plan.proofs.laws.pays_in_text.Goals as goal
+
+pub returns-clause-text : goal.returns-clause-text
+returns-clause-text c = answer_text
+
+pub returns-clause-bare : goal.returns-clause-bare
+returns-clause-bare c = none_signed

@@ -1,0 +1,22 @@
+-- What a plan holds of what it was made from.
+use Rattle.std.specs.Prelude.{pos, ◌≡◌, ◌≤ℤ◌, List}
+use Rattle.fund_base.specs.declared.candidate.Candidate.{Candidate}
+use Rattle.fee_rates.specs.Terms.{AreRates, IsLoad}
+use Rattle.fee_rates.specs.declared.terms.Rates.{Rates}
+use Rattle.fee_rates.specs.declared.terms.Load.{Load}
+use Rattle.fund_plan.specs.Amounts.{AreWithin}
+use Rattle.fund_plan.specs.Answer.{presets_in}
+use Rattle.fund_plan.specs.Plan.{IsPlan, PlainPlan}
+use Rattle.fund_plan.specs.Terms.{load_of, rates_of}
+
+-- The plan keeps its rules, and these are its listed coins, the rates of its request, and what the payment is to carry, all
+-- within their bounds.
+pub record IsKept (p : PlainPlan) (coins : List Candidate) (rates : Rates) (load : Load) : Type 0 where
+  pub plan : IsPlan p
+  pub coins_are : coins ≡ presets_in p
+  pub rates_are : rates ≡ rates_of p.request
+  pub load_is : load ≡ load_of p.request p.change coins
+  pub coins_fit : AreWithin coins
+  pub rates_fit : AreRates rates
+  pub load_fits : IsLoad load
+  pub worth : load.preset_effective ≤ℤ pos 2_100_000_000_000_000

@@ -1,0 +1,9 @@
+pub mod Amounts
+pub mod Answer
+pub mod Figures
+pub mod Kept
+pub mod Pays
+pub mod Plan
+pub mod Presets
+pub mod Selection
+pub mod Terms

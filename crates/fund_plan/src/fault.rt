@@ -1,0 +1,27 @@
+//! Why no plan is made.
+
+ghost use Rattle.std.specs.Prelude.{◌≡◌};
+
+use fund_base::{Memory, OutPoint};
+
+/// Why no plan is made for a request.
+#[derive(Clone, Copy, Debug, PartialEq, Eq)]
+pub enum PlanFault {
+    /// The candidates are together worth this much, in satoshi, which is more than 21,000,000 bitcoin.
+    Total(u128),
+    /// The request lists this outpoint, and no candidate is there that is safe, or may be unsafe by the request. It is
+    /// the first such.
+    NotEligible(OutPoint),
+    /// There was not enough memory.
+    Memory,
+}
+
+impl From<Memory> for PlanFault {
+    ghost use Rattle.fund_plan.specs.declared.fault.PlanFault.TheVariants as faults;
+
+    ghost from_gives = { λ _ e. e ≡ faults.Memory };
+
+    fn from(_e: Memory) -> PlanFault {
+        PlanFault::Memory
+    }
+}

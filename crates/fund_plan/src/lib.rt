@@ -1,0 +1,24 @@
+//! Plans of payments: which coins fund a request, with which change, and the unsigned transaction that pays it. A plan
+//! knows no file and no book of coins: it is made from a request, a change script and the coins that may be spent.
+//! So far it spends exactly the coins that the request lists.
+#![tactic(auto)]
+
+mod amounts;
+mod fault;
+mod figures;
+mod laws;
+mod outcome;
+mod payment;
+mod plan;
+mod presets;
+mod selection;
+mod terms;
+#[cfg(test)]
+mod tests;
+
+pub use fault::PlanFault;
+pub use figures::Figures;
+pub use laws::{answers_once, pays_in_text};
+pub use outcome::{Funded, Outcome};
+pub use payment::unsigned;
+pub use plan::Plan;

@@ -1,0 +1,128 @@
+//! Plans, and what they come to.
+
+ghost use Rattle.std.specs.Prelude.{◌≡◌, All, IfErr, IfOk, None};
+ghost use Rattle.fund_base.specs.Candidates.{AreCandidates};
+ghost use Rattle.request_text.specs.declared.request.Method.TheVariants.{Manual};
+ghost use Rattle.wallet_text.specs.WalletRules.{IsWatch};
+ghost use Rattle.fund_plan.specs.Answer.{Answers, HasSelection, answer_of, by_presets};
+ghost use Rattle.fund_plan.specs.Plan.{HasEligible, IsFault, IsPlan, IsWithin};
+
+use crate::amounts::total;
+use crate::fault::PlanFault;
+use crate::outcome::{Funded, Outcome};
+use crate::presets::{Presets, presets_alone};
+use crate::selection::{copies, missing, presets};
+use crate::terms::{load, rates};
+use fee_rates::{Load, Rates};
+use fund_base::{Candidate, MAX_MONEY, Memory};
+use request_text::Request;
+use std::alloc::Global;
+use std::marker::Model;
+use std::snapshot::Snapshot;
+use wallet_text::Watch;
+
+/// How a request is funded: what it was made from is a request, the script that its change is paid to, and the
+/// candidates, which are the coins that may be spent. It keeps the rules that [`Plan::keeps_rules`] states.
+#[derive(Drop)]
+pub struct Plan {
+    alloc: Global,
+    // what the plan was made from takes no memory
+    request: Snapshot<Request>,
+    change: Snapshot<Watch>,
+    candidates: Snapshot<Vec<Candidate>>,
+    // the listed coins, in the order of their outpoints
+    coins: Vec<Candidate>,
+    rates: Rates,
+    load: Load,
+}
+
+impl Model for Plan {
+    ghost use Rattle.fund_plan.specs.Plan.{PlainPlan};
+    ghost use Rattle.fund_plan.specs.Kept.{IsKept};
+
+    ghost Value = { PlainPlan };
+
+    ghost view = { λ p. record { request = p.request.value; change = p.change.value; candidates = p.candidates.value.items } };
+
+    ghost invariant = { λ p. IsKept (record { request = p.request.value; change = p.change.value; candidates = p.candidates.value.items }) p.coins.items p.rates p.load };
+}
+
+/// The outcome of coins that pay so.
+fn outcome(alloc: Global, coins: &[Candidate], way: Presets) -> Result<Outcome, Memory>
+    ensures { IfOk result (λ o. o ≡ by_presets coins.now way) }
+{
+    let change = match way {
+        Presets::Short => return Ok(Outcome::NoSelection),
+        Presets::Plain => None,
+        Presets::Change(amount) => Some(amount),
+    };
+    let coins = copies(alloc, coins)?;
+    Ok(Outcome::Funded(Funded { coins, change }))
+}
+
+impl Plan {
+    /// The plan of a request that replaces no payment, whatever its method. The change script keeps the rules of a
+    /// wallet's, and the candidates are at most 100,000, each outpoint once.
+    ///
+    /// [`PlanFault::Total`] comes exactly where the candidates are worth more than 21,000,000 bitcoin together. Otherwise
+    /// [`PlanFault::NotEligible`] comes exactly where the request lists an outpoint at which there is no candidate that is
+    /// safe, or that may be unsafe because the request says `include_unsafe`; it shows the first such outpoint.
+    pub fn new(
+        alloc: Global,
+        request: &Request,
+        change: &Watch,
+        candidates: Vec<Candidate>,
+    ) -> Result<Plan, PlanFault>
+        requires bump { request.now.bump ≡ None }
+        requires change { IsWatch change.now }
+        requires candidates { AreCandidates candidates.items }
+        ensures made { IfOk result (λ p. p ≡ record { request = request.now; change = change.now; candidates = candidates.items }) }
+        ensures within { IfOk result (λ p. IsWithin p) }
+        ensures eligible { IfOk result (λ p. All (HasEligible p) p.request.coins) }
+        ensures fault { IfErr result (IsFault (record { request = request.now; change = change.now; candidates = candidates.items })) }
+    {
+        let sum = total(&candidates);
+        if sum > u128::from(MAX_MONEY) {
+            return Err(PlanFault::Total(sum));
+        }
+        let all = Snapshot::of(&candidates);
+        let coins = presets(alloc, request, candidates)?;
+        if let Some(point) = missing(alloc, &coins, &request.coins)? {
+            return Err(PlanFault::NotEligible(point));
+        }
+        request.keeps_rules();
+        let load = load(request, change, &coins);
+        Ok(Plan {
+            alloc,
+            request: Snapshot::of(request),
+            change: Snapshot::of(change),
+            candidates: all,
+            coins,
+            rates: rates(request),
+            load,
+        })
+    }
+
+    /// That the plan keeps its rules: those of the request, of the change script and of the candidates; that the
+    /// candidates are worth at most 21,000,000 bitcoin together; and that at each listed outpoint there is a candidate that
+    /// the request may list. A call does nothing.
+    pub fn keeps_rules(&self)
+        ensures { IsPlan self.now }
+    {
+        let _ = &self.rates;
+    }
+
+    /// What a plan of the method `manual` comes to: [`Outcome::Funded`] where the listed coins pay, all of them and no
+    /// other, and otherwise [`Outcome::NoSelection`]. They pay without change where they bring what is needed and less
+    /// than the least change takes, with change where they bring that much, and in either case if the payment weighs at
+    /// most 400,000 weight units. Another call answers the same.
+    pub fn go(&self) -> Result<Outcome, Memory>
+        requires { self.now.request.method ≡ Manual }
+        ensures exact { IfOk result (λ o. o ≡ answer_of self.now) }
+        ensures answers { IfOk result (Answers self.now) }
+        ensures fits { IfOk result (HasSelection self.now.request) }
+    {
+        let way = presets_alone(&self.rates, &self.load);
+        outcome(self.alloc, &self.coins, way)
+    }
+}
