@@ -1,42 +1,50 @@
 -- What was read of the files, joined.
-use Rattle.std.proofs.Common.{◌≡◌, ◌∙◌, ℕ, Bool, true, false, List, ◌++◌, map, Ok, Option, inr, refl, subst}
-use Rattle.std.specs.Prelude.{flat_map}
-use Rattle.block_feed.specs.Block.{ChainBlock}
+use Rattle.std.proofs.Common.{◌≡◌, ◌∙◌, ◌≤◌, ℕ, List, Ok, None, sym, ap, subst}
+use Rattle.std.specs.Prelude.{length}
 use Rattle.block_feed.specs.BlockFile.{IsBlockFile}
-use Rattle.block_feed.proofs.FileLaws.{blocks_only}
-use Rattle.fund_top.specs.Book.{IsBook, IsKept, IsRead}
-use Rattle.fund_top.specs.Coins.{Confirmed, coins_of, is_booked, weight_for}
-use Rattle.fund_top.specs.Held.{AreKept, IsBlocksRefusal}
-use Rattle.fund_top.specs.Ledger.{chain_of, confirmed_before, confirmed_in, tip_of}
-use Rattle.fund_top.specs.PlainWallet.{PlainWallet}
-use Rattle.fund_top.specs.declared.book.Book.{Book}
-use Rattle.fund_top.specs.declared.book.Kept.{Kept}
-use Rattle.fund_top.specs.declared.refusal.Refusal.TheVariants.{BookNotYet}
+use Rattle.coin_book.specs.History.{History}
+use Rattle.request_text.specs.PlainRequest.{PlainRequest}
+use Rattle.request_text.specs.RequestText.{request_of}
+use Rattle.wallet_text.specs.PlainWallet.{PlainWallet}
+use Rattle.wallet_text.specs.WalletRules.{IsWallet}
+use Rattle.fund_top.specs.Chain.{held_of, history_of}
+use Rattle.fund_top.specs.Held.{AreAsked, AreHeld, IsBehind}
+use Rattle.fund_top.specs.Outcome.{not_taken}
+use Rattle.fund_top.specs.Stop.{HasWallet}
+use Rattle.fund_top.specs.Words.{Payment, Sources}
+use Rattle.fund_top.specs.declared.booking.Held.{Held}
+use Rattle.fund_top.specs.declared.booking.Tip.{Tip}
 
--- what was read, by the wallet's own parts
-read_own : (told : Type 0) (weigh : List ℕ → Option ℕ) (file : List ℕ) (w : PlainWallet) (hash : List ℕ) (height tip : ℕ) (b : Book) → weigh ≡ weight_for w.scripts → hash ≡ w.hash → height ≡ w.height
-    → IsRead told weigh (map confirmed_before w.earlier) hash height file tip b → IsRead told (weight_for w.scripts) (map confirmed_before w.earlier) w.hash w.height file tip b
-read_own told weigh file w hash height tip b same named at r =
-    subst (λ (n : ℕ). IsRead told (weight_for w.scripts) (map confirmed_before w.earlier) w.hash n file tip b) at
-    (subst (λ (h : List ℕ). IsRead told (weight_for w.scripts) (map confirmed_before w.earlier) h height file tip b) named
-    (subst (λ (f : List ℕ → Option ℕ). IsRead told f (map confirmed_before w.earlier) hash height file tip b) same r))
+abbrev held_by : PlainWallet → History → Tip → Held
+held_by w h tip = record { wallet = w; book = h; tip = tip }
 
-pub kept_from : (told : Type 0) (weigh : List ℕ → Option ℕ) (file : List ℕ) (w : PlainWallet) (hash : List ℕ) (height tip : ℕ) (b : Book) (k : Kept) → weigh ≡ weight_for w.scripts → hash ≡ w.hash → height ≡ w.height
-    → IsRead told weigh (map confirmed_before w.earlier) hash height file tip b → ((f : List ℕ → Option ℕ) (chain : List Confirmed) → IsBook f chain b → (is_booked (coins_of f chain) ≡ true) × IsKept f chain tip k) → AreKept told file w k
-kept_from told weigh file w hash height tip b k same named at r closes =
-    let own = read_own told weigh file w hash height tip b same named at r in
-    let closed = closes (weight_for w.scripts) (chain_of w.earlier own.blocks) own.book in
-    record {
-      blocks = own.blocks;
-      kept = subst (λ (n : ℕ). IsKept (weight_for w.scripts) (chain_of w.earlier own.blocks) n k) own.tip_is closed.1;
-      texts = own.texts;
-      booked = closed.0;
-      whole = own.whole;
-      within = own.within;
-    }
+pub held_is : (told : Type 0) (files seen : List ℕ → List ℕ) (s : Sources) (w : PlainWallet) (h : History) (tip : Tip) → IsBehind told (seen s.blocks) w h tip → (told → seen ≡ files) → IsWallet w → (told → HasWallet files s w) → AreHeld told files s (held_by w h tip)
+held_is told files seen s w h tip b same rules has = record {
+  held = record {
+    blocks = b.blocks;
+    is = ap (λ (x : History). held_by w x tip) b.book_is ∙ ap (λ (x : Tip). held_by w (history_of w b.blocks) x) b.read.tip_is;
+    rules = rules;
+    texts = b.read.texts;
+    height = b.read.height;
+  };
+  chain = λ t. record {
+    wallet = has t;
+    blocks = record {
+      fits = subst (λ (f : List ℕ → List ℕ). length (f s.blocks) ≤ 1073741824) (same t) (b.read.within t);
+      form = subst (λ (f : List ℕ → List ℕ). IsBlockFile w.hash w.height b.blocks (f s.blocks)) (same t) (b.read.whole t);
+      sound = b.sound;
+    };
+  };
+}
 
-pub not_kept : (told : Type 0) (weigh : List ℕ → Option ℕ) (file : List ℕ) (w : PlainWallet) (hash : List ℕ) (height tip : ℕ) (b : Book) → weigh ≡ weight_for w.scripts → hash ≡ w.hash → height ≡ w.height
-    → IsRead told weigh (map confirmed_before w.earlier) hash height file tip b → ((f : List ℕ → Option ℕ) (chain : List Confirmed) → IsBook f chain b → is_booked (coins_of f chain) ≡ false) → told → IsBlocksRefusal w file BookNotYet
-not_kept told weigh file w hash height tip b same named at r closes = λ t.
-    let own = read_own told weigh file w hash height tip b same named at r in
-    inr (own.blocks, blocks_only file w.hash w.height own.blocks (own.whole t) (own.within t), closes (weight_for w.scripts) (chain_of w.earlier own.blocks) own.book, refl)
+pub asked_is : (told : Type 0) (files seen : List ℕ → List ℕ) (s : Sources) (p : Payment) (k : Held) (r : PlainRequest) → AreHeld told files s k → (told → seen ≡ files) → (told → request_of (seen p.request) ≡ Ok r) → (told → length (seen p.request) ≤ 1048576) → not_taken r ≡ None → AreAsked told files s p k r
+asked_is told files seen s p k r h same form fits taken = record {
+  held = h.held;
+  inputs = λ t. record {
+    chain = h.chain t;
+    request_fits = subst (λ (f : List ℕ → List ℕ). length (f p.request) ≤ 1048576) (same t) (fits t);
+    request = subst (λ (f : List ℕ → List ℕ). request_of (f p.request) ≡ Ok r) (same t) (form t);
+    taken = taken;
+  };
+  taken = taken;
+}

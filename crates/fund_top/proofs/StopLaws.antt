@@ -1,39 +1,54 @@
 -- A stop at one file is a stop of the command.
-use Rattle.std.proofs.Common.{◌≡◌, ◌∙◌, ◌<◌, ◌≤◌, ℕ, List, length, Some, Err, inl, inr, refl, sym, ap, subst}
+use Rattle.std.proofs.Common.{◌≡◌, ◌∙◌, ℕ, Bool, true, false, cond, List, [], Some, None, Result, Ok, Err, inl, inr, refl, sym, ap, subst}
+use Rattle.std.specs.Prelude.{is_some}
+use Rattle.std.proofs.lemmas.Option.{same_Some}
 use Rattle.fund_base.specs.Causes.{ShelfView, Rose, NeverFall}
 use Rattle.fund_base.proofs.Outside.{rose_earlier}
 use Rattle.block_feed.specs.Block.{ChainBlock}
 use Rattle.block_feed.specs.Blocks.{blocks_of}
 use Rattle.block_feed.specs.declared.fault.FeedFault.{FeedFault}
 use Rattle.block_feed.specs.declared.fault.FeedFault.TheVariants as faults
+use Rattle.block_feed.proofs.FileLaws.{blocks_only}
+use Rattle.coin_book.specs.Faults.{fault_of}
+use Rattle.coin_book.specs.History.{History}
+use Rattle.coin_book.specs.declared.fault.BookFault.{BookFault}
+use Rattle.coin_book.specs.declared.fault.BookFault.TheVariants as books
+use Rattle.request_text.specs.PlainRequest.{PlainRequest}
+use Rattle.request_text.specs.RequestText.{request_of}
+use Rattle.request_text.specs.declared.fault.Refusal as requests
+use Rattle.tx_codec.specs.Transaction.{Transaction}
+use Rattle.wallet_text.specs.PlainWallet.{PlainWallet}
+use Rattle.fund_top.specs.declared.booking.Booked.{Booked}
+use Rattle.fund_top.specs.declared.booking.Tip.{Tip}
 use Rattle.fund_top.specs.declared.refusal.File.{File}
 use Rattle.fund_top.specs.declared.refusal.File.TheVariants.{Wallet, Blocks, Request}
-use Rattle.fund_top.specs.declared.refusal.Refusal.{Refusal}
-use Rattle.fund_top.specs.declared.refusal.Refusal.TheVariants.{TooLong, NotYet, BookNotYet}
 use Rattle.fund_top.specs.declared.files.Stop.{Stop}
 use Rattle.fund_top.specs.declared.files.Stop.TheVariants as stops
-use Rattle.fund_top.specs.Held.{IsBlocksRefusal, stop_of}
-use Rattle.fund_top.specs.InputStop.{StopsAt, IsWalletRefusal, IsRequestRefusal}
-use Rattle.fund_top.specs.Outcome.{refusal_of}
-use Rattle.fund_top.specs.PlainWallet.{PlainWallet}
-use Rattle.fund_top.specs.Stop.{HasBlocks, HasWallet, IsDue, IsMeant, Reaches, StopsFor, name_of}
-use Rattle.fund_top.specs.Words.{Command}
-use Rattle.fund_top.proofs.OutcomeLaws.{wallet_refused, fault_refused, book_refused, request_refused}
+use Rattle.fund_top.specs.Booked.{IsBooked, IsRead}
+use Rattle.fund_top.specs.Cause.{Cause, BumpNotYet, PlanNotYet, cause_of}
+use Rattle.fund_top.specs.Chain.{confirmed_history, history_of}
+use Rattle.fund_top.specs.Held.{IsBehind, IsBlocksCause, stop_of}
+use Rattle.fund_top.specs.InputStop.{StopsAt, IsAskedCause, IsWalletCause, IsRequestCause}
+use Rattle.fund_top.specs.Outcome.{book_cause, feed_cause, is_manual}
+use Rattle.fund_top.specs.Stop.{HasChain, HasWallet, IsDue, IsMeant, IsUnread, Reaches, StopsFor}
+use Rattle.fund_top.specs.Words.{Command, Fund, Payment, Sources, sources_of}
+use Rattle.fund_top.proofs.BookSteps.{waiting}
+use Rattle.fund_top.proofs.OutcomeLaws.{wallet_refused, blocks_refused, request_refused}
 
 -- the read count of the file that is named rose
-read_of : (c : Command) (old new : ShelfView) (file named : File) → named ≡ file → Rose (old.reads (name_of c file)) (new.reads (name_of c file)) → Rose (old.reads (name_of c named)) (new.reads (name_of c named))
-read_of c old new file named is rose = subst (λ (f : File). Rose (old.reads (name_of c f)) (new.reads (name_of c f))) (sym is) rose
+read_of : (c : Command) (old new : ShelfView) (file named : File) → named ≡ file → IsUnread c file old new → IsUnread c named old new
+read_of c old new file named is rose = subst (λ (f : File). IsUnread c f old new) (sym is) rose
 
 -- and the file that is named is reached
 reached : (files : List ℕ → List ℕ) (c : Command) (file named : File) → named ≡ file → Reaches files c file → Reaches files c named
 reached files c file named is reaches = subst (λ (f : File). Reaches files c f) (sym is) reaches
 
-wallet_due : (files : List ℕ → List ℕ) (c : Command) (refusal : Refusal) → IsWalletRefusal (files c.wallet) refusal → IsDue files c refusal
-wallet_due files c refusal (inl h) = subst (λ (r : Refusal). IsDue files c r) (sym h.0) (wallet_refused files c (TooLong Wallet) (inl (refl, h.1)), tt)
-wallet_due files c refusal (inr h) = subst (λ (r : Refusal). IsDue files c r) (sym h.0) (wallet_refused files c (NotYet Wallet) (inr (refl, h.1, h.2)), tt)
+wallet_meant : (files : List ℕ → List ℕ) (c : Command) (cause : Cause) → IsWalletCause (files (sources_of c).wallet) cause → IsMeant files c cause
+wallet_meant files c cause (inl h) = subst (λ (x : Cause). IsMeant files c x) (sym h.0) tt
+wallet_meant files c cause (inr h) = subst (λ (x : Cause). IsMeant files c x) (sym h.3) h.2
 
 -- a fault of the blocks means what its name says
-fault_meant : (files : List ℕ → List ℕ) (c : Command) (fault : FeedFault) → IsMeant files c (refusal_of fault)
+fault_meant : (files : List ℕ → List ℕ) (c : Command) (fault : FeedFault) → IsMeant files c (feed_cause fault)
 fault_meant files c (faults.Magic place) = tt
 fault_meant files c (faults.Length place) = tt
 fault_meant files c (faults.Tx height fault) = tt
@@ -46,36 +61,64 @@ fault_meant files c faults.Read = tt
 fault_meant files c faults.Limit = tt
 fault_meant files c faults.Memory = tt
 
-blocks_due : (files : List ℕ → List ℕ) (c : Command) (w : PlainWallet) (refusal : Refusal) → HasWallet files c w → IsBlocksRefusal w (files c.blocks) refusal → IsDue files c refusal
-blocks_due files c w refusal held (inl h) = subst (λ (r : Refusal). IsDue files c r) (sym h.2) (fault_refused files c w h.0 held h.1, fault_meant files c h.0)
-blocks_due files c w refusal held (inr h) = subst (λ (r : Refusal). IsDue files c r) (sym h.3) (book_refused files c w h.0 held h.1 h.2, tt)
+-- so does one of the book
+book_meant : (files : List ℕ → List ℕ) (c : Command) (fault : BookFault) → IsMeant files c (book_cause fault)
+book_meant files c (books.RepeatCoin coin) = tt
+book_meant files c books.Full = tt
+book_meant files c books.Memory = tt
 
-request_due : (files : List ℕ → List ℕ) (c : Command) (w : PlainWallet) (blocks : List ChainBlock) (refusal : Refusal) → HasWallet files c w → HasBlocks files c w blocks → IsRequestRefusal (files c.request) refusal → IsDue files c refusal
-request_due files c w blocks refusal held has (inl h) = subst (λ (r : Refusal). IsDue files c r) (sym h.0) (request_refused files c w blocks (TooLong Request) held has (inl (refl, h.1)), tt)
-request_due files c w blocks refusal held has (inr h) = subst (λ (r : Refusal). IsDue files c r) (sym h.0) (request_refused files c w blocks (NotYet Request) held has (inr (refl, h.1, h.2)), tt)
+blocks_meant : (files : List ℕ → List ℕ) (c : Command) (w : PlainWallet) (file : List ℕ) (cause : Cause) → IsBlocksCause w file cause → IsMeant files c cause
+blocks_meant files c w file cause (inl h) = subst (λ (x : Cause). IsMeant files c x) (sym h.2) (fault_meant files c h.0)
+blocks_meant files c w file cause (inr h) = subst (λ (x : Cause). IsMeant files c x) (sym h.4) (book_meant files c h.1)
 
-pub at_wallet : (told : Type 0) (c : Command) (old new : ShelfView) (stop : Stop) → StopsAt Wallet (Rose (old.reads c.wallet) (new.reads c.wallet)) (λ refusal. told → IsWalletRefusal (old.files c.wallet) refusal) stop → StopsFor told c old new stop
-at_wallet told c old new (stops.Read named) h = (read_of c old new Wallet named h.0 h.1, λ t. reached old.files c Wallet named h.0 tt)
-at_wallet told c old new (stops.Refused refusal) h = λ t. wallet_due old.files c refusal (h t)
-at_wallet told c old new stops.Memory h = tt
+-- so does one of a request that isn't taken
+option_meant : (files : List ℕ → List ℕ) (c : Command) (cause : Cause) (bump manual : Bool) → cond bump (Some BumpNotYet) (cond manual None (Some PlanNotYet)) ≡ Some cause → IsMeant files c cause
+option_meant files c cause true manual e = subst (λ (x : Cause). IsMeant files c x) (same_Some BumpNotYet cause e) tt
+option_meant files c cause false true e = absurd cc
+option_meant files c cause false false e = subst (λ (x : Cause). IsMeant files c x) (same_Some PlanNotYet cause e) tt
 
-pub at_blocks : (told : Type 0) (c : Command) (w : PlainWallet) (old middle new : ShelfView) (stop : Stop) → NeverFall old.reads middle.reads → (told → middle.files ≡ old.files) → (told → HasWallet old.files c w)
-    → StopsAt Blocks (Rose (middle.reads c.blocks) (new.reads c.blocks)) (λ refusal. told → IsBlocksRefusal w (middle.files c.blocks) refusal) stop → StopsFor told c old new stop
-at_blocks told c w old middle new (stops.Read named) up same held h = (read_of c old new Blocks named h.0 (rose_earlier _ _ _ (up c.blocks) h.1), λ t. reached old.files c Blocks named h.0 (w, held t))
-at_blocks told c w old middle new (stops.Refused refusal) up same held h =
-    λ t. blocks_due old.files c w refusal (held t) (subst (λ (files : List ℕ → List ℕ). IsBlocksRefusal w (files c.blocks) refusal) (same t) (h t))
-at_blocks told c w old middle new stops.Memory up same held h = tt
+asked_meant : (files : List ℕ → List ℕ) (s : Sources) (p : Payment) (cause : Cause) (r : Result PlainRequest requests.Refusal) → request_of (files p.request) ≡ r → IsAskedCause r cause → IsMeant files (Fund s p) cause
+asked_meant files s p cause (Err fault) is h = subst (λ (x : Cause). IsMeant files (Fund s p) x) (sym h) is
+asked_meant files s p cause (Ok r) is h = option_meant files (Fund s p) cause (is_some r.bump) (is_manual r.method) h
 
-pub at_request : (told : Type 0) (c : Command) (w : PlainWallet) (blocks : List ChainBlock) (old middle new : ShelfView) (stop : Stop) → NeverFall old.reads middle.reads → (told → middle.files ≡ old.files) → (told → HasWallet old.files c w) → (told → HasBlocks old.files c w blocks)
-    → StopsAt Request (Rose (middle.reads c.request) (new.reads c.request)) (λ refusal. told → IsRequestRefusal (middle.files c.request) refusal) stop → StopsFor told c old new stop
-at_request told c w blocks old middle new (stops.Read named) up same held has h = (read_of c old new Request named h.0 (rose_earlier _ _ _ (up c.request) h.1), λ t. reached old.files c Request named h.0 (w, blocks, held t, has t))
-at_request told c w blocks old middle new (stops.Refused refusal) up same held has h =
-    λ t. request_due old.files c w blocks refusal (held t) (has t) (subst (λ (files : List ℕ → List ℕ). IsRequestRefusal (files c.request) refusal) (same t) (h t))
-at_request told c w blocks old middle new stops.Memory up same held has h = tt
+request_meant : (files : List ℕ → List ℕ) (s : Sources) (p : Payment) (cause : Cause) → IsRequestCause (files p.request) cause → IsMeant files (Fund s p) cause
+request_meant files s p cause (inl h) = subst (λ (x : Cause). IsMeant files (Fund s p) x) (sym h.0) tt
+request_meant files s p cause (inr h) = asked_meant files s p cause (request_of (files p.request)) refl h.1
 
--- why the reading of the blocks stops
+-- ---- the stops
+
+-- at the wallet
+pub at_wallet : (told : Type 0) (s : Sources) (c : Command) (old new : ShelfView) (stop : Stop) → sources_of c ≡ s → StopsAt Wallet (Rose (old.reads s.wallet) (new.reads s.wallet)) (λ cause. told → IsWalletCause (old.files s.wallet) cause) stop → StopsFor told c old new stop
+at_wallet told s c old new (stops.Read named) own h = (read_of c old new Wallet named h.0 (rw own h.1), λ t. reached old.files c Wallet named h.0 tt)
+at_wallet told s c old new (stops.Refused refusal) own h = λ t.
+    let due : IsWalletCause (old.files (sources_of c).wallet) (cause_of refusal) = rw own (h t) in
+    (wallet_refused old.files c (cause_of refusal) due, wallet_meant old.files c (cause_of refusal) due)
+at_wallet told s c old new stops.Memory own h = tt
+
+-- at the blocks
+pub at_blocks : (told : Type 0) (s : Sources) (c : Command) (w : PlainWallet) (old middle new : ShelfView) (stop : Stop) → sources_of c ≡ s → NeverFall old.reads middle.reads → (told → middle.files ≡ old.files) → (told → HasWallet old.files s w)
+    → StopsAt Blocks (Rose (middle.reads s.blocks) (new.reads s.blocks)) (λ cause. told → IsBlocksCause w (middle.files s.blocks) cause) stop → StopsFor told c old new stop
+at_blocks told s c w old middle new (stops.Read named) own up same held h =
+    (read_of c old new Blocks named h.0 (rw own (rose_earlier _ _ _ (up s.blocks) h.1)), λ t. reached old.files c Blocks named h.0 (w, rw own (held t)))
+at_blocks told s c w old middle new (stops.Refused refusal) own up same held h = λ t.
+    let due : IsBlocksCause w (old.files (sources_of c).blocks) (cause_of refusal) = rw own (subst (λ (files : List ℕ → List ℕ). IsBlocksCause w (files s.blocks) (cause_of refusal)) (same t) (h t)) in
+    (blocks_refused old.files c w (cause_of refusal) (rw own (held t)) due, blocks_meant old.files c w (old.files (sources_of c).blocks) (cause_of refusal) due)
+at_blocks told s c w old middle new stops.Memory own up same held h = tt
+
+-- at the request
+pub at_request : (told : Type 0) (s : Sources) (p : Payment) (w : PlainWallet) (blocks : List ChainBlock) (old middle new : ShelfView) (stop : Stop) → NeverFall old.reads middle.reads → (told → middle.files ≡ old.files) → (told → HasChain old.files s w blocks)
+    → StopsAt Request (Rose (middle.reads p.request) (new.reads p.request)) (λ cause. told → IsRequestCause (middle.files p.request) cause) stop → StopsFor told (Fund s p) old new stop
+at_request told s p w blocks old middle new (stops.Read named) up same held h =
+    (read_of (Fund s p) old new Request named h.0 (rose_earlier _ _ _ (up p.request) h.1), λ t. reached old.files (Fund s p) Request named h.0 (w, blocks, held t))
+at_request told s p w blocks old middle new (stops.Refused refusal) up same held h = λ t.
+    let due : IsRequestCause (old.files p.request) (cause_of refusal) = subst (λ (files : List ℕ → List ℕ). IsRequestCause (files p.request) (cause_of refusal)) (same t) (h t) in
+    (request_refused old.files s p w blocks (cause_of refusal) (held t) due, request_meant old.files s p (cause_of refusal) due)
+at_request told s p w blocks old middle new stops.Memory up same held h = tt
+
+-- ---- why the reading of the blocks stops
+
 pub blocks_stop_at : (told failed : Type 0) (w : PlainWallet) (file : List ℕ) (fault : FeedFault) → (fault ≡ faults.Read → failed) → (told → (fault ≡ faults.Memory → ⊥) → (fault ≡ faults.Read → ⊥) → blocks_of file w.hash w.height ≡ Err fault)
-    → StopsAt Blocks failed (λ refusal. told → IsBlocksRefusal w file refusal) (stop_of fault)
+    → StopsAt Blocks failed (λ cause. told → IsBlocksCause w file cause) (stop_of fault)
 blocks_stop_at told failed w file (faults.Magic place) read is = λ t. inl (faults.Magic place, is t (λ e. absurd cc) (λ e. absurd cc), refl)
 blocks_stop_at told failed w file (faults.Length place) read is = λ t. inl (faults.Length place, is t (λ e. absurd cc) (λ e. absurd cc), refl)
 blocks_stop_at told failed w file (faults.Tx height fault) read is = λ t. inl (faults.Tx height fault, is t (λ e. absurd cc) (λ e. absurd cc), refl)
@@ -87,3 +130,22 @@ blocks_stop_at told failed w file (faults.Empty height) read is = λ t. inl (fau
 blocks_stop_at told failed w file faults.Read read is = (refl, read refl)
 blocks_stop_at told failed w file faults.Limit read is = λ t. inl (faults.Limit, is t (λ e. absurd cc) (λ e. absurd cc), refl)
 blocks_stop_at told failed w file faults.Memory read is = tt
+
+-- what was read has this fault
+pub book_broken : (told : Type 0) (file : List ℕ) (w : PlainWallet) (tip : Tip) (booked : Booked) (pending : List Transaction) (fault : BookFault) (cause : Cause) → IsRead told file w tip booked → pending ≡ w.pending
+    → ((h : History) → h.pending ≡ [] → IsBooked booked h → fault_of (waiting h pending) ≡ Some fault) → cause ≡ book_cause fault → told → IsBlocksCause w file cause
+book_broken told file w tip booked pending fault cause r own broken is = λ t.
+    inr (
+      r.blocks,
+      fault,
+      blocks_only file w.hash w.height r.blocks (r.read.whole t) (r.read.within t),
+      subst (λ (ts : List Transaction). fault_of (waiting (confirmed_history w r.blocks) ts) ≡ Some fault) own (broken (confirmed_history w r.blocks) refl r.booked_is),
+      is,
+    )
+
+-- and otherwise this is its book
+pub book_kept : (told : Type 0) (file : List ℕ) (w : PlainWallet) (tip : Tip) (booked : Booked) (pending : List Transaction) (book : History) → IsRead told file w tip booked → pending ≡ w.pending
+    → ((h : History) → h.pending ≡ [] → IsBooked booked h → (book ≡ waiting h pending) × (fault_of (waiting h pending) ≡ None)) → IsBehind told file w book tip
+book_kept told file w tip booked pending book r own kept =
+    let k = subst (λ (ts : List Transaction). (book ≡ waiting (confirmed_history w r.blocks) ts) × (fault_of (waiting (confirmed_history w r.blocks) ts) ≡ None)) own (kept (confirmed_history w r.blocks) refl r.booked_is) in
+    record { blocks = r.blocks; read = r.read; book_is = k.0; sound = k.1 }

@@ -1,72 +1,146 @@
 -- What the files of a command come to.
-use Rattle.std.specs.Prelude.{ℕ, List, length, nat_lt, if◌then◌else◌, Option, Some, None, Result, Ok, Err}
-use Rattle.tx_codec.specs.Transaction.{Transaction}
+use Rattle.std.specs.Prelude.{ℕ, Bool, true, false, List, length, nat_lt, is_some, if◌then◌else◌, Option, Some, None, option_map, Result, Ok, Err}
 use Rattle.block_feed.specs.Block.{ChainBlock}
 use Rattle.block_feed.specs.Blocks.{blocks_of}
 use Rattle.block_feed.specs.declared.fault.FeedFault.{FeedFault}
-use Rattle.block_feed.specs.declared.fault.FeedFault.TheVariants as faults
+use Rattle.block_feed.specs.declared.fault.FeedFault.TheVariants as feeds
+use Rattle.coin_book.specs.Faults.{fault_of}
+use Rattle.coin_book.specs.declared.fault.BookFault.{BookFault}
+use Rattle.coin_book.specs.declared.fault.BookFault.TheVariants as books
+use Rattle.coin_listing.specs.Listing.{listing_of}
+use Rattle.fund_base.specs.declared.candidate.Candidate.{Candidate}
+use Rattle.fund_plan.specs.Amounts.{value_of}
+use Rattle.fund_plan.specs.Answer.{answer_of, presets_in}
+use Rattle.fund_plan.specs.Plan.{PlainPlan}
+use Rattle.fund_plan.specs.Selection.{first_missing}
+use Rattle.fund_plan.specs.declared.outcome.Outcome.{Outcome as Answer}
+use Rattle.fund_plan.specs.declared.outcome.Outcome.TheVariants as answers
+use Rattle.payment_states.specs.Candidates.{candidates_of}
+use Rattle.payment_states.specs.Payments.{payments_of}
+use Rattle.request_text.specs.PlainRequest.{PlainRequest}
+use Rattle.request_text.specs.RequestText.{request_of}
+use Rattle.request_text.specs.declared.fault.Refusal as requests
+use Rattle.request_text.specs.declared.request.Method.{Method}
+use Rattle.request_text.specs.declared.request.Method.TheVariants.{Auto, Changeless, Weight, Draw, Manual}
+use Rattle.wallet_text.specs.PlainWallet.{PlainWallet}
+use Rattle.wallet_text.specs.WalletText.{wallet_of}
+use Rattle.wallet_text.specs.declared.fault.Refusal as wallets
+use Rattle.fund_top.specs.declared.booking.Held.{Held}
 use Rattle.fund_top.specs.declared.refusal.File.TheVariants.{Wallet, Blocks, Request}
-use Rattle.fund_top.specs.declared.refusal.Refusal as refusals
-use Rattle.fund_top.specs.declared.refusal.Refusal.TheVariants.{TooLong, NotYet, BadBlocks, BookNotYet, NotEligible, Total}
-use Rattle.fund_top.specs.declared.decision.Decision.{Decision}
-use Rattle.fund_top.specs.declared.decision.Decision.TheVariants as decisions
-use Rattle.fund_top.specs.Candidate.{Ledger, candidates}
-use Rattle.fund_top.specs.Coins.{coins_of, is_booked, maker_in, weight_for}
-use Rattle.fund_top.specs.Ledger.{ledger_of}
-use Rattle.fund_top.specs.PlainWallet.{PlainWallet}
-use Rattle.fund_top.specs.PlainRequest.{PlainRequest}
-use Rattle.fund_top.specs.WalletForm.{wallet_form}
-use Rattle.fund_top.specs.RequestForm.{request_form}
-use Rattle.fund_top.specs.Decision.{decision_of}
+use Rattle.fund_top.specs.Cause.{Cause, TooLong, BadWallet, BadBlocks, RepeatCoin, ManyCoins, BadRequest, BumpNotYet, PlanNotYet, NotEligible, Total}
+use Rattle.fund_top.specs.Chain.{held_of, history_of}
 use Rattle.fund_top.specs.Ending.{report_of}
-use Rattle.fund_top.specs.Words.{Command}
+use Rattle.fund_top.specs.Words.{Command, Coins, Fund, sources_of}
 
--- a refusal, no selection, or a payment and its report
+-- a refusal, the listing, no selection, or a payment and its report
 pub data Outcome : Type 0 where
-  Refused : refusals.Refusal → Outcome
+  Refused : Cause → Outcome
+  Listed : (listing : List ℕ) → Outcome
   NoSelection : Outcome
   Funded : (report : List ℕ) → Outcome
 
--- what is decided, the transactions of the chain being these by their places
-abbrev pub decided : PlainWallet → PlainRequest → (ℕ → Option Transaction) → Decision → Outcome
-decided w r maker (decisions.Total sum) = Refused (Total sum)
-decided w r maker (decisions.NotEligible coin) = Refused (NotEligible coin)
-decided w r maker decisions.NoSelection = NoSelection
-decided w r maker (decisions.Funded f) = Funded (report_of w r maker f)
+-- ---- the wallet and its chain
 
--- by the request that was read
-abbrev pub by_request : PlainWallet → Ledger → Option PlainRequest → Outcome
-by_request w l None = Refused (NotYet Request)
-by_request w l (Some r) = decided w r (maker_in l.chain) (decision_of w (candidates l) r)
+-- why a block file with this fault is refused
+abbrev pub feed_cause : FeedFault → Cause
+feed_cause feeds.Limit = TooLong Blocks
+feed_cause fault = BadBlocks fault
 
--- by the coins, and then the request file
-abbrev pub by_ledger : PlainWallet → Ledger → (request : List ℕ) → Outcome
-by_ledger w l request =
-    if is_booked (coins_of (weight_for l.scripts) l.chain) then (
-    if nat_lt 1048576 (length request) then Refused (TooLong Request)
-    else by_request w l (request_form request)
-    ) else Refused BookNotYet
+-- why a history with this fault is refused
+abbrev pub book_cause : BookFault → Cause
+book_cause (books.RepeatCoin coin) = RepeatCoin coin
+book_cause books.Full = ManyCoins
+book_cause books.Memory = ManyCoins
 
--- the refusal of a block file with this fault
-abbrev pub refusal_of : FeedFault → refusals.Refusal
-refusal_of faults.Limit = TooLong Blocks
-refusal_of fault = BadBlocks fault
+-- by the fault of the book
+abbrev pub by_book : Held → Option BookFault → Result Held Cause
+by_book k None = Ok k
+by_book k (Some fault) = Err (book_cause fault)
 
 -- by the blocks that were read
-abbrev pub by_blocks : PlainWallet → Result (List ChainBlock) FeedFault → (request : List ℕ) → Outcome
-by_blocks w (Err fault) request = Refused (refusal_of fault)
-by_blocks w (Ok blocks) request = by_ledger w (ledger_of w blocks) request
+abbrev pub by_blocks : PlainWallet → Result (List ChainBlock) FeedFault → Result Held Cause
+by_blocks w (Err fault) = Err (feed_cause fault)
+by_blocks w (Ok blocks) = by_book (held_of w blocks) (fault_of (history_of w blocks))
 
--- by the wallet that was read, and the bytes of the other files
-abbrev pub by_wallet : Option PlainWallet → (blocks request : List ℕ) → Outcome
-by_wallet None blocks request = Refused (NotYet Wallet)
-by_wallet (Some w) blocks request = by_blocks w (blocks_of blocks w.hash w.height) request
+-- by the wallet that was read
+abbrev pub by_wallet : Result PlainWallet wallets.Refusal → (blocks : List ℕ) → Result Held Cause
+by_wallet (Err fault) blocks = Err (BadWallet fault)
+by_wallet (Ok w) blocks = by_blocks w (blocks_of blocks w.hash w.height)
 
--- The files are taken one by one: the wallet, the blocks, the coins that these two make, the request, and then what
--- the request asks for. The wallet and the request are refused for their length before their form.
-abbrev pub by_files : (wallet blocks request : List ℕ) → Outcome
-by_files wallet blocks request = if nat_lt 16777216 (length wallet) then Refused (TooLong Wallet) else by_wallet (wallet_form wallet) blocks request
+-- The first two files are taken one by one: the wallet, the blocks, and then the coins that both make. Each file is
+-- refused for its length before its form.
+unfoldable pub chain_of : (wallet blocks : List ℕ) → Result Held Cause
+chain_of wallet blocks = if nat_lt 16777216 (length wallet) then Err (TooLong Wallet) else by_wallet (wallet_of wallet) blocks
+
+-- ---- the listing
+
+-- the coins of a chain that may be spent
+abbrev pub candidates_in : Held → List Candidate
+candidates_in k = candidates_of k.wallet k.book k.tip.height
+
+-- the listing of a chain
+unfoldable pub listing_in : Held → List ℕ
+listing_in k = listing_of k.tip.height k.tip.hash (payments_of k.wallet k.book) (candidates_in k)
+
+-- ---- the payment
+
+-- the plan of a request on a chain
+abbrev pub plan_of : Held → PlainRequest → PlainPlan
+plan_of k r = record { request = r; change = k.wallet.change; candidates = candidates_in k }
+
+-- by a cause for a refusal
+abbrev pub by_cause : Option Cause → Outcome → Outcome
+by_cause (Some cause) due = Refused cause
+by_cause None due = due
+
+-- what a payment comes to
+abbrev pub by_answer : Held → PlainRequest → Answer → Outcome
+by_answer k r answers.NoSelection = NoSelection
+by_answer k r (answers.Funded f) = Funded (report_of k.book r k.wallet.change f)
+
+-- why no plan is made: its candidates are worth more than 21,000,000 bitcoin, or a listed coin isn't eligible
+abbrev pub plan_cause : PlainPlan → Option Cause
+plan_cause p =
+    if nat_lt 2_100_000_000_000_000 (value_of p.candidates) then Some (Total (value_of p.candidates))
+    else option_map (λ coin. NotEligible coin) (first_missing (presets_in p) p.request.coins)
+
+-- the method that spends the listed coins and no others
+abbrev pub is_manual : Method → Bool
+is_manual Auto = false
+is_manual Changeless = false
+is_manual Weight = false
+is_manual Draw = false
+is_manual Manual = true
+
+-- what isn't taken of a request yet: a payment to be replaced, and then a method that chooses coins
+abbrev pub not_taken : PlainRequest → Option Cause
+not_taken r = if is_some r.bump then Some BumpNotYet else if is_manual r.method then None else Some PlanNotYet
+
+-- what is due for a request of which all is taken
+unfoldable pub planned : Held → PlainRequest → Outcome
+planned k r = by_cause (plan_cause (plan_of k r)) (by_answer k r (answer_of (plan_of k r)))
+
+-- by the request that was read
+abbrev pub by_request : Held → Result PlainRequest requests.Refusal → Outcome
+by_request k (Err fault) = Refused (BadRequest fault)
+by_request k (Ok r) = by_cause (not_taken r) (planned k r)
+
+-- by the length of the request file, and then what it holds
+abbrev pub by_length : Held → (request : List ℕ) → Outcome
+by_length k request = if nat_lt 1048576 (length request) then Refused (TooLong Request) else by_request k (request_of request)
+
+-- ---- the commands
+
+-- the refusal of the chain, or what is due on it
+abbrev pub by_chain : (Held → Outcome) → Result Held Cause → Outcome
+by_chain due (Err cause) = Refused cause
+by_chain due (Ok k) = due k
+
+-- what is due on a chain
+abbrev pub due_on : (List ℕ → List ℕ) → Command → Held → Outcome
+due_on files (Coins s) k = Listed (listing_in k)
+due_on files (Fund s p) k = by_length k (files p.request)
 
 -- what a command comes to, by the content of files
 unfoldable pub outcome_of : (List ℕ → List ℕ) → Command → Outcome
-outcome_of files c = by_files (files c.wallet) (files c.blocks) (files c.request)
+outcome_of files c = by_chain (due_on files c) (chain_of (files (sources_of c).wallet) (files (sources_of c).blocks))

@@ -1,76 +1,107 @@
--- Why a command stops before it writes.
-use Rattle.std.specs.Prelude.{ℕ, ◌≡◌, ◌≤◌, true, List, length, Some}
+-- Why a command stops before it writes or prints.
+use Rattle.std.specs.Prelude.{ℕ, ◌≡◌, ◌≤◌, List, [], length, None, Ok, Err}
 use Rattle.fund_base.specs.Causes.{ShelfView, Rose}
 use Rattle.block_feed.specs.Block.{ChainBlock}
 use Rattle.block_feed.specs.BlockFile.{IsBlockFile}
-use Rattle.fund_top.specs.Coins.{coins_of, is_booked, weight_for}
-use Rattle.fund_top.specs.Ledger.{chain_of, ledger_of}
-use Rattle.fund_top.specs.PlainWallet.{PlainWallet}
-use Rattle.fund_top.specs.PlainRequest.{PlainRequest}
-use Rattle.fund_top.specs.WalletForm.{wallet_form}
-use Rattle.fund_top.specs.RequestForm.{request_form}
-use Rattle.fund_top.specs.Words.{Command}
-use Rattle.fund_top.specs.Outcome.{Refused, outcome_of}
+use Rattle.coin_book.specs.Faults.{fault_of}
+use Rattle.fund_plan.specs.Plan.{IsFault}
+use Rattle.fund_plan.specs.declared.fault.PlanFault.{PlanFault}
+use Rattle.fund_plan.specs.declared.fault.PlanFault.TheVariants as plans
+use Rattle.request_text.specs.PlainRequest.{PlainRequest}
+use Rattle.request_text.specs.RequestText.{request_of}
+use Rattle.request_text.specs.declared.fault.Refusal as requests
+use Rattle.wallet_text.specs.PlainWallet.{PlainWallet}
+use Rattle.wallet_text.specs.WalletText.{wallet_of}
+use Rattle.fund_top.specs.Cause.{Cause, TooLong, BadWallet, BadBlocks, RepeatCoin, ManyCoins, BadRequest, BumpNotYet, PlanNotYet, NotEligible, Total, cause_of}
+use Rattle.fund_top.specs.Chain.{held_of, history_of}
+use Rattle.fund_top.specs.Outcome.{Refused, not_taken, outcome_of, plan_of}
+use Rattle.fund_top.specs.Words.{Command, Coins, Fund, Payment, Sources, sources_of}
 use Rattle.fund_top.specs.declared.refusal.File.{File}
 use Rattle.fund_top.specs.declared.refusal.File.TheVariants.{Wallet, Blocks, Request}
-use Rattle.fund_top.specs.declared.decision.Decision.{Decision}
-use Rattle.fund_top.specs.declared.decision.Decision.TheVariants as decisions
-use Rattle.fund_top.specs.declared.refusal.Refusal.{Refusal}
-use Rattle.fund_top.specs.declared.refusal.Refusal.TheVariants.{TooLong, NotYet, BadBlocks, BookNotYet, NotEligible, Total}
-use Rattle.fund_top.specs.Decision.{Decides}
 use Rattle.fund_top.specs.declared.files.Stop.{Stop}
 use Rattle.fund_top.specs.declared.files.Stop.TheVariants as stops
 
+-- the name of the request; a command that lists coins has none
+abbrev pub request_name : Command → List ℕ
+request_name (Fund s p) = p.request
+request_name (Coins s) = []
+
 -- the name of a file that the command reads
 abbrev pub name_of : Command → File → List ℕ
-name_of c Wallet = c.wallet
-name_of c Blocks = c.blocks
-name_of c Request = c.request
+name_of c Wallet = (sources_of c).wallet
+name_of c Blocks = (sources_of c).blocks
+name_of c Request = request_name c
+
+-- a read of the request failed; a command that lists coins reads none
+abbrev pub IsRequestUnread : Command → ShelfView → ShelfView → Type 0
+IsRequestUnread (Fund s p) old new = Rose (old.reads p.request) (new.reads p.request)
+IsRequestUnread (Coins s) old new = ⊥
+
+-- a read of this file of the command failed
+abbrev pub IsUnread : Command → File → ShelfView → ShelfView → Type 0
+IsUnread c Wallet old new = Rose (old.reads (sources_of c).wallet) (new.reads (sources_of c).wallet)
+IsUnread c Blocks old new = Rose (old.reads (sources_of c).blocks) (new.reads (sources_of c).blocks)
+IsUnread c Request old new = IsRequestUnread c old new
 
 -- the wallet file holds this wallet
-pub record HasWallet (files : List ℕ → List ℕ) (c : Command) (w : PlainWallet) : Type 0 where
-  pub fits : length (files c.wallet) ≤ 16777216
-  pub form : wallet_form (files c.wallet) ≡ Some w
+pub record HasWallet (files : List ℕ → List ℕ) (s : Sources) (w : PlainWallet) : Type 0 where
+  pub fits : length (files s.wallet) ≤ 16777216
+  pub form : wallet_of (files s.wallet) ≡ Ok w
 
--- the block file holds these blocks behind that of the wallet, and the coins of both are kept
-pub record HasBlocks (files : List ℕ → List ℕ) (c : Command) (w : PlainWallet) (blocks : List ChainBlock) : Type 0 where
-  pub fits : length (files c.blocks) ≤ 1073741824
-  pub form : IsBlockFile w.hash w.height blocks (files c.blocks)
-  pub booked : is_booked (coins_of (weight_for w.scripts) (chain_of w.earlier blocks)) ≡ true
+-- the block file holds these blocks behind that of the wallet, and a book holds the coins of both
+pub record HasBlocks (files : List ℕ → List ℕ) (s : Sources) (w : PlainWallet) (blocks : List ChainBlock) : Type 0 where
+  pub fits : length (files s.blocks) ≤ 1073741824
+  pub form : IsBlockFile w.hash w.height blocks (files s.blocks)
+  pub sound : fault_of (history_of w blocks) ≡ None
 
--- the files of a command hold this wallet, these blocks and this request
-pub record AreInputs (files : List ℕ → List ℕ) (c : Command) (w : PlainWallet) (bs : List ChainBlock) (r : PlainRequest) : Type 0 where
-  pub wallet : HasWallet files c w
-  pub blocks : HasBlocks files c w bs
-  pub request_fits : length (files c.request) ≤ 1048576
-  pub request : request_form (files c.request) ≡ Some r
+-- both
+pub record HasChain (files : List ℕ → List ℕ) (s : Sources) (w : PlainWallet) (bs : List ChainBlock) : Type 0 where
+  pub wallet : HasWallet files s w
+  pub blocks : HasBlocks files s w bs
+
+-- the files of a payment hold this wallet, these blocks and this request, which is taken
+pub record AreInputs (files : List ℕ → List ℕ) (s : Sources) (p : Payment) (w : PlainWallet) (bs : List ChainBlock) (r : PlainRequest) : Type 0 where
+  pub chain : HasChain files s w bs
+  pub request_fits : length (files p.request) ≤ 1048576
+  pub request : request_of (files p.request) ≡ Ok r
+  pub taken : not_taken r ≡ None
 
 -- The files before this one are in order, so that it is read.
 abbrev pub Reaches : (List ℕ → List ℕ) → Command → File → Type 0
 Reaches files c Wallet = Unit {0}
-Reaches files c Blocks = (w : PlainWallet) × HasWallet files c w
-Reaches files c Request = (w : PlainWallet) × (blocks : List ChainBlock) × HasWallet files c w × HasBlocks files c w blocks
+Reaches files c Blocks = (w : PlainWallet) × HasWallet files (sources_of c) w
+Reaches files c Request = (w : PlainWallet) × (blocks : List ChainBlock) × HasChain files (sources_of c) w blocks
 
--- the files hold a request on which this is decided
-abbrev pub IsDecided : (List ℕ → List ℕ) → Command → Decision → Type 0
-IsDecided files c d = (w : PlainWallet) × (blocks : List ChainBlock) × (r : PlainRequest) × AreInputs files c w blocks r × Decides w (ledger_of w blocks) r d
+-- the files hold a request for which this keeps a plan from being made
+abbrev pub IsPlanned : (List ℕ → List ℕ) → Command → PlanFault → Type 0
+IsPlanned files (Fund s p) fault = (w : PlainWallet) × (blocks : List ChainBlock) × (r : PlainRequest) × AreInputs files s p w blocks r × IsFault (plan_of (held_of w blocks) r) fault
+IsPlanned files (Coins s) fault = ⊥
 
--- What a refusal means beyond the length or the form of a file: the candidates are worth more than 21,000,000
--- bitcoin, or no candidate is at a listed coin.
-abbrev pub IsMeant : (List ℕ → List ℕ) → Command → Refusal → Type 0
+-- the request file has this fault first
+abbrev pub IsAskedWrong : (List ℕ → List ℕ) → Command → requests.Refusal → Type 0
+IsAskedWrong files (Fund s p) fault = request_of (files p.request) ≡ Err fault
+IsAskedWrong files (Coins s) fault = ⊥
+
+-- What a cause means by itself: the fault is the first that the wallet file has, or the request file; the candidates are
+-- worth more than 21,000,000 bitcoin; this is the first listed coin at which no candidate is that may be listed.
+abbrev pub IsMeant : (List ℕ → List ℕ) → Command → Cause → Type 0
 IsMeant files c (TooLong file) = Unit {0}
-IsMeant files c (NotYet file) = Unit {0}
+IsMeant files c (BadWallet fault) = wallet_of (files (sources_of c).wallet) ≡ Err fault
 IsMeant files c (BadBlocks fault) = Unit {0}
-IsMeant files c BookNotYet = Unit {0}
-IsMeant files c (NotEligible coin) = IsDecided files c (decisions.NotEligible coin)
-IsMeant files c (Total sum) = IsDecided files c (decisions.Total sum)
+IsMeant files c (RepeatCoin coin) = Unit {0}
+IsMeant files c ManyCoins = Unit {0}
+IsMeant files c (BadRequest fault) = IsAskedWrong files c fault
+IsMeant files c BumpNotYet = Unit {0}
+IsMeant files c PlanNotYet = Unit {0}
+IsMeant files c (NotEligible coin) = IsPlanned files c (plans.NotEligible coin)
+IsMeant files c (Total sum) = IsPlanned files c (plans.Total sum)
 
--- The refusal is what the files come to.
-abbrev pub IsDue : (List ℕ → List ℕ) → Command → Refusal → Type 0
-IsDue files c refusal = (outcome_of files c ≡ Refused refusal) × IsMeant files c refusal
+-- The files come to a refusal of this cause.
+abbrev pub IsDue : (List ℕ → List ℕ) → Command → Cause → Type 0
+IsDue files c cause = (outcome_of files c ≡ Refused cause) × IsMeant files c cause
 
 -- A read of a file of the command failed, or the files are refused.
 abbrev pub StopsFor : Type 0 → Command → ShelfView → ShelfView → Stop → Type 0
-StopsFor told c old new (stops.Read file) = Rose (old.reads (name_of c file)) (new.reads (name_of c file)) × (told → Reaches old.files c file)
-StopsFor told c old new (stops.Refused refusal) = told → IsDue old.files c refusal
+StopsFor told c old new (stops.Read file) = IsUnread c file old new × (told → Reaches old.files c file)
+StopsFor told c old new (stops.Refused refusal) = told → IsDue old.files c (cause_of refusal)
 StopsFor told c old new stops.Memory = Unit {0}

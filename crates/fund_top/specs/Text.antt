@@ -1,50 +1,13 @@
 -- What the command prints and writes.
-use Rattle.std.specs.Prelude.{ℕ, List, [], ◌∷◌, ◌++◌, reverse, codes, Option, Some, None}
+use Rattle.std.specs.Prelude.{ℕ, List, [], ◌∷◌, ◌++◌, codes, Option, Some, None}
 use Rattle.std.specs.Fmt.{decimal}
-use Rattle.hex.specs.Hex.{encode_lower}
-use Rattle.fund_base.specs.declared.outpoint.OutPoint.{OutPoint}
-use Rattle.tx_codec.specs.declared.fault.TxFault.{TxFault}
-use Rattle.tx_codec.specs.declared.fault.TxFault.TheVariants as txs
-use Rattle.block_feed.specs.declared.fault.FeedFault.{FeedFault}
-use Rattle.block_feed.specs.declared.fault.FeedFault.TheVariants as feeds
+use Rattle.fault_text.specs.Coin.{coin_text}
+use Rattle.fault_text.specs.Lines.{lines_text}
+use Rattle.fault_text.specs.Words.{feed_fault_words, request_fault_words, wallet_fault_words}
 use Rattle.fund_top.specs.declared.refusal.File.{File}
 use Rattle.fund_top.specs.declared.refusal.File.TheVariants.{Wallet, Blocks, Request}
 use Rattle.fund_top.specs.declared.refusal.Refusal.{Refusal}
-use Rattle.fund_top.specs.declared.refusal.Refusal.TheVariants.{TooLong, NotYet, BadBlocks, BookNotYet, NotEligible, Total}
-
--- a hash in hex with its bytes reversed
-abbrev pub shown : List ℕ → List ℕ
-shown hash = encode_lower (reverse hash)
-
--- a coin: its txid, a colon, its index
-unfoldable pub coin_text : OutPoint → List ℕ
-coin_text coin = shown coin.txid ++ (58 ∷ decimal coin.index)
-
--- a fault of a transaction by its name, and its field
-unfoldable pub tx_fault_words : TxFault → List ℕ
-tx_fault_words (txs.Truncated place) = codes "Truncated " ++ decimal place
-tx_fault_words (txs.LongCompact place) = codes "LongCompact " ++ decimal place
-tx_fault_words (txs.ValueRange output) = codes "ValueRange " ++ decimal output
-tx_fault_words txs.NoInputs = codes "NoInputs"
-tx_fault_words txs.NoOutputs = codes "NoOutputs"
-tx_fault_words txs.BadFlag = codes "BadFlag"
-tx_fault_words txs.EmptyWitness = codes "EmptyWitness"
-tx_fault_words (txs.Trailing place) = codes "Trailing " ++ decimal place
-tx_fault_words txs.Memory = codes "Memory"
-
--- a fault of a block file by its name, and its fields
-unfoldable pub feed_fault_words : FeedFault → List ℕ
-feed_fault_words (feeds.Magic place) = codes "Magic " ++ decimal place
-feed_fault_words (feeds.Length place) = codes "Length " ++ decimal place
-feed_fault_words (feeds.Tx height fault) = codes "Tx " ++ (decimal height ++ (32 ∷ tx_fault_words fault))
-feed_fault_words (feeds.Merkle height) = codes "Merkle " ++ decimal height
-feed_fault_words (feeds.Mutated height) = codes "Mutated " ++ decimal height
-feed_fault_words (feeds.NotLinked kept found) = codes "NotLinked " ++ (shown kept ++ (32 ∷ shown found))
-feed_fault_words (feeds.Trailing height) = codes "Trailing " ++ decimal height
-feed_fault_words (feeds.Empty height) = codes "Empty " ++ decimal height
-feed_fault_words feeds.Read = codes "Read"
-feed_fault_words feeds.Limit = codes "Limit"
-feed_fault_words feeds.Memory = codes "Memory"
+use Rattle.fund_top.specs.declared.refusal.Refusal.TheVariants.{TooLong, BadWallet, BadBlocks, RepeatCoin, ManyCoins, BadRequest, BumpNotYet, PlanNotYet, NotEligible, Total}
 
 -- how a fault line names a file
 abbrev pub file_word : File → List ℕ
@@ -59,16 +22,15 @@ fault_line words = codes "fault " ++ (words ++ (10 ∷ []))
 -- what a refusal says behind the word fault
 unfoldable pub refusal_words : Refusal → List ℕ
 refusal_words (TooLong file) = codes "limit " ++ file_word file
-refusal_words (NotYet file) = codes "input " ++ (file_word file ++ codes " NotYet")
+refusal_words (BadWallet fault) = codes "input wallet " ++ wallet_fault_words fault
 refusal_words (BadBlocks fault) = codes "input blocks " ++ feed_fault_words fault
-refusal_words BookNotYet = codes "input book NotYet"
+refusal_words (RepeatCoin coin) = codes "input book RepeatCoin " ++ coin_text coin
+refusal_words ManyCoins = codes "limit coins"
+refusal_words (BadRequest fault) = codes "input request " ++ request_fault_words fault
+refusal_words BumpNotYet = codes "input bump NotYet"
+refusal_words PlanNotYet = codes "input plan NotYet"
 refusal_words (NotEligible coin) = codes "input plan NotEligible " ++ coin_text coin
 refusal_words (Total sum) = codes "input plan Total " ++ decimal sum
-
--- lines, each with the line feed that ends it
-abbrev pub lines_text : List (List ℕ) → List ℕ
-lines_text [] = []
-lines_text (line ∷ lines) = line ++ (10 ∷ lines_text lines)
 
 -- the log of a payment from listed coins, and of none: no search was made
 abbrev pub log_text : List ℕ

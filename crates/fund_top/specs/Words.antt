@@ -2,27 +2,57 @@
 use Rattle.std.specs.Prelude.{ℕ, not, ◌&&◌, nat_lt, List, [], ◌∷◌, length, String, string_bytes, bytes_eq, codes, Bool, Option, Some, None, if◌then◌else◌}
 use Rattle.std.specs.declared.alloc.Global.{Global}
 
--- to fund a payment, by the names of its files
-pub record Command : Type 0 where
+-- the names of the files from which the coins are told
+pub record Sources : Type 0 where
   pub wallet : List ℕ
   pub blocks : List ℕ
+
+-- the names of the files of a payment: what is asked for, and where the log is written
+pub record Payment : Type 0 where
   pub request : List ℕ
   pub log : List ℕ
 
+-- to list payments and coins, or to fund a payment
+pub data Command : Type 0 where
+  Coins : Sources → Command
+  Fund : Sources → Payment → Command
+
+-- no name is empty
+abbrev pub are_named : Sources → Bool
+are_named s = nat_lt 0 (length s.wallet) && nat_lt 0 (length s.blocks)
+
 -- no name is empty, and the log is none of the files that are read
-abbrev pub names_stand : Command → Bool
-names_stand c =
-    (nat_lt 0 (length c.wallet) && (nat_lt 0 (length c.blocks) && (nat_lt 0 (length c.request) && nat_lt 0 (length c.log))))
-    && (not (bytes_eq c.log c.wallet) && (not (bytes_eq c.log c.blocks) && not (bytes_eq c.log c.request)))
+abbrev pub names_stand : Sources → Payment → Bool
+names_stand s p =
+    are_named s
+    && ((nat_lt 0 (length p.request) && nat_lt 0 (length p.log))
+    && (not (bytes_eq p.log s.wallet) && (not (bytes_eq p.log s.blocks) && not (bytes_eq p.log p.request))))
 
--- the command, where its names stand
-abbrev pub if_stands : Command → Option Command
-if_stands c = if names_stand c then Some c else None
+-- a command, where its names stand
+abbrev pub where_stands : Bool → Command → Option Command
+where_stands stands c = if stands then Some c else None
 
--- the command that the words are: fund WALLET BLOCKS REQUEST LOG
+-- the files of the first two names
+abbrev pub sources : String Global → String Global → Sources
+sources wallet blocks = record { wallet = string_bytes wallet; blocks = string_bytes blocks }
+
+-- the files of the other two
+abbrev pub payment : String Global → String Global → Payment
+payment request log = record { request = string_bytes request; log = string_bytes log }
+
+-- the command that the words are: coins WALLET BLOCKS, or fund WALLET BLOCKS REQUEST LOG
 abbrev pub command_of : List (String Global) → Option Command
+command_of (verb ∷ wallet ∷ blocks ∷ []) =
+    if bytes_eq (string_bytes verb) (codes "coins")
+    then where_stands (are_named (sources wallet blocks)) (Coins (sources wallet blocks))
+    else None
 command_of (verb ∷ wallet ∷ blocks ∷ request ∷ log ∷ []) =
     if bytes_eq (string_bytes verb) (codes "fund")
-    then if_stands (record { wallet = string_bytes wallet; blocks = string_bytes blocks; request = string_bytes request; log = string_bytes log })
+    then where_stands (names_stand (sources wallet blocks) (payment request log)) (Fund (sources wallet blocks) (payment request log))
     else None
 command_of _ = None
+
+-- the files from which a command tells the coins
+abbrev pub sources_of : Command → Sources
+sources_of (Coins s) = s
+sources_of (Fund s p) = s

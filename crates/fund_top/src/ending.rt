@@ -1,123 +1,62 @@
 //! The ending of a payment: what it comes to, and the PSBT that a signer gets.
 
-ghost use Rattle.std.specs.Prelude.{◌≡◌, ◌≤◌, ◌≤ℤ◌, List, All, map, nat_eq, pos, neg_ℤ, IfOk, IfErr, OnOk, IfSome, string_bytes};
-ghost use Rattle.indexmap.specs.IndexMap.{get};
-ghost use Rattle.block_feed.specs.Block.{ChainBlock};
-ghost use Rattle.psbt_codec.specs.Psbt.{IsPsbt};
-ghost use Rattle.fund_top.specs.Conclusion.{IsConcluded, ended};
-ghost use Rattle.fund_top.specs.Outcome.{decided};
-ghost use Rattle.fund_top.specs.Candidate.{AreCounted, AreFit, CoinFits, value_of};
-ghost use Rattle.fund_top.specs.Coins.{maker_in};
-ghost use Rattle.fund_top.specs.Decision.{Decides, DecisionFits, SelectionFits, decision_of};
-ghost use Rattle.fund_top.specs.Ending.{figures_of, psbt_of, psbt_text_of, report_of, spent_of};
-ghost use Rattle.fund_top.specs.Ledger.{chain_of, ledger_of};
-ghost use Rattle.fund_top.specs.Pays.{payment_weight};
-ghost use Rattle.fund_top.specs.PlainRequest.{PlainRequest};
-ghost use Rattle.fund_top.specs.PlainWallet.{PlainWallet};
-ghost use Rattle.fund_top.specs.Report.{cost_of, outputs_of, waste_of};
-ghost use Rattle.fund_top.specs.Selection.{Selection};
-ghost use Rattle.fund_top.specs.Spelled.{AreSpelled};
+ghost use Rattle.std.specs.Prelude.{◌≡◌, ◌≤◌, ◌<◌, ◌^◌, All, length, map, None, IfOk, IfErr, string_bytes};
+ghost use Rattle.tx_codec.specs.declared.tx.TxIn.{TxIn};
+ghost use Rattle.psbt_codec.specs.Psbt.{IsPsbt, IsSpent};
+ghost use Rattle.fund_base.specs.Cursor.{IsBytes};
+ghost use Rattle.fund_base.specs.declared.candidate.Candidate.{Candidate};
+ghost use Rattle.fund_plan.specs.Answer.{IsSelection};
+ghost use Rattle.fund_top.specs.Chain.{HasTexts, IsHeld};
+ghost use Rattle.fund_top.specs.Conclusion.{IsConcluded, StopsPlan, plan_stop_of};
+ghost use Rattle.fund_top.specs.Ending.{psbt_of, psbt_text_of, report_of, spent_of};
+ghost use Rattle.fund_top.specs.Outcome.{not_taken, plan_of};
 
-use crate::book::Kept;
-use crate::coin::Coin;
-use crate::decision::{Decision, Funded, decide};
+use crate::booking::Held;
 use crate::files::Stop;
-use crate::payment::{output, unsigned};
-use crate::presets::{fees, load, paid, rates, value};
+use crate::listing::states_and_coins;
 use crate::refusal::Refusal;
-use crate::report::{Figures, report_text};
-use crate::request::Request;
-use crate::wallet::Wallet;
+use crate::report::report_text;
 use base64::engine::general_purpose::STANDARD;
-use fee_rates::{Terms, is_program, vsize};
-use fund_base::{MAX_MONEY, Memory};
-use indexmap::IndexMap;
+use coin_book::Book;
+use fee_rates::is_program;
+use fund_base::{Candidate, MAX_MONEY, Memory, Sat};
+use fund_plan::{Figures, Funded, Outcome, Plan, PlanFault, pays_in_text, unsigned};
 use psbt_codec::{Psbt, Spent, write_psbt};
+use request_text::Request;
 use std::alloc::Global;
-use tx_codec::Tx;
+use tx_codec::TxOut;
 
-/// What it costs to spend the coins now and not in the long run, in satoshi.
-fn cost(request: &Request, coins: &[Coin]) -> i128
-    requires { AreFit coins.now }
-    ensures value { result ≡ cost_of request.now coins.now }
-    ensures low { neg_ℤ (pos 1_000_000_000_000_000) ≤ℤ result }
-    ensures high { result ≤ℤ pos 1_000_000_000_000_000 }
+// That the items of a slice of bytes are bytes, and fewer than 2 ^ 64. A call does nothing.
+fn are_bytes(bytes: &[u8])
+    ensures bytes { IsBytes bytes.now }
+    ensures len { length bytes.now < 2 ^ 64 }
+{}
+
+// That what a signer needs to know of the coin fits an input that spends it. A call does nothing.
+fn known_fits(book: &Book, coin: &Candidate)
+    requires value { coin.now.value ≤ MAX_MONEY }
+    requires texts { HasTexts book.now }
+    ensures { (i : TxIn) → i.prev ≡ coin.now.coin → IsSpent i (spent_of book.now coin.now) }
 {
-    let rates = rates(request);
-    let now = fees(rates.rate, coins);
-    let later = fees(rates.long_term, coins);
-    i128::from(now) - i128::from(later)
+    let _ = book;
+    are_bytes(coin.script.bytes());
 }
 
-/// The waste of the payment, in satoshi.
-#[tactic(auto, unfolding(crate::specs::Report::waste_of))]
-fn waste(wallet: &Wallet, request: &Request, coins: &[Coin], change: Option<u64>) -> i128
-    requires { AreFit coins.now }
-    ensures { result ≡ waste_of wallet.now request.now coins.now change }
-{
-    let terms = Terms::new(&rates(request), &load(wallet, request, coins));
-    let cost = cost(request, coins);
-    match change {
-        None => cost - terms.target,
-        Some(_) => cost + i128::from(terms.change_fee + terms.change_spend),
-    }
-}
-
-/// The declared weight of the payment, in weight units.
-#[tactic(auto, unfolding(crate::specs::Pays::load_of, crate::specs::Pays::payment_weight))]
-fn weight(wallet: &Wallet, request: &Request, coins: &[Coin], change: Option<u64>) -> u64
-    requires { AreFit coins.now }
-    ensures { result ≡ payment_weight wallet.now request.now coins.now change }
-{
-    let load = load(wallet, request, coins);
-    let terms = Terms::new(&rates(request), &load);
-    let plain = terms.base + load.preset_weight;
-    match change {
-        None => plain,
-        Some(_) => plain + 4 * load.change_size,
-    }
-}
-
-/// What the outputs take together, in satoshi.
-fn outputs(request: &Request, change: Option<u64>) -> u64
-    requires { IfSome change (λ n. n ≤ MAX_MONEY) }
-    ensures { result ≡ outputs_of request.now change }
-{
-    match change {
-        None => paid(request),
-        Some(change) => paid(request) + change,
-    }
-}
-
-/// What the payment comes to.
-fn figures(wallet: &Wallet, request: &Request, coins: &[Coin], change: Option<u64>) -> Figures
-    requires coins { AreFit coins.now }
-    requires change { IfSome change (λ n. n ≤ MAX_MONEY) }
-    requires within { outputs_of request.now change ≤ value_of coins.now }
-    ensures { result ≡ figures_of wallet.now request.now coins.now change }
-{
-    let weight = weight(wallet, request, coins, change);
-    Figures {
-        weight,
-        vsize: vsize(weight),
-        fee: value(coins) - outputs(request, change),
-        waste: waste(wallet, request, coins, change),
-    }
-}
-
-/// What a signer needs to know of the coin, its transaction being among these by its place.
+/// What a signer needs to know of the coin, which the book has.
 #[tactic(auto, unfolding(crate::specs::Ending::spent_of))]
-fn spent(alloc: Global, makers: &IndexMap<u64, Tx>, coin: &Coin) -> Result<Spent, Memory>
+fn spent(alloc: Global, book: &Book, coin: &Candidate) -> Result<Spent, Memory>
     requires { coin.now.value ≤ MAX_MONEY }
-    ensures { IfOk result (λ s. s ≡ spent_of (get nat_eq makers.now) coin.now) }
+    ensures { IfOk result (λ s. s ≡ spent_of book.now coin.now) }
 {
     if is_program(coin.script.bytes()) {
+        let value = Sat::new(coin.value).unwrap();
+        let script = coin.script.copy(alloc)?;
         return Ok(Spent {
             whole: None,
-            paid: Some(output(alloc, coin.value, &coin.script)?),
+            paid: Some(TxOut { value, script }),
         });
     }
-    let whole = match makers.get(&coin.place) {
+    let whole = match book.parent(&coin.coin) {
         Some(tx) => Some(tx.copy(alloc)?),
         None => None,
     };
@@ -125,49 +64,61 @@ fn spent(alloc: Global, makers: &IndexMap<u64, Tx>, coin: &Coin) -> Result<Spent
 }
 
 /// What a signer needs to know of the coins, in order.
-fn spent_of(alloc: Global, makers: &IndexMap<u64, Tx>, coins: &[Coin]) -> Result<Vec<Spent>, Memory>
-    requires { All CoinFits coins.now }
-    ensures { IfOk result (λ v. v.items ≡ map (spent_of (get nat_eq makers.now)) coins.now) }
+fn spent_of(alloc: Global, book: &Book, coins: &[Candidate]) -> Result<Vec<Spent>, Memory>
+    requires values { All (λ (c : Candidate). c.value ≤ MAX_MONEY) coins.now }
+    requires texts { HasTexts book.now }
+    ensures value { IfOk result (λ v. v.items ≡ map (spent_of book.now) coins.now) }
+    ensures fits { IfOk result (λ _. All (λ (c : Candidate). (i : TxIn) → i.prev ≡ c.coin → IsSpent i (spent_of book.now c)) coins.now) }
 {
     let mut known = Vec::new(alloc);
     for coin in coins {
-        known.push(spent(alloc, makers, coin)?)?;
+        known_fits(book, coin);
+        known.push(spent(alloc, book, coin)?)?;
     }
     Ok(known)
 }
 
-/// The payment to be signed, as text.
+/// The payment to be signed.
 #[tactic(auto, unfolding(crate::specs::Ending::psbt_of))]
+fn psbt(alloc: Global, held: &Held, request: &Request, funded: &Funded) -> Result<Psbt, Memory>
+    requires held { IsHeld held.now }
+    requires funded { IsSelection request.now funded.now }
+    ensures value { IfOk result (λ p. p ≡ psbt_of held.now.book request.now held.now.wallet.change funded.now) }
+    ensures fits { IfOk result IsPsbt }
+{
+    pays_in_text();
+    let tx = unsigned(alloc, request, &held.wallet.change, funded)?;
+    let spent = spent_of(alloc, &held.book, &funded.coins)?;
+    Ok(Psbt { tx, spent })
+}
+
+/// The payment to be signed, as text.
 fn psbt_text(
     alloc: Global,
-    wallet: &Wallet,
+    held: &Held,
     request: &Request,
-    makers: &IndexMap<u64, Tx>,
     funded: &Funded,
 ) -> Result<String, Memory>
-    requires { SelectionFits request.now funded.now }
-    ensures { IfOk result (λ text. string_bytes text ≡ psbt_text_of wallet.now request.now (get nat_eq makers.now) funded.now) }
+    requires held { IsHeld held.now }
+    requires funded { IsSelection request.now funded.now }
+    ensures value { IfOk result (λ text. string_bytes text ≡ psbt_text_of held.now.book request.now held.now.wallet.change funded.now) }
+    ensures fits { IfOk result (λ _. IsPsbt (psbt_of held.now.book request.now held.now.wallet.change funded.now)) }
 {
-    let tx = unsigned(alloc, wallet, request, &funded.coins, funded.change)?;
-    let spent = spent_of(alloc, makers, &funded.coins)?;
-    let bytes = write_psbt(alloc, &Psbt { tx, spent })?;
+    let psbt = psbt(alloc, held, request, funded)?;
+    let bytes = write_psbt(alloc, &psbt)?;
     Ok(STANDARD.encode(alloc, &bytes)?)
 }
 
 /// The report of a payment that was decided on: the coins, what the payment comes to, and the PSBT in base64.
 #[tactic(auto, unfolding(crate::specs::Ending::report_of))]
-pub fn report(
-    alloc: Global,
-    wallet: &Wallet,
-    request: &Request,
-    makers: &IndexMap<u64, Tx>,
-    funded: &Funded,
-) -> Result<String, Memory>
-    requires { SelectionFits request.now funded.now }
-    ensures { IfOk result (λ text. string_bytes text ≡ report_of wallet.now request.now (get nat_eq makers.now) funded.now) }
+fn report(alloc: Global, held: &Held, request: &Request, funded: &Funded) -> Result<String, Memory>
+    requires held { IsHeld held.now }
+    requires funded { IsSelection request.now funded.now }
+    ensures value { IfOk result (λ text. string_bytes text ≡ report_of held.now.book request.now held.now.wallet.change funded.now) }
+    ensures fits { IfOk result (λ _. IsPsbt (psbt_of held.now.book request.now held.now.wallet.change funded.now)) }
 {
-    let figures = figures(wallet, request, &funded.coins, funded.change);
-    let psbt = psbt_text(alloc, wallet, request, makers, funded)?;
+    let figures = Figures::new(request, &held.wallet.change, funded);
+    let psbt = psbt_text(alloc, held, request, funded)?;
     report_text(alloc, &funded.coins, &figures, funded.change, &psbt)
 }
 
@@ -180,33 +131,48 @@ pub enum Ending {
     Funded(String),
 }
 
-/// How the request of a wallet ends, or its refusal, the coins that may be spent being those that are kept.
-pub fn conclude(
-    alloc: Global,
-    wallet: &Wallet,
-    kept: Kept,
-    request: &Request,
-) -> Result<Ending, Stop>
-    requires { AreCounted kept.coins.items }
-    ensures ends { IfOk result (λ e. decided wallet.now request.now (get nat_eq kept.makers) (decision_of wallet.now kept.coins.items request.now) ≡ ended e) }
-    ensures fits { OnOk result (DecisionFits request.now (decision_of wallet.now kept.coins.items request.now)) }
-    ensures stop { IfErr result (IsConcluded (decided wallet.now request.now (get nat_eq kept.makers) (decision_of wallet.now kept.coins.items request.now))) }
+/// Why no plan is made, as a stop.
+fn plan_stop(fault: PlanFault) -> Stop
+    ensures { result ≡ plan_stop_of fault }
 {
-    let Kept { coins, makers } = kept;
-    match decide(alloc, wallet, coins, request) {
-        Ok(Decision::Total(sum)) => Err(Stop::Refused(Refusal::Total(sum))),
-        Ok(Decision::NotEligible(coin)) => Err(Stop::Refused(Refusal::NotEligible(coin))),
-        Ok(Decision::NoSelection) => Ok(Ending::NoSelection),
-        Ok(Decision::Funded(funded)) => match report(alloc, wallet, request, &makers, &funded) {
+    match fault {
+        PlanFault::Total(sum) => Stop::Refused(Refusal::Total(sum)),
+        PlanFault::NotEligible(coin) => Stop::Refused(Refusal::NotEligible(coin)),
+        PlanFault::Memory => Stop::Memory,
+    }
+}
+
+/// The plan of the request.
+fn plan(alloc: Global, held: &Held, request: &Request) -> Result<Plan, Stop>
+    requires held { IsHeld held.now }
+    requires taken { not_taken request.now ≡ None }
+    ensures plan { IfOk result (λ p. p ≡ plan_of held.now request.now) }
+    ensures stop { IfErr result (StopsPlan held.now request.now) }
+{
+    let Ok((_, coins)) = states_and_coins(alloc, held) else {
+        return Err(Stop::Memory);
+    };
+    match Plan::new(alloc, request, &held.wallet.change, coins) {
+        Ok(plan) => Ok(plan),
+        Err(fault) => Err(plan_stop(fault)),
+    }
+}
+
+/// How the request of a wallet ends, or its refusal.
+pub fn conclude(alloc: Global, held: &Held, request: &Request) -> Result<Ending, Stop>
+    requires held { IsHeld held.now }
+    requires taken { not_taken request.now ≡ None }
+    ensures ends { IfOk result (IsConcluded held.now request.now) }
+    ensures stop { IfErr result (StopsPlan held.now request.now) }
+{
+    let plan = plan(alloc, held, request)?;
+    plan.keeps_rules();
+    match plan.go() {
+        Ok(Outcome::NoSelection) => Ok(Ending::NoSelection),
+        Ok(Outcome::Funded(funded)) => match report(alloc, held, request, &funded) {
             Ok(text) => Ok(Ending::Funded(text)),
             Err(Memory) => Err(Stop::Memory),
         },
         Err(Memory) => Err(Stop::Memory),
     }
 }
-
-/// That what a signer gets of a decision is a PSBT of version 0, where the numbers and bytes of the wallet, the blocks
-/// and the request fit a transaction's fields. A call does nothing.
-pub fn psbt_is()
-    ensures { (w : PlainWallet) (blocks : List ChainBlock) (r : PlainRequest) (f : Selection) → AreSpelled w blocks r → Decides w (ledger_of w blocks) r (Decision.Funded f) → SelectionFits r f → IsPsbt (psbt_of w r (maker_in (chain_of w.earlier blocks)) f) }
-{}

@@ -1,26 +1,28 @@
 //! The files of a command, read one by one.
 
-ghost use Rattle.std.specs.Prelude.{◌≡◌, ◌≤◌, ◌<◌, length, Some, IfOk, IfErr, OnOk};
+ghost use Rattle.std.specs.Prelude.{◌≡◌, ◌≤◌, ◌<◌, length, None, Ok, IfOk, IfErr, OnOk, option_map};
 ghost use Rattle.fund_base.specs.Causes.{NeverFall, Rose};
-ghost use Rattle.fund_top.specs.Command.{plain};
+ghost use Rattle.request_text.specs.RequestText.{request_of};
+ghost use Rattle.wallet_text.specs.WalletRules.{IsWallet};
+ghost use Rattle.wallet_text.specs.WalletText.{wallet_of};
+ghost use Rattle.fund_top.specs.Cause.{TooLong, cause_of};
+ghost use Rattle.fund_top.specs.Command.{plain_payment, plain_sources};
+ghost use Rattle.fund_top.specs.Held.{AreAsked, AreHeld, IsBehind, IsBlocksCause, stop_of};
+ghost use Rattle.fund_top.specs.InputStop.{StopsAt, IsWalletCause, IsRequestCause};
+ghost use Rattle.fund_top.specs.Outcome.{book_cause, is_manual, not_taken};
 ghost use Rattle.fund_top.specs.Stop.{StopsFor};
-ghost use Rattle.fund_top.specs.Held.{AreHeld, AreKept, IsBlocksRefusal, stop_of};
-ghost use Rattle.fund_top.specs.InputStop.{StopsAt, IsWalletRefusal, IsRequestRefusal};
-ghost use Rattle.fund_top.specs.Spelled.{IsSpelledRequest, IsSpelledWallet};
-ghost use Rattle.fund_top.specs.WalletForm.{wallet_form};
-ghost use Rattle.fund_top.specs.RequestForm.{request_form};
+ghost use Rattle.fund_top.specs.Words.{Command, Fund, sources_of};
 
 use crate::blocks::read_blocks;
-use crate::book::{Book, Kept};
-use crate::coin::weights_of;
-use crate::json::FormFault;
+use crate::booking::{Booked, Held, Tip, add_waiting};
 use crate::refusal::{File, Refusal};
-use crate::request::{Request, read_request};
-use crate::wallet::{Wallet, read_wallet};
-use crate::words::Command;
+use crate::words::{Payment, Sources};
 use block_feed::FeedFault;
+use coin_book::{Book, BookFault};
 use fund_base::{Memory, ReadError, Shelf, read_whole};
+use request_text::{Method, Request, RequestFault, read_request};
 use std::alloc::Global;
+use wallet_text::{Wallet, WalletFault, read_wallet};
 
 /// The greatest length of a wallet file, in bytes.
 pub const WALLET_LIMIT: usize = 16_777_216;
@@ -29,7 +31,7 @@ pub const WALLET_LIMIT: usize = 16_777_216;
 pub const REQUEST_LIMIT: usize = 1_048_576;
 
 /// Why a command stops before it writes.
-#[derive(Clone, Copy, Debug, PartialEq, Eq)]
+#[derive(Debug, Drop)]
 pub enum Stop {
     /// A read of the file failed.
     Read(File),
@@ -39,14 +41,13 @@ pub enum Stop {
     Memory,
 }
 
-/// The bytes of a file, which has this name and at most `limit` bytes; a longer one is refused as `longer` says.
+/// The bytes of a file, which has this name and at most `limit` bytes; a longer one is refused.
 fn read_input<H: Shelf>(
     alloc: Global,
     shelf: &mut H,
     file: File,
     name: &str,
     limit: usize,
-    longer: Refusal,
 ) -> Result<Vec<u8>, Stop>
     requires { limit ≤ 1073741824 }
     ensures bytes { H.tells → IfOk result (λ bytes. bytes.items ≡ (H.view shelf.old).files name.now) }
@@ -54,32 +55,31 @@ fn read_input<H: Shelf>(
     ensures same { H.tells → (H.view shelf.new).files ≡ (H.view shelf.old).files }
     ensures reads { NeverFall (H.view shelf.old).reads (H.view shelf.new).reads }
     ensures writes { (H.view shelf.new).writes ≡ (H.view shelf.old).writes }
-    ensures stop { IfErr result (StopsAt file (Rose ((H.view shelf.old).reads name.now) ((H.view shelf.new).reads name.now)) (λ refusal. (refusal ≡ longer) × (H.tells → limit < length ((H.view shelf.old).files name.now)))) }
+    ensures stop { IfErr result (StopsAt file (Rose ((H.view shelf.old).reads name.now) ((H.view shelf.new).reads name.now)) (λ cause. (cause ≡ TooLong file) × (H.tells → limit < length ((H.view shelf.old).files name.now)))) }
 {
     match read_whole(alloc, shelf, name, limit) {
         Ok(bytes) => Ok(bytes),
         Err(ReadError::Failed) => Err(Stop::Read(file)),
-        Err(ReadError::TooLong) => Err(Stop::Refused(longer)),
+        Err(ReadError::TooLong) => Err(Stop::Refused(Refusal::TooLong(file))),
         Err(ReadError::Memory) => Err(Stop::Memory),
     }
 }
 
 /// The wallet.
 fn wallet_from<H: Shelf>(alloc: Global, shelf: &mut H, name: &str) -> Result<Wallet, Stop>
-    ensures form { H.tells → IfOk result (λ w. wallet_form ((H.view shelf.old).files name.now) ≡ Some w) }
-    ensures spelled { IfOk result IsSpelledWallet }
+    ensures form { H.tells → IfOk result (λ w. wallet_of ((H.view shelf.old).files name.now) ≡ Ok w) }
+    ensures rules { IfOk result IsWallet }
     ensures fits { H.tells → OnOk result (length ((H.view shelf.old).files name.now) ≤ WALLET_LIMIT) }
     ensures same { H.tells → (H.view shelf.new).files ≡ (H.view shelf.old).files }
     ensures reads { NeverFall (H.view shelf.old).reads (H.view shelf.new).reads }
     ensures writes { (H.view shelf.new).writes ≡ (H.view shelf.old).writes }
-    ensures stop { IfErr result (StopsAt File.Wallet (Rose ((H.view shelf.old).reads name.now) ((H.view shelf.new).reads name.now)) (λ refusal. H.tells → IsWalletRefusal ((H.view shelf.old).files name.now) refusal)) }
+    ensures stop { IfErr result (StopsAt File.Wallet (Rose ((H.view shelf.old).reads name.now) ((H.view shelf.new).reads name.now)) (λ cause. H.tells → IsWalletCause ((H.view shelf.old).files name.now) cause)) }
 {
-    let too_long = Refusal::TooLong(File::Wallet);
-    let bytes = read_input(alloc, shelf, File::Wallet, name, WALLET_LIMIT, too_long)?;
+    let bytes = read_input(alloc, shelf, File::Wallet, name, WALLET_LIMIT)?;
     match read_wallet(alloc, &bytes) {
         Ok(wallet) => Ok(wallet),
-        Err(FormFault::NotInForm) => Err(Stop::Refused(Refusal::NotYet(File::Wallet))),
-        Err(FormFault::Memory) => Err(Stop::Memory),
+        Err(WalletFault::Memory) => Err(Stop::Memory),
+        Err(fault) => Err(Stop::Refused(Refusal::BadWallet(fault))),
     }
 }
 
@@ -95,92 +95,117 @@ fn blocks_stop(fault: FeedFault) -> Stop
     }
 }
 
-/// The coins of the wallet's earlier transactions and of the blocks that may be spent.
-fn coins_from<H: Shelf>(
+/// Why a history is refused.
+fn book_refusal(fault: BookFault) -> Refusal
+    ensures { cause_of result ≡ book_cause fault }
+{
+    match fault {
+        BookFault::RepeatCoin(coin) => Refusal::RepeatCoin(coin),
+        _ => Refusal::ManyCoins,
+    }
+}
+
+/// The book of the wallet and of the blocks of the file `name`, and the tip.
+fn book_from<H: Shelf>(
     alloc: Global,
     shelf: &mut H,
     name: &str,
     wallet: &Wallet,
-) -> Result<Kept, Stop>
-    ensures kept { IfOk result (λ k. AreKept H.tells ((H.view shelf.old).files name.now) wallet.now k) }
+) -> Result<(Book, Tip), Stop>
+    requires { IsWallet wallet.now }
+    ensures held { IfOk result (λ r. IsBehind H.tells ((H.view shelf.old).files name.now) wallet.now r.0 r.1) }
     ensures same { H.tells → (H.view shelf.new).files ≡ (H.view shelf.old).files }
     ensures reads { NeverFall (H.view shelf.old).reads (H.view shelf.new).reads }
     ensures writes { (H.view shelf.new).writes ≡ (H.view shelf.old).writes }
-    ensures stop { IfErr result (StopsAt File.Blocks (Rose ((H.view shelf.old).reads name.now) ((H.view shelf.new).reads name.now)) (λ refusal. H.tells → IsBlocksRefusal wallet.now ((H.view shelf.old).files name.now) refusal)) }
+    ensures stop { IfErr result (StopsAt File.Blocks (Rose ((H.view shelf.old).reads name.now) ((H.view shelf.new).reads name.now)) (λ cause. H.tells → IsBlocksCause wallet.now ((H.view shelf.old).files name.now) cause)) }
 {
-    let Ok(weights) = weights_of(alloc, &wallet.scripts) else {
-        return Err(Stop::Memory);
+    let (booked, tip) = match read_blocks(alloc, shelf, name, wallet) {
+        Ok(read) => read,
+        Err(fault) => return Err(blocks_stop(fault)),
     };
-    let mut book = Book::new(alloc);
-    if let Err(Memory) = book.add_earlier(alloc, &weights, &wallet.earlier) {
-        return Err(Stop::Memory);
-    }
-    let outcome = read_blocks(
-        alloc,
-        shelf,
-        name,
-        &wallet.hash,
-        wallet.height,
-        &weights,
-        &mut book,
-    );
-    match outcome {
-        Err(fault) => Err(blocks_stop(fault)),
-        Ok(tip) => match book.close(alloc, tip) {
-            Ok(Some(kept)) => Ok(kept),
-            Ok(None) => Err(Stop::Refused(Refusal::BookNotYet)),
-            Err(Memory) => Err(Stop::Memory),
-        },
+    match add_waiting(booked, &wallet.pending) {
+        Ok(Booked::Kept(book)) => Ok((book, tip)),
+        Ok(Booked::Broken(fault)) => Err(Stop::Refused(book_refusal(fault))),
+        Err(Memory) => Err(Stop::Memory),
     }
 }
 
-/// The request.
+/// The wallet, which is read first, and the book of it and of the blocks behind it.
+pub fn read_chain<H: Shelf>(alloc: Global, sources: &Sources, shelf: &mut H) -> Result<Held, Stop>
+    ensures held { IfOk result (λ k. AreHeld H.tells (H.view shelf.old).files (plain_sources sources.now) k) }
+    ensures same { H.tells → (H.view shelf.new).files ≡ (H.view shelf.old).files }
+    ensures reads { NeverFall (H.view shelf.old).reads (H.view shelf.new).reads }
+    ensures writes { (H.view shelf.new).writes ≡ (H.view shelf.old).writes }
+    ensures stop { IfErr result (λ e. (c : Command) → sources_of c ≡ plain_sources sources.now → StopsFor H.tells c (H.view shelf.old) (H.view shelf.new) e) }
+{
+    let wallet = wallet_from(alloc, shelf, sources.wallet)?;
+    let (book, tip) = book_from(alloc, shelf, sources.blocks, &wallet)?;
+    Ok(Held { wallet, book, tip })
+}
+
+/// Whether exactly the listed coins are to be spent.
+fn is_manual(method: Method) -> bool
+    ensures { result ≡ is_manual method }
+{
+    matches!(method, Method::Manual)
+}
+
+/// What isn't taken of the request yet.
+fn not_taken(request: &Request) -> Option<Refusal>
+    ensures { option_map cause_of result ≡ not_taken request.now }
+{
+    if request.bump.is_some() {
+        Some(Refusal::BumpNotYet)
+    } else if is_manual(request.method) {
+        None
+    } else {
+        Some(Refusal::PlanNotYet)
+    }
+}
+
+/// The request, of which all is taken.
 fn request_from<H: Shelf>(alloc: Global, shelf: &mut H, name: &str) -> Result<Request, Stop>
-    ensures form { H.tells → IfOk result (λ r. request_form ((H.view shelf.old).files name.now) ≡ Some r) }
-    ensures spelled { IfOk result IsSpelledRequest }
+    ensures form { H.tells → IfOk result (λ r. request_of ((H.view shelf.old).files name.now) ≡ Ok r) }
+    ensures taken { IfOk result (λ r. not_taken r ≡ None) }
     ensures fits { H.tells → OnOk result (length ((H.view shelf.old).files name.now) ≤ REQUEST_LIMIT) }
     ensures same { H.tells → (H.view shelf.new).files ≡ (H.view shelf.old).files }
     ensures reads { NeverFall (H.view shelf.old).reads (H.view shelf.new).reads }
     ensures writes { (H.view shelf.new).writes ≡ (H.view shelf.old).writes }
-    ensures stop { IfErr result (StopsAt File.Request (Rose ((H.view shelf.old).reads name.now) ((H.view shelf.new).reads name.now)) (λ refusal. H.tells → IsRequestRefusal ((H.view shelf.old).files name.now) refusal)) }
+    ensures stop { IfErr result (StopsAt File.Request (Rose ((H.view shelf.old).reads name.now) ((H.view shelf.new).reads name.now)) (λ cause. H.tells → IsRequestCause ((H.view shelf.old).files name.now) cause)) }
 {
-    let too_long = Refusal::TooLong(File::Request);
-    let bytes = read_input(alloc, shelf, File::Request, name, REQUEST_LIMIT, too_long)?;
+    let bytes = read_input(alloc, shelf, File::Request, name, REQUEST_LIMIT)?;
     match read_request(alloc, &bytes) {
-        Ok(request) => Ok(request),
-        Err(FormFault::NotInForm) => Err(Stop::Refused(Refusal::NotYet(File::Request))),
-        Err(FormFault::Memory) => Err(Stop::Memory),
+        Ok(request) => match not_taken(&request) {
+            Some(refusal) => Err(Stop::Refused(refusal)),
+            None => Ok(request),
+        },
+        Err(RequestFault::Memory) => Err(Stop::Memory),
+        Err(fault) => Err(Stop::Refused(Refusal::BadRequest(fault))),
     }
 }
 
-/// What the files of a command hold.
+/// What the files of a payment hold.
 #[derive(Drop)]
 pub struct Inputs {
-    pub wallet: Wallet,
-    /// The coins that may be spent.
-    pub kept: Kept,
+    pub held: Held,
     pub request: Request,
 }
 
-/// What the files of a command hold: the wallet, which is read first, then the blocks, of which the coins are kept
-/// that may be spent, then the request. A file that is refused leaves those behind it unread.
+/// What the files of a payment hold: the wallet, which is read first, then the blocks, then the request. A file that is
+/// refused leaves those behind it unread.
 pub fn read_inputs<H: Shelf>(
     alloc: Global,
-    command: &Command,
+    sources: &Sources,
+    payment: &Payment,
     shelf: &mut H,
 ) -> Result<Inputs, Stop>
-    ensures held { IfOk result (λ x. AreHeld H.tells (H.view shelf.old).files (plain command.now) x.wallet x.request x.kept) }
+    ensures held { IfOk result (λ x. AreAsked H.tells (H.view shelf.old).files (plain_sources sources.now) (plain_payment payment.now) x.held x.request) }
     ensures same { H.tells → (H.view shelf.new).files ≡ (H.view shelf.old).files }
     ensures reads { NeverFall (H.view shelf.old).reads (H.view shelf.new).reads }
     ensures writes { (H.view shelf.new).writes ≡ (H.view shelf.old).writes }
-    ensures stop { IfErr result (StopsFor H.tells (plain command.now) (H.view shelf.old) (H.view shelf.new)) }
+    ensures stop { IfErr result (StopsFor H.tells (Fund (plain_sources sources.now) (plain_payment payment.now)) (H.view shelf.old) (H.view shelf.new)) }
 {
-    let wallet = wallet_from(alloc, shelf, command.wallet)?;
-    let kept = coins_from(alloc, shelf, command.blocks, &wallet)?;
-    let request = request_from(alloc, shelf, command.request)?;
-    Ok(Inputs {
-        wallet,
-        kept,
-        request,
-    })
+    let held = read_chain(alloc, sources, shelf)?;
+    let request = request_from(alloc, shelf, payment.request)?;
+    Ok(Inputs { held, request })
 }

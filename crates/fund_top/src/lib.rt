@@ -1,26 +1,19 @@
-//! The command of Ninelace: it reads a wallet, blocks and a request, funds the payment from listed coins,
-//! and writes its log and its report. This is the only place where the outside and the pure layers meet.
+//! The commands of Ninelace: they read a wallet, blocks and a request, list the payments and the coins, or fund a payment
+//! from listed coins. This is the only place where the outside and the pure layers meet.
 #![tactic(auto)]
 
-mod apart;
 mod blocks;
-mod book;
-mod coin;
-mod decision;
+mod booking;
 mod ending;
 mod files;
-mod json;
+mod listing;
 mod output;
-mod payment;
-mod presets;
 mod refusal;
 mod report;
-mod request;
 mod status;
 mod sure;
 mod text;
 mod top;
-mod wallet;
 mod words;
 
 pub use status::Status;

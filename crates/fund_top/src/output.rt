@@ -78,8 +78,8 @@ fn refuse_write<O: Sink>(alloc: Global, log: &str, out: &mut O) -> Status
     }
 }
 
-/// Puts the report, and answers the status, or that of a sink that failed or found no memory.
-fn put_report<O: Sink>(report: &[u8], status: Status, out: &mut O) -> Status
+/// Puts the report or the listing, and answers the status, or that of a sink that failed or found no memory.
+pub fn put_report<O: Sink>(report: &[u8], status: Status, out: &mut O) -> Status
     ensures ends { IsPut O.tells report.now status (O.view out.old) (O.view out.new) result }
     ensures faults { (O.view out.old).faults ≤ (O.view out.new).faults }
     ensures refusals { (O.view out.old).refusals ≤ (O.view out.new).refusals }

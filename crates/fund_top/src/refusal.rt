@@ -1,10 +1,11 @@
 //! Why a request is refused.
 
 ghost use Rattle.std.specs.Prelude.{◌≡◌};
-ghost use Rattle.fund_top.specs.Text.{file_word};
 
 use block_feed::FeedFault;
 use fund_base::OutPoint;
+use request_text::RequestFault;
+use wallet_text::WalletFault;
 
 /// A file that the command reads.
 #[derive(Clone, Copy, Debug, PartialEq, Eq)]
@@ -15,17 +16,25 @@ pub enum File {
 }
 
 /// What is refused.
-#[derive(Clone, Copy, Debug, PartialEq, Eq)]
+#[derive(Debug, Drop)]
 pub enum Refusal {
     /// The file is longer than its limit.
     TooLong(File),
-    /// The file has a form that isn't read yet.
-    NotYet(File),
+    /// The wallet file isn't one: its first fault.
+    BadWallet(WalletFault),
     /// The block file isn't one: its first fault.
     BadBlocks(FeedFault),
-    /// Two of the coins are one output, or there are more than 100,000. That isn't taken yet.
-    BookNotYet,
-    /// The listed coin may not be spent.
+    /// This output is a confirmed coin twice.
+    RepeatCoin(OutPoint),
+    /// There are more than 100,000 coins.
+    ManyCoins,
+    /// The request file isn't one: its first fault.
+    BadRequest(RequestFault),
+    /// A payment is to be replaced. That isn't taken yet.
+    BumpNotYet,
+    /// The coins are to be chosen. That isn't taken yet.
+    PlanNotYet,
+    /// The listed coin may not be spent. It is the first such.
     NotEligible(OutPoint),
     /// The coins that may be spent are together worth this much, which is more than 21,000,000 bitcoin; in satoshi.
     Total(u128),

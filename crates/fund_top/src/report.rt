@@ -4,23 +4,10 @@ ghost use Rattle.std.specs.Prelude.{◌≡◌, ◌++◌, ◌∷◌, [], codes, L
 ghost use Rattle.fund_top.specs.Text.{change_text};
 ghost use Rattle.fund_top.specs.Report.{chosen_lines, figures_lines, payment_lines, report_text, spent_line};
 
-use crate::coin::Coin;
-use crate::text::coin_text;
-use fund_base::Memory;
+use fault_text::coin_text;
+use fund_base::{Candidate, Memory};
+use fund_plan::Figures;
 use std::alloc::Global;
-
-/// What a report says of a payment.
-#[derive(Debug, Drop)]
-pub struct Figures {
-    /// The declared weight of the payment, in weight units.
-    pub weight: u64,
-    /// Its virtual size, in virtual bytes.
-    pub vsize: u64,
-    /// What its inputs are worth less its outputs, in satoshi.
-    pub fee: u64,
-    /// In satoshi.
-    pub waste: i128,
-}
 
 fn change_text(alloc: Global, change: Option<u64>) -> Result<String, Memory>
     ensures { IfOk result (λ text. string_bytes text ≡ change_text change) }
@@ -33,14 +20,14 @@ fn change_text(alloc: Global, change: Option<u64>) -> Result<String, Memory>
 
 /// The line of a coin that is spent.
 #[tactic(auto, unfolding(crate::specs::Report::spent_line))]
-fn spent_line(alloc: Global, coin: &Coin) -> Result<String, Memory>
+fn spent_line(alloc: Global, coin: &Candidate) -> Result<String, Memory>
     ensures { IfOk result (λ text. string_bytes text ≡ spent_line coin.now ++ (10 ∷ [])) }
 {
     let point = coin_text(alloc, &coin.coin)?;
     Ok(format!(in alloc; "in {} {}\n", point, coin.value)?)
 }
 
-fn chosen_lines(alloc: Global, coins: &[Coin]) -> Result<String, Memory>
+fn chosen_lines(alloc: Global, coins: &[Candidate]) -> Result<String, Memory>
     ensures { IfOk result (λ text. string_bytes text ≡ chosen_lines coins.now) }
 {
     let mut text = format!(in alloc; "funded given\nrow 0\nstage presets\ntries 0\n")?;
@@ -72,7 +59,7 @@ fn payment_lines(alloc: Global, change: Option<u64>, psbt: &str) -> Result<Strin
 /// The report: which coins are spent and their values, what the payment comes to, and the PSBT as text.
 pub fn report_text(
     alloc: Global,
-    coins: &[Coin],
+    coins: &[Candidate],
     figures: &Figures,
     change: Option<u64>,
     psbt: &str,

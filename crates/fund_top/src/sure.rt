@@ -3,9 +3,9 @@
 ghost use Rattle.std.specs.Prelude.{◌≡◌, ◌≢◌, ◌⊎◌, IfSome};
 ghost use Rattle.fund_base.specs.SureShelf.{view_of as shelf_view};
 ghost use Rattle.fund_base.specs.SureSink.{view_of as sink_view};
-ghost use Rattle.fund_top.specs.Ends.{status_of};
+ghost use Rattle.fund_top.specs.Ends.{WhereFunding, WhereListing, status_of};
 ghost use Rattle.fund_top.specs.Outcome.{outcome_of};
-ghost use Rattle.fund_top.specs.Sure.{Funds, FundsNot};
+ghost use Rattle.fund_top.specs.Sure.{Funds, FundsNot, Lists};
 ghost use Rattle.fund_top.specs.Words.{command_of};
 
 use crate::status::Status;
@@ -14,7 +14,7 @@ use fund_base::{SureShelf, SureSink};
 use std::alloc::Global;
 
 /// [`run`] on files in memory and a sink in memory that never fail: the status is that of what the files come to, and
-/// the report is printed whole, want of memory aside.
+/// the report or the listing is printed whole, want of memory aside.
 pub fn run_in_memory(
     alloc: Global,
     words: &Vec<String>,
@@ -23,7 +23,8 @@ pub fn run_in_memory(
 ) -> Status
     ensures read { result ≢ Status.ReadFault }
     ensures written { result ≢ Status.WriteFault }
-    ensures done { result ≡ Status.Done → IfSome (command_of words.now.items) (λ c. Funds c (shelf_view shelf.old) (shelf_view shelf.new) (sink_view out.old) (sink_view out.new)) }
+    ensures done { result ≡ Status.Done → WhereFunding (command_of words.now.items) (λ s p. Funds s p (shelf_view shelf.old) (shelf_view shelf.new) (sink_view out.old) (sink_view out.new)) }
+    ensures listed { result ≡ Status.Done → WhereListing (command_of words.now.items) (λ s. Lists s (shelf_view shelf.old) (sink_view out.old) (sink_view out.new)) }
     ensures none { result ≡ Status.NoSelection → IfSome (command_of words.now.items) (λ c. FundsNot c (shelf_view shelf.old) (shelf_view shelf.new) (sink_view out.old) (sink_view out.new)) }
     ensures complete { IfSome (command_of words.now.items) (λ c. (result ≡ status_of (outcome_of (shelf_view shelf.old).files c)) ⊎ (result ≡ Status.Memory)) }
 {

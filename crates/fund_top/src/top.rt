@@ -1,24 +1,25 @@
-//! The command, from its words to its status.
+//! The commands, from their words to their status.
 
 ghost use Rattle.std.specs.Prelude.{◌≡◌, ◌≤◌, ◌↔◌, ◌⊎◌, ◌++◌, None, codes, string_bytes, IfOk, IfErr, IfSome};
 ghost use Rattle.fund_base.specs.Causes.{NeverFall, Rose, HasPart, SameElsewhere};
-ghost use Rattle.fund_top.specs.Command.{plain};
+ghost use Rattle.fund_top.specs.Cause.{Cause, cause_of};
+ghost use Rattle.fund_top.specs.Command.{plain, plain_payment, plain_sources};
 ghost use Rattle.fund_top.specs.Conclusion.{IsEnded};
-ghost use Rattle.fund_top.specs.Ends.{Ends, EndsFunded, EndsNotFunded, EndsRefused, EndsUnread, EndsUnwritten, EndsWithoutMemory, GotLine, IsBeforeTheLog, NoneFailed, NoneUnread, status_of, status_of_refusal};
+ghost use Rattle.fund_top.specs.Ends.{Ends, EndsFunded, EndsListed, EndsNotFunded, EndsRefused, EndsUnread, EndsUnwritten, EndsWithoutMemory, GotLine, IsBeforeTheLog, IsListed, KeepsOthers, NoneFailed, NoneUnread, WhereFunding, WhereListing, status_of, status_of_cause};
 ghost use Rattle.fund_top.specs.Outcome.{Refused, outcome_of};
-ghost use Rattle.fund_top.specs.declared.refusal.Refusal.{Refusal};
 ghost use Rattle.fund_top.specs.Stop.{StopsFor, name_of};
 ghost use Rattle.fund_top.specs.Stopped.{IsAnswered, IsStopped};
 ghost use Rattle.fund_top.specs.Text.{fault_line, refusal_words};
-ghost use Rattle.fund_top.specs.Words.{command_of};
+ghost use Rattle.fund_top.specs.Words.{Coins, Fund, command_of, sources_of};
 
 use crate::ending::{Ending, conclude};
-use crate::files::{Inputs, Stop, read_inputs};
-use crate::output::{finish, put_fault, put_line, want_of_memory};
+use crate::files::{Inputs, Stop, read_chain, read_inputs};
+use crate::listing::listing_text;
+use crate::output::{finish, put_fault, put_line, put_report, want_of_memory};
 use crate::refusal::{File, Refusal};
 use crate::status::Status;
 use crate::text::refusal_words;
-use crate::words::{Command, parse};
+use crate::words::{Command, Payment, Sources, parse};
 use fund_base::{Memory, Shelf, Sink};
 use std::alloc::Global;
 
@@ -28,39 +29,68 @@ const NONE_REPORT: &[u8] = b"none\ntries 0\n";
 /// The line of words that are no command.
 const USAGE_LINE: &[u8] = b"fault usage\n";
 
-/// How a command ends whose files are read, or why it stops.
-fn outcome<H: Shelf>(alloc: Global, command: &Command, shelf: &mut H) -> Result<Ending, Stop>
-    ensures ends { IfOk result (λ e. IsEnded H.tells (H.view shelf.old).files (plain command.now) e) }
+/// The listing, or why the command stops.
+fn listed<H: Shelf>(alloc: Global, sources: &Sources, shelf: &mut H) -> Result<String, Stop>
+    ensures lists { IfOk result (λ text. IsListed H.tells (H.view shelf.old).files (plain_sources sources.now) (string_bytes text)) }
     ensures same { H.tells → (H.view shelf.new).files ≡ (H.view shelf.old).files }
     ensures reads { NeverFall (H.view shelf.old).reads (H.view shelf.new).reads }
     ensures writes { (H.view shelf.new).writes ≡ (H.view shelf.old).writes }
-    ensures stop { IfErr result (StopsFor H.tells (plain command.now) (H.view shelf.old) (H.view shelf.new)) }
+    ensures stop { IfErr result (StopsFor H.tells (Coins (plain_sources sources.now)) (H.view shelf.old) (H.view shelf.new)) }
 {
-    let Inputs {
-        wallet,
-        kept,
-        request,
-    } = read_inputs(alloc, command, shelf)?;
-    conclude(alloc, &wallet, kept, &request)
+    let held = read_chain(alloc, sources, shelf)?;
+    match listing_text(alloc, &held) {
+        Ok(text) => Ok(text),
+        Err(Memory) => Err(Stop::Memory),
+    }
 }
 
-/// The name of a file of the command.
+/// How a payment ends whose files are read, or why the command stops.
+fn outcome<H: Shelf>(
+    alloc: Global,
+    sources: &Sources,
+    payment: &Payment,
+    shelf: &mut H,
+) -> Result<Ending, Stop>
+    ensures ends { IfOk result (λ e. IsEnded H.tells (H.view shelf.old).files (plain_sources sources.now) (plain_payment payment.now) e) }
+    ensures same { H.tells → (H.view shelf.new).files ≡ (H.view shelf.old).files }
+    ensures reads { NeverFall (H.view shelf.old).reads (H.view shelf.new).reads }
+    ensures writes { (H.view shelf.new).writes ≡ (H.view shelf.old).writes }
+    ensures stop { IfErr result (StopsFor H.tells (Fund (plain_sources sources.now) (plain_payment payment.now)) (H.view shelf.old) (H.view shelf.new)) }
+{
+    let Inputs { held, request } = read_inputs(alloc, sources, payment, shelf)?;
+    conclude(alloc, &held, &request)
+}
+
+/// The names of the files from which a command tells the coins.
+fn sources_of<'a>(command: &Command<'a>) -> Sources<'a>
+    ensures { plain_sources result ≡ sources_of (plain command.now) }
+{
+    match command {
+        Command::Coins(sources) => *sources,
+        Command::Fund(sources, _) => *sources,
+    }
+}
+
+/// The name of a file of the command. One that lists coins has no request.
 fn name_of<'a>(command: &Command<'a>, file: File) -> &'a str
     ensures { result.now ≡ name_of (plain command.now) file }
 {
     match file {
-        File::Wallet => command.wallet,
-        File::Blocks => command.blocks,
-        File::Request => command.request,
+        File::Wallet => sources_of(command).wallet,
+        File::Blocks => sources_of(command).blocks,
+        File::Request => match command {
+            Command::Coins(_) => "",
+            Command::Fund(_, payment) => payment.request,
+        },
     }
 }
 
 /// The status of a refusal.
 fn status_of(refusal: &Refusal) -> Status
-    ensures { result ≡ status_of_refusal refusal.now }
+    ensures { result ≡ status_of_cause (cause_of refusal.now) }
 {
     match refusal {
-        Refusal::TooLong(_) => Status::Limit,
+        Refusal::TooLong(_) | Refusal::ManyCoins => Status::Limit,
         _ => Status::Input,
     }
 }
@@ -86,7 +116,7 @@ fn refuse_read<O: Sink>(alloc: Global, name: &str, out: &mut O) -> Status
 
 /// Puts the line of a refusal.
 fn refuse<O: Sink>(alloc: Global, refusal: &Refusal, out: &mut O) -> Status
-    ensures line { IsAnswered O.tells (refusal_words refusal.now) (status_of_refusal refusal.now) (O.view out.old) (O.view out.new) result }
+    ensures line { IsAnswered O.tells (refusal_words refusal.now) (status_of_cause (cause_of refusal.now)) (O.view out.old) (O.view out.new) result }
     ensures faults { (O.view out.old).faults ≤ (O.view out.new).faults }
     ensures refusals { (O.view out.old).refusals ≤ (O.view out.new).refusals }
 {
@@ -109,17 +139,34 @@ fn answer<O: Sink>(alloc: Global, command: &Command, stop: Stop, out: &mut O) ->
     }
 }
 
-/// Does the command.
-fn fund<H: Shelf, O: Sink>(alloc: Global, command: &Command, shelf: &mut H, out: &mut O) -> Status
-    ensures ends { Ends H.tells O.tells (plain command.now) (H.view shelf.old) (H.view shelf.new) (O.view out.old) (O.view out.new) result }
-    ensures others { H.tells → SameElsewhere (plain command.now).log (H.view shelf.old).files (H.view shelf.new).files }
+/// Lists the payments and the coins.
+fn coins<H: Shelf, O: Sink>(alloc: Global, sources: &Sources, shelf: &mut H, out: &mut O) -> Status
+    ensures ends { Ends H.tells O.tells (Coins (plain_sources sources.now)) (H.view shelf.old) (H.view shelf.new) (O.view out.old) (O.view out.new) result }
+    ensures same { H.tells → (H.view shelf.new).files ≡ (H.view shelf.old).files }
+{
+    match listed(alloc, sources, shelf) {
+        Ok(text) => put_report(text.as_bytes(), Status::Done, out),
+        Err(stop) => answer(alloc, &Command::Coins(*sources), stop, out),
+    }
+}
+
+/// Funds a payment.
+fn fund<H: Shelf, O: Sink>(
+    alloc: Global,
+    sources: &Sources,
+    payment: &Payment,
+    shelf: &mut H,
+    out: &mut O,
+) -> Status
+    ensures ends { Ends H.tells O.tells (Fund (plain_sources sources.now) (plain_payment payment.now)) (H.view shelf.old) (H.view shelf.new) (O.view out.old) (O.view out.new) result }
+    ensures others { H.tells → SameElsewhere (plain_payment payment.now).log (H.view shelf.old).files (H.view shelf.new).files }
     ensures kept { H.tells → IsBeforeTheLog result → (H.view shelf.new).files ≡ (H.view shelf.old).files }
 {
-    match outcome(alloc, command, shelf) {
+    match outcome(alloc, sources, payment, shelf) {
         Ok(Ending::NoSelection) => {
             finish(
                 alloc,
-                command.log,
+                payment.log,
                 NONE_REPORT,
                 Status::NoSelection,
                 shelf,
@@ -129,19 +176,33 @@ fn fund<H: Shelf, O: Sink>(alloc: Global, command: &Command, shelf: &mut H, out:
         Ok(Ending::Funded(report)) => {
             finish(
                 alloc,
-                command.log,
+                payment.log,
                 report.as_bytes(),
                 Status::Done,
                 shelf,
                 out,
             )
         }
-        Err(stop) => answer(alloc, command, stop, out),
+        Err(stop) => answer(alloc, &Command::Fund(*sources, *payment), stop, out),
     }
 }
 
-/// Funds a payment from listed coins, as the words say, which are `fund WALLET BLOCKS REQUEST LOG`: it reads the
-/// three files, writes the log, and then prints the report to `out`. What is refused gets its fault line there.
+/// Does the command.
+fn act<H: Shelf, O: Sink>(alloc: Global, command: &Command, shelf: &mut H, out: &mut O) -> Status
+    ensures ends { Ends H.tells O.tells (plain command.now) (H.view shelf.old) (H.view shelf.new) (O.view out.old) (O.view out.new) result }
+    ensures others { H.tells → KeepsOthers (plain command.now) (H.view shelf.old).files (H.view shelf.new).files }
+    ensures kept { H.tells → IsBeforeTheLog result → (H.view shelf.new).files ≡ (H.view shelf.old).files }
+{
+    match command {
+        Command::Coins(sources) => coins(alloc, sources, shelf, out),
+        Command::Fund(sources, payment) => fund(alloc, sources, payment, shelf, out),
+    }
+}
+
+/// Does what the words say. `coins WALLET BLOCKS` reads the two files and prints to `out` the listing of the wallet: the
+/// tip of its chain, its pending payments and their states, and the coins that may be spent. `fund WALLET BLOCKS REQUEST
+/// LOG` funds a payment from listed coins: it reads the three files, writes the log, and then prints the report to
+/// `out`. What is refused gets its fault line there.
 ///
 /// The clauses on content hold where the shelf and the sink tell theirs.
 pub fn run<H: Shelf, O: Sink>(
@@ -156,7 +217,10 @@ pub fn run<H: Shelf, O: Sink>(
     ensures untouched { result ≡ Status.Usage → (H.view shelf.new) ≡ (H.view shelf.old) }
 
     // Done: the coins are candidates, the transaction pays what is asked, the log is written, the report is printed.
-    ensures done { result ≡ Status.Done → IfSome (command_of words.now.items) (λ c. EndsFunded H.tells O.tells c (H.view shelf.old) (H.view shelf.new) (O.view out.old) (O.view out.new)) }
+    ensures done { result ≡ Status.Done → WhereFunding (command_of words.now.items) (λ s p. EndsFunded H.tells O.tells s p (H.view shelf.old) (H.view shelf.new) (O.view out.old) (O.view out.new)) }
+
+    // Done, where coins are listed: the states and the candidates are printed, and nothing else.
+    ensures listed { result ≡ Status.Done → WhereListing (command_of words.now.items) (λ s. EndsListed H.tells O.tells s (H.view shelf.old) (O.view out.old) (O.view out.new)) }
 
     // No selection: the listed coins are candidates from which no transaction pays what is asked.
     ensures none { result ≡ Status.NoSelection → IfSome (command_of words.now.items) (λ c. EndsNotFunded H.tells O.tells c (H.view shelf.old) (H.view shelf.new) (O.view out.old) (O.view out.new)) }
@@ -170,12 +234,12 @@ pub fn run<H: Shelf, O: Sink>(
     ensures write_fault { result ≡ Status.WriteFault → IfSome (command_of words.now.items) (λ c. EndsUnwritten H.tells O.tells c (H.view shelf.old) (H.view shelf.new) (O.view out.old) (O.view out.new)) }
     ensures memory { result ≡ Status.Memory → IfSome (command_of words.now.items) (λ c. EndsWithoutMemory H.tells O.tells c (H.view shelf.old) (H.view shelf.new) (O.view out.old) (O.view out.new)) }
 
-    // What stays: every file but the log, and the log too before it is written.
-    ensures others { H.tells → IfSome (command_of words.now.items) (λ c. SameElsewhere c.log (H.view shelf.old).files (H.view shelf.new).files) }
+    // What stays: every file but the log of a payment, and the log too before it is written.
+    ensures others { H.tells → IfSome (command_of words.now.items) (λ c. KeepsOthers c (H.view shelf.old).files (H.view shelf.new).files) }
     ensures kept { H.tells → IsBeforeTheLog result → (H.view shelf.new).files ≡ (H.view shelf.old).files }
 
     // Where the files are refused and were read, the status is that of the refusal, even if the sink fails.
-    ensures refused { IfSome (command_of words.now.items) (λ c. H.tells → NoneUnread c (H.view shelf.old) (H.view shelf.new) → (refusal : Refusal) → outcome_of (H.view shelf.old).files c ≡ Refused refusal → (result ≡ status_of_refusal refusal) ⊎ (result ≡ Status.Memory)) }
+    ensures refused { IfSome (command_of words.now.items) (λ c. H.tells → NoneUnread c (H.view shelf.old) (H.view shelf.new) → (cause : Cause) → outcome_of (H.view shelf.old).files c ≡ Refused cause → (result ≡ status_of_cause cause) ⊎ (result ≡ Status.Memory)) }
 
     // Where no count rose, the status is that of what the files come to, or want of memory.
     ensures complete { IfSome (command_of words.now.items) (λ c. H.tells → NoneFailed c (H.view shelf.old) (H.view shelf.new) (O.view out.old) (O.view out.new) → (result ≡ status_of (outcome_of (H.view shelf.old).files c)) ⊎ (result ≡ Status.Memory)) }
@@ -185,7 +249,7 @@ pub fn run<H: Shelf, O: Sink>(
             put_line(USAGE_LINE, out);
             Status::Usage
         }
-        Some(command) => fund(alloc, &command, shelf, out),
+        Some(command) => act(alloc, &command, shelf, out),
     }
 }
 

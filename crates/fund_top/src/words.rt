@@ -1,47 +1,78 @@
 //! The words of the command line.
 
 ghost use Rattle.std.specs.Prelude.{◌≡◌, option_map};
-ghost use Rattle.fund_top.specs.Words.{command_of, names_stand};
-ghost use Rattle.fund_top.specs.Command.{plain};
+ghost use Rattle.fund_top.specs.Words.{are_named, command_of, names_stand};
+ghost use Rattle.fund_top.specs.Command.{plain, plain_payment, plain_sources};
 
-/// To fund a payment, by the names of its files.
+/// The names of the files from which the coins are told.
 #[derive(Clone, Copy, Debug)]
-pub struct Command<'a> {
+pub struct Sources<'a> {
     pub wallet: &'a str,
     pub blocks: &'a str,
+}
+
+/// The names of the files of a payment.
+#[derive(Clone, Copy, Debug)]
+pub struct Payment<'a> {
     pub request: &'a str,
     /// The file that is written.
     pub log: &'a str,
 }
 
-/// Whether no name is empty, and the log is none of the files that are read.
-fn names_stand(command: &Command) -> bool
-    ensures { result ≡ names_stand (plain command.now) }
-{
-    let named = !command.wallet.is_empty()
-        && !command.blocks.is_empty()
-        && !command.request.is_empty()
-        && !command.log.is_empty();
-    let apart = command.log != command.wallet
-        && command.log != command.blocks
-        && command.log != command.request;
-    named && apart
+/// What is to be done.
+#[derive(Clone, Copy, Debug)]
+pub enum Command<'a> {
+    /// To list the pending payments and the coins that may be spent.
+    Coins(Sources<'a>),
+    /// To fund a payment.
+    Fund(Sources<'a>, Payment<'a>),
 }
 
-/// The command that the words are, which is `fund WALLET BLOCKS REQUEST LOG`.
+/// Whether no name is empty.
+fn are_named(sources: &Sources) -> bool
+    ensures { result ≡ are_named (plain_sources sources.now) }
+{
+    !sources.wallet.is_empty() && !sources.blocks.is_empty()
+}
+
+/// Whether no name is empty, and the log is none of the files that are read.
+fn names_stand(sources: &Sources, payment: &Payment) -> bool
+    ensures { result ≡ names_stand (plain_sources sources.now) (plain_payment payment.now) }
+{
+    let named = !payment.request.is_empty() && !payment.log.is_empty();
+    let apart = payment.log != sources.wallet
+        && payment.log != sources.blocks
+        && payment.log != payment.request;
+    are_named(sources) && (named && apart)
+}
+
+/// The command that the words are, which is `coins WALLET BLOCKS` or `fund WALLET BLOCKS REQUEST LOG`.
 pub fn parse(words: &[String]) -> Option<Command<'_>>
     ensures { option_map plain result ≡ command_of words.now }
 {
     match words {
-        [verb, wallet, blocks, request, log] => {
-            let command = Command {
+        [verb, wallet, blocks] => {
+            let sources = Sources {
                 wallet: wallet.as_str(),
                 blocks: blocks.as_str(),
+            };
+            if verb.as_str() == "coins" && are_named(&sources) {
+                Some(Command::Coins(sources))
+            } else {
+                None
+            }
+        }
+        [verb, wallet, blocks, request, log] => {
+            let sources = Sources {
+                wallet: wallet.as_str(),
+                blocks: blocks.as_str(),
+            };
+            let payment = Payment {
                 request: request.as_str(),
                 log: log.as_str(),
             };
-            if verb.as_str() == "fund" && names_stand(&command) {
-                Some(command)
+            if verb.as_str() == "fund" && names_stand(&sources, &payment) {
+                Some(Command::Fund(sources, payment))
             } else {
                 None
             }

@@ -58,6 +58,11 @@ const LEAST_CHANGE: &[u8] =
 /// What is printed of the one short.
 const ONE_SHORT: &[u8] = b"none\ntries 0\n";
 
+/// What is listed of the exact coin, which is 11 deep.
+const LISTING: &[u8] =
+    b"tip 100 0000000000000000000000000000000000000000000000000000000000000000\ncoin 359720124564\
+      3f5ad8017216d62606112ee7ba2f88c0f1cbb84d4d9ab246cbcf:0 101100 11 foreign safe 0 0\n";
+
 const LOG: &[u8] = b"fund-log 1\nend\n";
 
 fn joined(alloc: Global, front: &[u8], middle: &[u8], back: &[u8]) -> Result<Vec<u8>, Fail> {
@@ -168,6 +173,21 @@ fn files_that_never_fail(rt: HostRuntime) -> Result<(), Fail> {
 }
 
 #[test]
+fn one_coin_is_listed(rt: HostRuntime) -> Result<(), Fail> {
+    let alloc = rt.alloc();
+    let words = words(alloc, &["coins", "wallet", "blocks"])?;
+    let txid = b"3597201245643f5ad8017216d62606112ee7ba2f88c0f1cbb84d4d9ab246cbcf";
+    let mut shelf = SureShelf::new(alloc, files(alloc, b"ec8a01", txid)?);
+    let mut sink = SureSink::new(alloc);
+    assert_eq!(rt;
+        run_in_memory(alloc, &words, &mut shelf, &mut sink),
+        Status::Done
+    );
+    assert_eq!(rt; sink.written(), LISTING);
+    Ok(())
+}
+
+#[test]
 fn first_write_fails(rt: HostRuntime) -> Result<(), Fail> {
     let alloc = rt.alloc();
     let words = words(alloc, &["fund", "wallet", "blocks", "request", "log"])?;
@@ -213,5 +233,7 @@ fn wrong_words(rt: HostRuntime) -> Result<(), Fail> {
     refuses_words(&rt, rt.alloc(), &["fund", "a", "b"])?;
     refuses_words(&rt, rt.alloc(), &["fund", "a", "b", "c", "a"])?;
     refuses_words(&rt, rt.alloc(), &["fund", "a", "", "c", "d"])?;
+    refuses_words(&rt, rt.alloc(), &["coins", "a", ""])?;
+    refuses_words(&rt, rt.alloc(), &["coins", "a", "b", "c", "d"])?;
     Ok(())
 }

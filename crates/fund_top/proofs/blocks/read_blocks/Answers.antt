@@ -1,42 +1,40 @@
-use Rattle.std.proofs.Common.{◌≡◌, ◌≢◌, ◌≤◌, ◌<◌, ◌∙◌, ◌++◌, sym, ap, subst, List, ℕ, length, map, arith, refl, Ok, Err, Some, None, Option, Result}
-use Rattle.std.specs.Prelude.{IfErr}
+use Rattle.std.proofs.Common.{◌≡◌, ◌≤◌, ◌∙◌, ap, sym, subst, List, ℕ, length, arith, refl, Err, None}
 use Rattle.std.proofs.lemmas.Result.{err_from_is_err_and}
 use Rattle.block_feed.specs.Block.{ChainBlock}
 use Rattle.block_feed.specs.Feed.{StandsBefore, next_of}
-use Rattle.block_feed.specs.declared.fault.FeedFault.{FeedFault}
-use Rattle.tx_codec.specs.Transaction.{Transaction}
-use Rattle.fund_top.specs.Book.{IsBook, weigher}
-use Rattle.fund_top.specs.Coins.{Confirmed}
-use Rattle.fund_top.specs.Ledger.{confirmed_at, confirmed_in}
-use Rattle.fund_top.proofs.FeedSteps.{SoFar, so_far_none, so_far_all, so_far_fault, so_far_given}
+use Rattle.wallet_text.specs.PlainWallet.{PlainWallet}
+use Rattle.fund_top.proofs.FeedSteps.{so_far_none, so_far_all, so_far_fault, so_far_more}
 use Rattle.fund_top.proofs.blocks.read_blocks.Goals as goal
 
 pub reading-init : goal.reading-init
-reading-init g c = rw c.new-feed.ensures (record {
-  same_file = tt;
-  fine = refl;
-  same = λ t. refl;
-  reads = λ name. omega arith;
-  writes = refl;
-  so_far = so_far_none g.H.Shelf.tells (weigher c.args.weights.now.entries) ((g.H.Shelf.view c.args.shelf.now).files c.args.name.now) (record { hash = c.args.hash.now; height = c.args.height; place = 0; fault = None; file = None }) c.args.book.now refl;
-})
+reading-init g c =
+    let hash = ap (λ (x : PlainWallet). x.hash) c.wallet.view_is in
+    let height = ap (λ (x : PlainWallet). x.height) c.wallet.view_is in
+    rw c.new-feed.ensures (record {
+      same_file = tt;
+      fine = refl;
+      same = λ t. refl;
+      reads = λ name. omega arith;
+      writes = refl;
+      so_far = so_far_none g.H.Shelf.tells ((g.H.Shelf.view c.args.shelf.now).files c.args.name.now) c.args.wallet.now (record { hash = c.wallet.inside.hash; height = c.wallet.inside.height; place = 0; fault = None; file = None }) c.in-Ok.booked refl hash height c.requires.height c.in-Ok.ensures;
+    })
 
 pub returns-in_err-block-clause-fault : goal.returns-in_err-block-clause-fault
 returns-in_err-block-clause-fault g c = λ t.
     let p = err_from_is_err_and c.from_residual.result c.from_residual.ensures.1 in
     rw (p.1, p.2) (λ memory read.
-    so_far_fault g.H.Shelf.tells _ _ _ _ _ _ _ _ _ t
+    so_far_fault g.H.Shelf.tells _ _ _ _ _ _ t
     (subst (λ (files : List ℕ → List ℕ). next_of (files c.args.name.now) c.reading.feed ≡ Err c.in_err-block.field-0.0) (c.reading.invariant.same t) (c.in_err-block.ensures.exact t c.reading.invariant.fine memory read))
     c.reading.invariant.so_far)
 
-pub returns-in_default-clause-read : goal.returns-in_default-clause-read
-returns-in_default-clause-read g c = λ chain h.
-    let before = rw c.in_default.is at c.in_ok-block.ensures.before in
-    let found = rw c.in_default.is at c.in_ok-block.ensures.found in
-    so_far_all g.H.Shelf.tells _ _ _ _ _ c.reading.feed c.next.new.self _ _ chain
+pub returns-in_default-2-clause-read : goal.returns-in_default-2-clause-read
+returns-in_default-2-clause-read g c =
+    let before = rw c.in_default-2.is at c.in_ok-block.ensures.before in
+    let found = rw c.in_default-2.is at c.in_ok-block.ensures.found in
+    so_far_all g.H.Shelf.tells _ _ _ c.reading.feed c.next.new.self _
     (λ t. subst (λ (files : List ℕ → List ℕ). StandsBefore (files c.args.name.now) c.reading.feed c.next.new.self None) (c.reading.invariant.same t) (before t c.reading.invariant.fine))
     (λ t. subst (λ (files : List ℕ → List ℕ). length (files c.args.name.now) ≤ 1_073_741_824) (c.reading.invariant.same t) (found t c.reading.invariant.fine).1)
-    h c.reading.invariant.so_far
+    c.reading.invariant.so_far
 
 pub reading-preserved : goal.reading-preserved
 reading-preserved g c =
@@ -46,7 +44,7 @@ reading-preserved g c =
     let exact = rw c.in-Some.is at e.exact in
     let within = rw c.in-Some.is at e.within in
     let before = rw c.in-Some.is at e.before in
-    let txs : c.deref.result.now ≡ c.in-Some.block.txs = c.deref.ensures.value ∙ ap (λ (b : ChainBlock). b.txs) c.block.view_is in
+    let hash = ap (λ (b : ChainBlock). b.hash) c.block.view_is in
     let height = ap (λ (b : ChainBlock). b.height) c.block.view_is in
     record {
       same_file = e.may_go_on;
@@ -54,6 +52,6 @@ reading-preserved g c =
       same = λ t. e.same t ∙ c.reading.invariant.same t;
       reads = λ name. omega (arith, e.reads name, c.reading.invariant.reads name);
       writes = e.writes ∙ c.reading.invariant.writes;
-      so_far = so_far_given g.H.Shelf.tells _ _ _ _ _ _ c.reading.feed c.next.new.self _ c.reading.book c.add_all.new.self c.in-Some.block _ _ linked moves (λ t. ap (λ (files : List ℕ → List ℕ). files c.args.name.now) (c.reading.invariant.same t))
-          (λ t. exact t c.reading.invariant.fine) (λ t. within t c.reading.invariant.fine) (λ t. before t c.reading.invariant.fine) _ _ txs height c.in_default-add_all.ensures c.reading.invariant.so_far;
+      so_far = so_far_more g.H.Shelf.tells _ _ _ _ c.reading.feed c.next.new.self c.reading.booked c.in-Ok-add_block.more c.in-Some.block _ _ linked moves (λ t. ap (λ (files : List ℕ → List ℕ). files c.args.name.now) (c.reading.invariant.same t))
+          (λ t. exact t c.reading.invariant.fine) (λ t. within t c.reading.invariant.fine) (λ t. before t c.reading.invariant.fine) _ _ height hash c.in-Ok-add_block.ensures c.reading.invariant.so_far;
     }

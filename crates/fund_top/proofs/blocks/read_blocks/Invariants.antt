@@ -1,7 +1,6 @@
 use Rattle.std.proofs.Common.{◌≡◌, None}
 use Rattle.fund_base.specs.Causes.{NeverFall}
 use Rattle.block_feed.specs.Feed.{IsSameFile}
-use Rattle.fund_top.specs.Book.{weigher}
 use Rattle.fund_top.proofs.FeedSteps.{SoFar}
 use Rattle.fund_top.proofs.blocks.read_blocks.Given as goal
 
@@ -12,5 +11,5 @@ invariant-reading g l = record {
   same : g.H.Shelf.tells → (g.H.Shelf.view l.shelf).files ≡ (g.H.Shelf.view l.initial.shelf).files;
   reads : NeverFall (g.H.Shelf.view l.initial.shelf).reads (g.H.Shelf.view l.shelf).reads;
   writes : (g.H.Shelf.view l.shelf).writes ≡ (g.H.Shelf.view l.initial.shelf).writes;
-  so_far : SoFar g.H.Shelf.tells (weigher l.weights.entries) l.hash l.height ((g.H.Shelf.view l.initial.shelf).files l.name) l.tip l.feed l.initial.book l.book;
+  so_far : SoFar g.H.Shelf.tells ((g.H.Shelf.view l.initial.shelf).files l.name) l.wallet l.feed l.tip l.booked;
 }

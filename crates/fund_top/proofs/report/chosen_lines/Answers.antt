@@ -1,4 +1,4 @@
-use Rattle.std.proofs.Common.{◌≡◌, ◌∙◌, ◌++◌, sym, ap, List, ℕ, take, string_bytes}
+use Rattle.std.proofs.Common.{◌∙◌, ◌++◌, ap, List, ℕ, string_bytes}
 use Rattle.fund_top.specs.Report.{chosen_lines}
 use Rattle.fund_top.proofs.ReportLines.{lines_more}
 use Rattle.fund_top.proofs.report.chosen_lines.Goals as goal

@@ -1,6 +1,6 @@
 use Rattle.std.proofs.Common.{ap, inl, inr, refl, string_bytes, subst, sym}
 use Rattle.fund_top.specs.declared.status.Status.TheVariants as statuses
-use Rattle.fund_top.specs.Command.{plain}
+use Rattle.fund_top.specs.Command.{plain_payment, plain_sources}
 use Rattle.fund_top.specs.Ends.{IsReported, report_of_outcome}
 use Rattle.fund_top.specs.Text.{none_report}
 use Rattle.fund_top.proofs.Finished.{finish_ends}
@@ -10,7 +10,7 @@ pub returns-in-Ok-NoSelection-clause-ends : goal.returns-in-Ok-NoSelection-claus
 returns-in-Ok-NoSelection-clause-ends g c =
     let ends = rw c.in-Ok-NoSelection.field-0-is at c.in-Ok-NoSelection.ensures.ends in
     let f = c.finish.ensures in
-    finish_ends _ _ (plain c.args.command.now) none_report statuses.NoSelection (g.H.Shelf.view c.args.shelf.now) (g.H.Shelf.view c.outcome.new.shelf) (g.H.Shelf.view c.finish.new.shelf) (g.O.Sink.view c.args.out.now)
+    finish_ends _ _ (plain_sources c.args.sources.now) (plain_payment c.args.payment.now) none_report statuses.NoSelection (g.H.Shelf.view c.args.shelf.now) (g.H.Shelf.view c.outcome.new.shelf) (g.H.Shelf.view c.finish.new.shelf) (g.O.Sink.view c.args.out.now)
     (g.O.Sink.view c.finish.new.out) c.finish.result (inr refl) c.outcome.ensures.writes c.outcome.ensures.same (λ t. subst IsReported (sym (ends.comes_to t)) tt) (λ t. ap report_of_outcome (ends.comes_to t)) (λ log put. (ends, log, put)) f.kinds f.log f.report f.write_fault f.memory
 
 pub returns-in-Ok-Funded-clause-ends : goal.returns-in-Ok-Funded-clause-ends
@@ -18,5 +18,5 @@ returns-in-Ok-Funded-clause-ends g c =
     let ends = rw c.in-Ok-Funded.field-0-is at c.in-Ok-Funded.ensures.ends in
     let f = rw c.as_bytes.ensures.value at c.finish-in-Ok-Funded.ensures in
     let report = string_bytes c.in-Ok-Funded.report in
-    finish_ends _ _ (plain c.args.command.now) report statuses.Done (g.H.Shelf.view c.args.shelf.now) (g.H.Shelf.view c.outcome.new.shelf) (g.H.Shelf.view c.finish-in-Ok-Funded.new.shelf) (g.O.Sink.view c.args.out.now)
+    finish_ends _ _ (plain_sources c.args.sources.now) (plain_payment c.args.payment.now) report statuses.Done (g.H.Shelf.view c.args.shelf.now) (g.H.Shelf.view c.outcome.new.shelf) (g.H.Shelf.view c.finish-in-Ok-Funded.new.shelf) (g.O.Sink.view c.args.out.now)
     (g.O.Sink.view c.finish-in-Ok-Funded.new.out) c.finish-in-Ok-Funded.result (inl refl) c.outcome.ensures.writes c.outcome.ensures.same (λ t. subst IsReported (sym (ends.comes_to t)) tt) (λ t. ap report_of_outcome (ends.comes_to t)) (λ log put. (report, ends, log, put)) f.kinds f.log f.report f.write_fault f.memory
