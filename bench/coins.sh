@@ -1,0 +1,45 @@
+#!/usr/bin/env bash
+# Times the book of 10,000 and of 100,000 coins by crates/coin_bench, in blocks of 20 coins each, the best of three, and
+# prints the seconds, the greatest memory, and how many times the first the second takes: about 10 where the time grows
+# with the number of coins, and up to 12 is thought fine. The time has the reading of the blocks in it. A step that fails
+# ends it with a non-zero status; a time never does.
+#
+# usage: bench/coins.sh [SEED]
+set -euo pipefail
+export LC_ALL=C
+
+top=$(cd "$(dirname "$0")/.." && pwd)
+program=$top/crates/coin_bench/out/coin_bench
+folder=$(mktemp -d)
+trap 'rm -rf "$folder"' EXIT
+
+# Proves and builds the program, and runs it on the small files of its folder data/.
+cd "$top/crates/coin_bench"
+rt run -- data/wallet.json data/blocks.dat >"$folder/small.txt" 2>"$folder/build.log" || { cat "$folder/build.log" >&2; exit 1; }
+cmp "$folder/small.txt" stdout
+
+echo "load:   $(cut -d' ' -f1-3 /proc/loadavg) on $(nproc) processors"
+first=
+for coins in 10000 100000; do
+    wallet=$folder/wallet.json
+    blocks=$folder/blocks.dat
+    made=$(python3 "$top/bench/make_coins.py" "$wallet" "$blocks" --seed "${1:-1}" --coins "$coins")
+    best=
+    for _ in 1 2 3; do
+        start=$(date +%s%N)
+        "$program" "$wallet" "$blocks" >"$folder/printed.txt"
+        end=$(date +%s%N)
+        read -r printed <"$folder/printed.txt"
+        [ "$printed" = "$made" ] || { echo "made: $made; printed: $printed" >&2; exit 1; }
+        if [ -z "$best" ] || [ $((end - start)) -lt "$best" ]; then best=$((end - start)); fi
+    done
+    memory=$(python3 - "$program" "$wallet" "$blocks" <<'PYTHON'
+import resource, subprocess, sys
+subprocess.run(sys.argv[1:], stdout=subprocess.DEVNULL, check=True)
+print(resource.getrusage(resource.RUSAGE_CHILDREN).ru_maxrss // 1024)
+PYTHON
+)
+    awk -v made="$made" -v n="$best" -v memory="$memory" 'BEGIN { printf "%s: %.3f s, %d MiB of memory\n", made, n / 1e9, memory }'
+    first=${first:-$best}
+done
+awk -v a="$first" -v b="$best" 'BEGIN { printf "times:  %.1f\n", b / a }'
