@@ -87,6 +87,8 @@ impl Shelf for MemShelf {
         ensures reads { NeverFall (view_of self.old).reads (view_of self.new).reads }
         ensures writes { (view_of self.new).writes ≡ (view_of self.old).writes }
         ensures cause { IsErrOf result Fault.Failed → Rose ((view_of self.old).reads name.now) ((view_of self.new).reads name.now) }
+        ensures unfailed { OnOk result ((view_of self.new).reads ≡ (view_of self.old).reads) }
+        ensures short { IsErrOf result Fault.Memory → (view_of self.new).reads ≡ (view_of self.old).reads }
 
         // Want of memory may take the place of a failure that is due.
         ensures failed { IsErrOf result Fault.Failed → IsTrue (read_fails self.old name.now) }
@@ -110,6 +112,8 @@ impl Shelf for MemShelf {
         ensures reads { (view_of self.new).reads ≡ (view_of self.old).reads }
         ensures writes { NeverFall (view_of self.old).writes (view_of self.new).writes }
         ensures cause { IsErrOf result Fault.Failed → Rose ((view_of self.old).writes name.now) ((view_of self.new).writes name.now) }
+        ensures unfailed { OnOk result ((view_of self.new).writes ≡ (view_of self.old).writes) }
+        ensures short { IsErrOf result Fault.Memory → (view_of self.new).writes ≡ (view_of self.old).writes }
 
         // Want of memory may take the place of a failure that is due.
         ensures failed { IsErrOf result Fault.Failed → IsTrue (is_due (write_plan self.old)) }

@@ -1,6 +1,6 @@
 //! Bytes put in memory, where some puts fail.
 
-ghost use Rattle.std.specs.Prelude.{◌≡◌, ◌≤◌, ◌↔◌, ◌++◌, [], length, take, IfOk, OnErr, IsErrOf, IsTrue};
+ghost use Rattle.std.specs.Prelude.{◌≡◌, ◌≤◌, ◌↔◌, ◌++◌, [], length, take, IfOk, OnOk, OnErr, IsErrOf, IsTrue};
 ghost use Rattle.fund_base.specs.Causes.{Rose};
 ghost use Rattle.fund_base.specs.Failures.{is_due, after_call};
 
@@ -59,6 +59,10 @@ impl Sink for MemSink {
         ensures refusals { (view_of self.old).refusals ≤ (view_of self.new).refusals }
         ensures memory { IsErrOf result Fault.Memory → Rose (view_of self.old).refusals (view_of self.new).refusals }
         ensures cause { IsErrOf result Fault.Failed → Rose (view_of self.old).faults (view_of self.new).faults }
+        ensures unfailed { OnOk result ((view_of self.new).faults ≡ (view_of self.old).faults) }
+        ensures unrefused { OnOk result ((view_of self.new).refusals ≡ (view_of self.old).refusals) }
+        ensures failed_alone { IsErrOf result Fault.Failed → (view_of self.new).refusals ≡ (view_of self.old).refusals }
+        ensures refused_alone { IsErrOf result Fault.Memory → (view_of self.new).faults ≡ (view_of self.old).faults }
 
         ensures failed { IsErrOf result Fault.Failed ↔ IsTrue (is_due (put_plan self.old)) }
         ensures whole { IfOk result (λ n. n ≡ length bytes.now) }

@@ -61,6 +61,7 @@ pub fn read_whole<H: Shelf>(
     ensures reads { NeverFall (H.view shelf.old).reads (H.view shelf.new).reads }
     ensures writes { (H.view shelf.new).writes ≡ (H.view shelf.old).writes }
     ensures cause { IsErrOf result ReadError.Failed → Rose ((H.view shelf.old).reads name.now) ((H.view shelf.new).reads name.now) }
+    ensures unfailed { OnOk result ((H.view shelf.new).reads ≡ (H.view shelf.old).reads) }
 {
     let mut piece = room(alloc)?;
     read_pieces(alloc, shelf, name, limit, &mut piece)
@@ -90,6 +91,7 @@ fn read_pieces<H: Shelf>(
     ensures reads { NeverFall (H.view shelf.old).reads (H.view shelf.new).reads }
     ensures writes { (H.view shelf.new).writes ≡ (H.view shelf.old).writes }
     ensures cause { IsErrOf result ReadError.Failed → Rose ((H.view shelf.old).reads name.now) ((H.view shelf.new).reads name.now) }
+    ensures unfailed { OnOk result ((H.view shelf.new).reads ≡ (H.view shelf.old).reads) }
 {
     let mut bytes = Vec::new(alloc);
     'reading: while bytes.len() <= limit {
@@ -110,6 +112,8 @@ pub fn put_all<O: Sink>(out: &mut O, bytes: &[u8]) -> Result<(), Fault>
     ensures refusals { (O.view out.old).refusals ≤ (O.view out.new).refusals }
     ensures memory { IsErrOf result Fault.Memory → Rose (O.view out.old).refusals (O.view out.new).refusals }
     ensures cause { IsErrOf result Fault.Failed → Rose (O.view out.old).faults (O.view out.new).faults }
+    ensures unfailed { OnOk result ((O.view out.new).faults ≡ (O.view out.old).faults) }
+    ensures unrefused { OnOk result ((O.view out.new).refusals ≡ (O.view out.old).refusals) }
 {
     let mut at = 0;
     'putting: while at < bytes.len() {

@@ -25,7 +25,7 @@ impl From<AllocError> for Fault {
 }
 
 /// Files by name. It counts for each name how often a read and how often a write failed; at the
-/// greatest `u64` a count stays.
+/// greatest `u64` a count stays. A call that doesn't fail changes no count.
 pub trait Shelf {
     /// Whether it tells what its files hold. The clauses on content hold where it does.
     ghost tells: { Type 0 };
@@ -43,7 +43,9 @@ pub trait Shelf {
         ensures same { tells → (view self.new).files ≡ (view self.old).files }
         ensures reads { NeverFall (view self.old).reads (view self.new).reads }
         ensures writes { (view self.new).writes ≡ (view self.old).writes }
-        ensures cause { IsErrOf result Fault.Failed → Rose ((view self.old).reads name.now) ((view self.new).reads name.now) };
+        ensures cause { IsErrOf result Fault.Failed → Rose ((view self.old).reads name.now) ((view self.new).reads name.now) }
+        ensures unfailed { OnOk result ((view self.new).reads ≡ (view self.old).reads) }
+        ensures short { IsErrOf result Fault.Memory → (view self.new).reads ≡ (view self.old).reads };
 
     /// Makes `bytes` the whole content of the file `name`. Where it fails that file's content is open.
     fn write_file(&mut self, name: &str, bytes: &[u8]) -> Result<(), Fault>
@@ -52,5 +54,7 @@ pub trait Shelf {
         ensures memory { tells → IsErrOf result Fault.Memory → (view self.new).files ≡ (view self.old).files }
         ensures reads { (view self.new).reads ≡ (view self.old).reads }
         ensures writes { NeverFall (view self.old).writes (view self.new).writes }
-        ensures cause { IsErrOf result Fault.Failed → Rose ((view self.old).writes name.now) ((view self.new).writes name.now) };
+        ensures cause { IsErrOf result Fault.Failed → Rose ((view self.old).writes name.now) ((view self.new).writes name.now) }
+        ensures unfailed { OnOk result ((view self.new).writes ≡ (view self.old).writes) }
+        ensures short { IsErrOf result Fault.Memory → (view self.new).writes ≡ (view self.old).writes };
 }

@@ -5,8 +5,8 @@ abbrev pub invariant-putting : goal.invariant-putting
 invariant-putting g l = record {
   in_range : l.at ≤ length l.bytes;
   put : g.O.Sink.tells → (g.O.Sink.view l.out).written ≡ (g.O.Sink.view l.initial.out).written ++ take l.at l.bytes;
-  faults : (g.O.Sink.view l.initial.out).faults ≤ (g.O.Sink.view l.out).faults;
-  refusals : (g.O.Sink.view l.initial.out).refusals ≤ (g.O.Sink.view l.out).refusals;
+  faults : (g.O.Sink.view l.out).faults ≡ (g.O.Sink.view l.initial.out).faults;
+  refusals : (g.O.Sink.view l.out).refusals ≡ (g.O.Sink.view l.initial.out).refusals;
 }
 
 abbrev pub decreases-putting : goal.decreases-putting
