@@ -1,5 +1,6 @@
 pub mod CoinLaws
 pub mod LastValues
+pub mod ListLaws
 pub mod Loops
 pub mod Members
 pub mod Names

@@ -1,5 +1,5 @@
 -- What an object is told of, without the order in which it is found out.
-use Rattle.std.specs.Prelude.{ℕ, ◌≡◌, ◌≢◌, ◌<◌, ◌^◌, List, ◌∷◌, ◌++◌, Option, Some, None, Contains, if◌then◌else◌, option_and_then, bytes_eq}
+use Rattle.std.specs.Prelude.{ℕ, ◌≡◌, ◌≢◌, ◌<◌, ◌^◌, List, ◌∷◌, ◌++◌, length, get_or, take, Option, Some, None, Result, Ok, Err, Contains, if◌then◌else◌, option_and_then, bytes_eq}
 use Rattle.std.specs.Cmp.Lexicographic.{slice_cmp}
 use Rattle.std.specs.Fmt.{decimal}
 use Rattle.std.specs.Option.{option_or}
@@ -53,3 +53,14 @@ pub record IsCoinText (text : List ℕ) (c : OutPoint) : Type 0 where
   pub hash : hash_in front ≡ Some c.txid
   pub index : c.index < 2 ^ 32
   pub whole : text ≡ front ++ 58 ∷ decimal c.index
+
+-- each of these was read of the entry at its place, behind those before it
+abbrev pub AreRead : {A E : Type 0} → (List A → Data → Result A E) → List Data → List A → Type 0
+AreRead {A} reading ds xs = (k : ℕ) (d : Data) (x : A) → k < length xs → reading (take k xs) (get_or ds k d) ≡ Ok (get_or xs k x)
+
+-- the entry at the place behind these is refused, and these were read of the entries before it
+pub record IsFirstRefused {A E : Type 0} (reading : List A → Data → Result A E) (ds : List Data) (fault : E) : Type 0 where
+  pub before : List A
+  pub within : length before < length ds
+  pub each : AreRead reading ds before
+  pub here : (d : Data) → reading before (get_or ds (length before) d) ≡ Err fault

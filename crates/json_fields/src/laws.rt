@@ -1,15 +1,16 @@
 //! What the definitions of reading come to, in words that don't follow the reading.
 
-ghost use Rattle.std.specs.Prelude.{◌≡◌, ◌≢◌, ◌≤◌, ◌*◌, ℕ, List, reverse, length, option_and_then};
+ghost use Rattle.std.specs.Prelude.{◌≡◌, ◌≢◌, ◌≤◌, ◌*◌, ℕ, List, [], reverse, length, Result, Ok, Err, option_and_then};
 ghost use Rattle.std.specs.List.{AllPass};
 ghost use Rattle.hex.specs.Hex.{encode_lower, encode_upper, is_hex_digit};
 ghost use Rattle.json.specs.Json as json;
 ghost use Rattle.serde_json.specs.Data.{Data, object, number, unsigned, Members};
+ghost use Rattle.serde_json.specs.View.{items_of};
 ghost use Rattle.serde_json.specs.Find.{get};
 ghost use Rattle.serde_json.specs.Read.{of_json};
 ghost use Rattle.fund_base.specs.declared.outpoint.OutPoint.{OutPoint};
-ghost use Rattle.json_fields.specs.Fields.{parsed, object_at, number_at, hash_in, coin_in, IsHash};
-ghost use Rattle.json_fields.specs.Rules.{HasMembers, AreKnown, HasAll, IsLeastUnknown, IsFirstMissing, IsCoinText, text_of, last_value};
+ghost use Rattle.json_fields.specs.Fields.{parsed, object_at, number_at, hash_in, coin_in, each_from, IsHash};
+ghost use Rattle.json_fields.specs.Rules.{HasMembers, AreKnown, HasAll, IsLeastUnknown, IsFirstMissing, IsCoinText, AreRead, IsFirstRefused, text_of, last_value};
 ghost use Rattle.json_fields.specs.declared.fault.FieldFault.{FieldFault};
 ghost use Rattle.json_fields.specs.declared.fault.FieldFault.TheVariants.{Kind, Member, Missing};
 
@@ -49,4 +50,14 @@ pub fn reads_hashes()
 pub fn reads_coins()
     ensures found { (text : List ℕ) (coin : OutPoint) → coin_in text ≡ Some coin → IsCoinText text coin }
     ensures only { (text : List ℕ) (coin : OutPoint) → IsCoinText text coin → coin_in text ≡ Some coin }
+{}
+
+/// The law of lists: entries are read as a list exactly where it has an item for each of them, and each item is what its
+/// own entry is read as, behind the items before it. A fault is told exactly where it is that of the first entry that is
+/// refused.
+pub fn reads_lists<A, E>()
+    ensures found { (reading : List A → Data → Result A E) (ds : List Data) (xs : List A) → each_from reading [] (items_of ds) ≡ Ok xs → (length xs ≡ length ds) × AreRead reading ds xs }
+    ensures only { (reading : List A → Data → Result A E) (ds : List Data) (xs : List A) → length xs ≡ length ds → AreRead reading ds xs → each_from reading [] (items_of ds) ≡ Ok xs }
+    ensures fault { (reading : List A → Data → Result A E) (ds : List Data) (fault : E) → each_from reading [] (items_of ds) ≡ Err fault → IsFirstRefused reading ds fault }
+    ensures refused { (reading : List A → Data → Result A E) (ds : List Data) (fault : E) → IsFirstRefused reading ds fault → each_from reading [] (items_of ds) ≡ Err fault }
 {}
