@@ -1,15 +1,13 @@
 -- No coins stand beside a bump.
-use Rattle.std.proofs.Common.{◌≡◌, ℕ, Bool, true, false, cond, List, [], ◌∷◌, length, filter, not, bytes_eq, codes, is_some, Option, Some, None, Result, Ok, Err, nat_cmp, refl, sym, ap, ◌∙◌, true≢false, Ordering, Less, Equal, Greater, is_eq}
+use Rattle.std.proofs.Common.{◌≡◌, ℕ, Bool, true, false, cond, List, [], ◌∷◌, length, not, codes, is_some, Option, Some, None, Ok, Err, nat_cmp, refl, sym, ap, ◌∙◌, Ordering, Less, Equal, Greater, is_eq}
 use Rattle.std.proofs.lemmas.Map.Text.{is_eq-slice_cmp}
 use Rattle.std.proofs.lemmas.Slice.Eq.{bytes_eq-Decides}
-use Rattle.std.specs.Bool.{⊤}
 use Rattle.std.specs.Cmp.Lexicographic.{slice_cmp}
 use Rattle.std.specs.Ordering.{match_ordering}
-use Rattle.fund_base.specs.Parsing.{◌>>=◌}
 use Rattle.fund_base.specs.declared.outpoint.OutPoint.{OutPoint}
 use Rattle.serde_json.specs.Data.{Data, null, boolean, number, string, array, object, Members, no_members, member}
 use Rattle.serde_json.specs.Find.{get, get_member}
-use Rattle.json_fields.specs.Fields.{names_of, is_among, unknown_in, least, refuse, object_at, optional}
+use Rattle.json_fields.specs.Fields.{is_among, unknown_in, least, object_at, optional}
 use Rattle.json_fields.specs.declared.fault.FieldFault.TheVariants.{Member}
 use Rattle.request_text.specs.RequestText.{coins_at, known_in, names_but_coins, or_else, required_in}
 

@@ -1,5 +1,5 @@
 -- Which word names which method.
-use Rattle.std.proofs.Common.{◌≡◌, ℕ, Bool, true, false, cond, List, bytes_eq, codes, Option, Some, None, refl, sym, ap, ◌∙◌}
+use Rattle.std.proofs.Common.{◌≡◌, ℕ, Bool, true, false, cond, List, bytes_eq, codes, Option, Some, None, refl, ap, ◌∙◌}
 use Rattle.std.proofs.lemmas.Slice.Eq.{bytes_eq-Decides}
 use Rattle.request_text.specs.RequestText.{method_in}
 use Rattle.request_text.specs.Rules.{word_of}

@@ -1,12 +1,10 @@
 -- A method that draws comes with a seed.
-use Rattle.std.proofs.Common.{◌≡◌, ℕ, Bool, true, false, cond, List, [], ◌∷◌, codes, is_none, is_some, Option, Some, None, Result, Ok, Err, option_and_then, refl, sym, ap, ◌∙◌}
-use Rattle.std.specs.Bool.{⊤}
+use Rattle.std.proofs.Common.{◌≡◌, ℕ, Bool, true, false, cond, List, [], ◌∷◌, codes, is_none, is_some, Option, Some, None, Ok, option_and_then, refl, ap, ◌∙◌}
 use Rattle.std.specs.Option.{ok_or, option_map_or}
 use Rattle.fund_base.specs.Parsing.{◌>>=◌}
 use Rattle.serde_json.specs.Data.{Data, Members}
 use Rattle.serde_json.specs.Find.{as_object, as_str, get}
 use Rattle.json_fields.specs.Fields.{first_missing, least, object_at, optional, parsed, refuse, unknown_in, value_of}
-use Rattle.json_fields.specs.declared.fault.FieldFault.{FieldFault}
 use Rattle.json_fields.specs.declared.fault.FieldFault.TheVariants.{Kind, Member, Missing}
 use Rattle.request_text.specs.PlainRequest.{draws}
 use Rattle.request_text.specs.RequestText.{field, known_in, method_at, method_in, needs_seed, or_else, required_in}

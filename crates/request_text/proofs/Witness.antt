@@ -1,5 +1,5 @@
 -- The length of a witness program's script.
-use Rattle.std.proofs.Common.{◌≡◌, ◌≤◌, ◌+◌, ℕ, Bool, true, List, length, arith, IsTrue}
+use Rattle.std.proofs.Common.{◌≤◌, ℕ, List, length, arith, IsTrue}
 use Rattle.std.proofs.lemmas.Bool.Decides.{nat_tests}
 use Rattle.segwit_addr.specs.Address.{is_witness}
 

@@ -1,5 +1,5 @@
 -- A request as plain data, and the rules that each request keeps.
-use Rattle.std.specs.Prelude.{ℕ, ◌≡◌, ◌≢◌, ◌<◌, ◌≤◌, ◌^◌, Bool, true, false, List, [], length, sum_by, All, AllPairs, Option, IsSome, IfSome}
+use Rattle.std.specs.Prelude.{ℕ, ◌≡◌, ◌≢◌, ◌<◌, ◌≤◌, ◌^◌, Bool, true, false, List, length, sum_by, All, AllPairs, Option, IsSome, IfSome}
 use Rattle.fund_base.specs.Cursor.{IsBytes}
 use Rattle.fund_base.specs.declared.outpoint.OutPoint.{OutPoint}
 use Rattle.fee_rates.specs.Output.{dust_of}

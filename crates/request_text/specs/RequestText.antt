@@ -1,10 +1,10 @@
 -- The request file: the request that a JSON value is, or the first fault.
-use Rattle.std.specs.Prelude.{ℕ, ◌≡◌, ◌==◌, nat_le, nat_lt, min, Bool, true, false, not, ◌||◌, List, [], ◌∷◌, ◌++◌, length, bytes_eq, codes, sum_by, replicate, if◌then◌else◌, Option, Some, None, Result, Ok, Err, is_some, option_and_then, ⊤}
+use Rattle.std.specs.Prelude.{ℕ, ◌==◌, nat_lt, min, Bool, true, false, ◌||◌, List, [], ◌∷◌, ◌++◌, length, bytes_eq, codes, replicate, if◌then◌else◌, Option, Some, None, Result, Ok, Err, is_some, option_and_then, ⊤}
 use Rattle.std.specs.List.{list_any}
 use Rattle.std.specs.Option.{ok_or, option_map_or}
 use Rattle.std.specs.Result.{result_ok}
 use Rattle.hex.specs.Hex.{decode_sized}
-use Rattle.serde_json.specs.Data.{Data, Items}
+use Rattle.serde_json.specs.Data.{Data}
 use Rattle.serde_json.specs.Find.{get, as_str}
 use Rattle.fund_base.specs.Outpoints.{same_outpoint}
 use Rattle.fund_base.specs.Parsing.{◌>>=◌, fault_as}

@@ -1,5 +1,5 @@
 -- Faults with their names as bytes, and what a call on a whole file tells.
-use Rattle.std.specs.Prelude.{ℕ, ◌≡◌, ◌≢◌, List, string_bytes, Result, Ok, Err}
+use Rattle.std.specs.Prelude.{◌≡◌, ◌≢◌, string_bytes, Result, Ok, Err}
 use Rattle.fund_base.specs.Parsing.{YieldsAll}
 use Rattle.segwit_addr.specs.declared.fault.AddrFault.TheVariants.{Memory as AddrMemory}
 use Rattle.json_fields.specs.declared.fault.FieldFault.TheVariants as given

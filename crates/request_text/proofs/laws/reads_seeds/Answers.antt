@@ -1,4 +1,4 @@
-use Rattle.request_text.proofs.SeedLaws.{lower, upper}
+use Rattle.request_text.proofs.SeedLaws.{lower, upper, found, refused}
 use Rattle.request_text.proofs.laws.reads_seeds.Goals as goal
 
 pub returns-clause-lower : goal.returns-clause-lower
@@ -6,3 +6,9 @@ returns-clause-lower c = lower
 
 pub returns-clause-upper : goal.returns-clause-upper
 returns-clause-upper c = upper
+
+pub returns-clause-found : goal.returns-clause-found
+returns-clause-found c = found
+
+pub returns-clause-fault : goal.returns-clause-fault
+returns-clause-fault c = refused
