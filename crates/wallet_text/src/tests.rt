@@ -61,3 +61,53 @@ fn faults(rt: HostRuntime) -> Result<(), Fail> {
     );
     Ok(())
 }
+
+/// A pending transaction, and one that spends an output of it.
+const PARENT: &str =
+    "020000000122af787a04cf9671f116eb8ffbd27efd0a423e104d095b80515a0bed37cec9500000000000ffffffff01a00f000000000000160014aaaaaaaaaaaaaaaaaaaaaaaaaaaaaaaaaaaaaaaa00000000";
+
+const CHILD: &str =
+    "0200000001f9e7fac35325f4cb788b6cf9b4255b7505c7c58605ce9b969a29b709f40253b70000000000ffffffff01b80b000000000000160014aaaaaaaaaaaaaaaaaaaaaaaaaaaaaaaaaaaaaaaa00000000";
+
+// What is wrong with a wallet of these scripts and these two pending transactions.
+fn fault_of(alloc: Global, scripts: &str, first: &str, second: &str) -> Result<String, AllocError> {
+    let text = format!(in alloc;
+        "{{\"height\": 1, \"hash\": \"0000000000000000000000000000000000000000000000000000000000000000\", \"scripts\": [{scripts}], \"change\": {{\"script\": \"6a\", \"weight\": 272}}, \"pending\": [\"{first}\", \"{second}\"]}}"
+    )?;
+    fault(alloc, text.as_str())
+}
+
+#[test]
+fn rules(rt: HostRuntime) -> Result<(), Fail> {
+    let cases = [
+        ("", PARENT, CHILD, ""),
+        ("", CHILD, PARENT, "ParentLater(0)"),
+        ("", PARENT, PARENT, "Repeat(\"pending\", 1)"),
+        ("", PARENT, "00", "Tx(\"pending\", 1, Truncated(0))"),
+        (
+            "{\"script\": \"\", \"weight\": 164}",
+            PARENT,
+            "00",
+            "Script(0)",
+        ),
+        (
+            "{\"script\": \"51\", \"weight\": 165}, {\"script\": \"51\", \"weight\": 164}",
+            PARENT,
+            "00",
+            "Script(1)",
+        ),
+        (
+            "{\"script\": \"51\", \"weight\": 164}",
+            PARENT,
+            "00",
+            "Weight(0)",
+        ),
+    ];
+    for (scripts, first, second, expected) in cases {
+        assert_eq!(rt;
+            fault_of(rt.alloc(), scripts, first, second)?.as_str(),
+            expected
+        );
+    }
+    Ok(())
+}
