@@ -1,6 +1,6 @@
 -- What the rules of entries and of whole lists come to.
 use Rattle.std.proofs.Common.{◌≡◌, ◌≢◌, ℕ, zero, suc, ◌+◌, ◌<◌, ◌≤◌, Bool, true, false, cond, ◌&&◌, ◌||◌, not, List, [], ◌∷◌, ◌++◌, length, get_or, nat_lt, nat_le, ◌⊎◌, inl, inr, Option, Some, None, Result, Ok, Err, Contains, refl, sym, ap, subst, ◌∙◌, true≢false, arith, append_assoc}
-use Rattle.std.proofs.lemmas.Bool.{leb-false, ltb-true, ltb-false, lt-ltb}
+use Rattle.std.proofs.lemmas.Bool.{leb-true, leb-false, ltb-true, ltb-false, lt-ltb}
 use Rattle.std.proofs.lemmas.List.Quantifiers.{all_pairs_push}
 use Rattle.std.proofs.lemmas.List.{get_or_default}
 use Rattle.std.specs.Bool.{⊤}
@@ -83,6 +83,28 @@ weight_fault listed index told w e =
     by : (nat_lt w.weight 165 ≡ true) ⊎ (nat_lt 400000 w.weight ≡ true) → (w.weight < 165) ⊎ (400_000 < w.weight)
     by (inl low) = inl (ltb-true w.weight 165 low)
     by (inr high) = inr (ltb-true 400000 w.weight high)
+
+-- the other direction: what comes of each entry that breaks a rule
+past_false : (a b : ℕ) → b < a → nat_le a b ≡ false
+past_false a b lt = by (nat_le a b) refl
+  where
+    by : (t : Bool) → nat_le a b ≡ t → t ≡ false
+    by true e = let le = leb-true a b e in absurd (omega arith)
+    by false e = refl
+
+pub script_told : (listed : Bool) (index : ℕ) (w : Watch) → (listed ≡ true) ⊎ ((length w.script ≡ 0) ⊎ (10_000 < length w.script)) → judged listed index w ≡ Err (Script (told_index index))
+unfolding judged
+script_told true index w why = refl
+script_told false index w (inl e) = absurd (true≢false (sym e))
+script_told false index w (inr (inl none)) = rw (below_false 0 (length w.script) (omega arith)) refl
+script_told false index w (inr (inr long)) = rw (lt-ltb 0 (length w.script) (omega arith), past_false (length w.script) 10000 long) refl
+
+pub weight_told : (index : ℕ) (w : Watch) → 0 < length w.script → length w.script ≤ 10_000 → (w.weight < 165) ⊎ (400_000 < w.weight) → judged false index w ≡ Err (Weight (told_index index))
+unfolding judged
+weight_told index w some most (inl low) =
+    rw (lt-ltb 0 (length w.script) some, within_true (length w.script) 10000 most, lt-ltb w.weight 165 low) refl
+weight_told index w some most (inr high) =
+    rw (lt-ltb 0 (length w.script) some, within_true (length w.script) 10000 most, below_false w.weight 165 (omega arith), lt-ltb 400000 w.weight high) refl
 
 -- ---- lists
 

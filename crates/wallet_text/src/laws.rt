@@ -1,6 +1,6 @@
 //! What the rules of the wallet file come to, in words that don't follow the reading.
 
-ghost use Rattle.std.specs.Prelude.{◌≡◌, ◌≢◌, ◌<◌, ◌⊎◌, ℕ, List, length, Bool, true, false, codes, AllPairs};
+ghost use Rattle.std.specs.Prelude.{◌≡◌, ◌≢◌, ◌≤◌, ◌<◌, ◌⊎◌, ℕ, List, length, Bool, true, false, codes, AllPairs};
 ghost use Rattle.tx_codec.specs.Transaction.{Transaction};
 ghost use Rattle.tx_codec.specs.Txid.{txid_of};
 ghost use Rattle.wallet_text.specs.WalletRules.{IsWatch, AreDistinct, ParentsComeFirst, IsFirstRepeat, IsFirstLater};
@@ -15,6 +15,8 @@ pub fn judges_entries()
     ensures taken { (index : ℕ) (w : Watch) → IsWatch w → judged false index w ≡ Ok w }
     ensures script { (listed : Bool) (index told : ℕ) (w : Watch) → judged listed index w ≡ Err (Script told) → (told ≡ told_index index) × ((listed ≡ true) ⊎ ((length w.script ≡ 0) ⊎ (10_000 < length w.script))) }
     ensures weight { (listed : Bool) (index told : ℕ) (w : Watch) → judged listed index w ≡ Err (Weight told) → (told ≡ told_index index) × ((w.weight < 165) ⊎ (400_000 < w.weight)) }
+    ensures first { (listed : Bool) (index : ℕ) (w : Watch) → (listed ≡ true) ⊎ ((length w.script ≡ 0) ⊎ (10_000 < length w.script)) → judged listed index w ≡ Err (Script (told_index index)) }
+    ensures second { (index : ℕ) (w : Watch) → 0 < length w.script → length w.script ≤ 10_000 → (w.weight < 165) ⊎ (400_000 < w.weight) → judged false index w ≡ Err (Weight (told_index index)) }
 {}
 
 /// The law of the rules over whole lists: all are kept, or it is the first txid that stands twice in `earlier`, or in
