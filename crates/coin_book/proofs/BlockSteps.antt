@@ -1,29 +1,24 @@
 -- One block more.
-use Rattle.std.proofs.Common.{◌≡◌, ◌≢◌, ◌∙◌, ℕ, ◌+◌, ◌<◌, ◌≤◌, Bool, true, false, cond, ◌||◌, ◌&&◌, not, List, [], ◌∷◌, ◌++◌, length, map, filter, Option, Some, None, All, Vec, Global, refl, sym, ap, subst, arith, append_assoc, true≢false}
-use Rattle.std.specs.Prelude.{bytes_eq, is_none, is_some, nat_le, nat_lt}
-use Rattle.std.specs.List.{AllByRecursion, IsDistinct, flat_map, list_any}
+use Rattle.std.proofs.Common.{◌≡◌, ◌∙◌, ℕ, ◌+◌, true, false, cond, List, [], ◌∷◌, ◌++◌, length, map, filter, Option, Some, None, Vec, Global, sym, ap, subst, arith, append_assoc}
+use Rattle.std.specs.Prelude.{bytes_eq, is_some, nat_le, nat_lt}
+use Rattle.std.specs.List.{IsDistinct, flat_map}
 use Rattle.std.specs.Map.{keys_of, lookup}
 use Rattle.std.specs.Option.{option_or}
-use Rattle.std.proofs.lemmas.Bool.{le-ltb, leb-false, leb-true, lt-ltb, ltb-false, ltb-true}
+use Rattle.std.proofs.lemmas.Bool.{leb-false, leb-true}
 use Rattle.std.proofs.lemmas.Grind.{flat_map-append}
-use Rattle.std.proofs.lemmas.List.{append-nil, length-append, length-map, map-append}
-use Rattle.std.proofs.lemmas.List.Folds.{list_any-append}
-use Rattle.std.proofs.lemmas.Map.Keys.{IsDistinct-head, IsDistinct-tail}
-use Rattle.std.proofs.lemmas.Map.Made.{is_some-lookup}
-use Rattle.std.proofs.lemmas.Slice.Eq.{bytes_eq-Decides}
+use Rattle.std.proofs.lemmas.List.{append-nil, length-append, length-map}
 use Rattle.indexmap.specs.IndexMap.{insert_all}
 use Rattle.fund_base.specs.Outpoints.{same_outpoint}
 use Rattle.fund_base.specs.declared.outpoint.OutPoint.{OutPoint}
 use Rattle.tx_codec.specs.Transaction.{Transaction}
-use Rattle.tx_codec.specs.Txid.{txid_of}
 use Rattle.block_feed.specs.Block.{ChainBlock}
 use Rattle.wallet_text.specs.PlainWallet.{PlainWallet}
 use Rattle.std.specs.declared.snapshot.Snapshot.{Snapshot}
-use Rattle.coin_book.specs.Coins.{Made, coin_at, coins_below, confirmed_made, is_open, made_by, made_in, pending_made, weight_for}
+use Rattle.coin_book.specs.Coins.{Made, confirmed_made, made_by, pending_made, weight_for}
 use Rattle.coin_book.specs.Faults.{fault_behind, fault_of, full_at, points}
 use Rattle.coin_book.specs.History.{Confirmed, History, confirmed_at, confirmed_before, confirmed_in, with_block}
 use Rattle.coin_book.specs.Kept.{HoldsChain, HoldsCoins, IsKept, history_of, points_in, weigher}
-use Rattle.coin_book.specs.Spends.{height_of, spends_below, spends_of}
+use Rattle.coin_book.specs.Spends.{height_of, spends_below}
 use Rattle.coin_book.specs.Steps.{all_in, shares, spends_in, staying, stays}
 use Rattle.coin_book.specs.declared.coin.Spend.{Spend}
 use Rattle.coin_book.specs.declared.fault.BookFault.{BookFault}

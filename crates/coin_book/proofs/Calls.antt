@@ -1,14 +1,11 @@
 -- What a book comes to after a list of calls.
-use Rattle.std.proofs.Common.{◌≡◌, ◌∙◌, List, [], ◌∷◌, ◌++◌, map, refl, sym, ap, append_assoc}
+use Rattle.std.proofs.Common.{◌≡◌, ◌∙◌, List, [], ◌∷◌, ◌++◌, sym, append_assoc}
 use Rattle.std.proofs.lemmas.List.{append-nil}
-use Rattle.std.proofs.lemmas.Grind.{flat_map-append}
 use Rattle.std.specs.List.{flat_map}
-use Rattle.tx_codec.specs.Transaction.{Transaction}
-use Rattle.block_feed.specs.Block.{ChainBlock}
 use Rattle.wallet_text.specs.PlainWallet.{PlainWallet}
 use Rattle.coin_book.specs.Events.{ComesTo, Event, after, blocks_in, pending_in}
 use Rattle.coin_book.specs.Events.Event.{adds_block, adds_pending}
-use Rattle.coin_book.specs.History.{Confirmed, History, confirmed_in, start_of, with_block, with_pending}
+use Rattle.coin_book.specs.History.{History, confirmed_in, start_of, with_block, with_pending}
 
 -- behind any history
 behind : (h : History) (events : List Event) → after h events ≡ record {

@@ -1,7 +1,7 @@
 -- One confirmed transaction more.
 use Rattle.std.proofs.Common.{◌≡◌, ◌∙◌, ℕ, zero, suc, ◌+◌, ◌<◌, ◌≤◌, Bool, true, false, cond, ◌||◌, ◌&&◌, not, List, [], ◌∷◌, ◌++◌, length, map, take, drop, get_or, Option, Some, None, refl, sym, ap, subst, arith, append_assoc, true≢false}
 use Rattle.std.specs.Prelude.{is_some, option_map, option_and_then, find, bytes_eq, slice_get}
-use Rattle.std.specs.List.{flat_map, list_any}
+use Rattle.std.specs.List.{flat_map}
 use Rattle.std.specs.Map.{keys_of, lookup}
 use Rattle.std.specs.Option.{option_or, option_to_list}
 use Rattle.std.proofs.lemmas.List.{append-nil, length-append, length-map, length-take-le, map-append, take-append-drop, take_more}
@@ -14,7 +14,7 @@ use Rattle.coin_book.specs.Coins.{Made, made_by}
 use Rattle.coin_book.specs.Faults.{points, fault_behind}
 use Rattle.coin_book.specs.History.{Confirmed}
 use Rattle.coin_book.specs.Kept.{HoldsChain, HoldsCoins, held_made, is_known, made_at, points_in}
-use Rattle.coin_book.specs.Spends.{has_input, height_of, spend_at, spend_by, spends_below, spends_of}
+use Rattle.coin_book.specs.Spends.{has_input, height_of, spend_at, spends_below, spends_of}
 use Rattle.coin_book.specs.Steps.{entry_of, held_point, spends_in}
 use Rattle.coin_book.specs.declared.coin.Spend.{Spend}
 use Rattle.coin_book.specs.declared.fault.BookFault.{BookFault}

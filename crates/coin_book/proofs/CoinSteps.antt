@@ -1,13 +1,13 @@
 -- The coins of a transaction, one by one.
-use Rattle.std.proofs.Common.{◌≡◌, ◌∙◌, ℕ, zero, suc, ◌+◌, List, [], ◌∷◌, ◌++◌, map, Option, Some, None, refl, sym, ap, add-one, cond, Bool, true, false, slice_get}
+use Rattle.std.proofs.Common.{◌≡◌, ◌∙◌, ℕ, zero, suc, ◌+◌, List, ◌++◌, map, Option, Some, None, refl, sym, ap, add-one, cond, Bool, true, false, slice_get}
 use Rattle.std.specs.Prelude.{option_map, option_and_then, nat_le}
 use Rattle.std.specs.Option.{option_to_list}
-use Rattle.std.proofs.lemmas.List.{append-nil, map-append}
+use Rattle.std.proofs.lemmas.List.{map-append}
 use Rattle.tx_codec.specs.Transaction.{Transaction}
 use Rattle.tx_codec.specs.Txid.{txid_of}
 use Rattle.coin_book.specs.Coinbase.{is_coinbase_of}
 use Rattle.tx_codec.specs.declared.tx.TxOut.{TxOut}
-use Rattle.coin_book.specs.Coins.{Made, coin_at, coin_of, coins_below, made_in}
+use Rattle.coin_book.specs.Coins.{Made, coin_at, coin_of, coins_below}
 use Rattle.coin_book.specs.Kept.{coin_made}
 use Rattle.coin_book.specs.declared.coin.Coin.{Coin}
 

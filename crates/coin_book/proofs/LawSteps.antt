@@ -1,14 +1,13 @@
 -- The first fault of a history, and more behind it.
-use Rattle.std.proofs.Common.{◌≡◌, ◌∙◌, ℕ, ◌+◌, ◌<◌, ◌≤◌, List, [], ◌∷◌, ◌++◌, length, map, filter, Option, Some, None, refl, sym, ap, arith}
+use Rattle.std.proofs.Common.{◌≡◌, ◌∙◌, ◌+◌, ◌≤◌, List, [], ◌∷◌, length, filter, Option, Some, None, refl, sym, ap, arith}
 use Rattle.std.specs.List.{flat_map}
-use Rattle.std.specs.Option.{option_or}
 use Rattle.std.proofs.lemmas.Grind.{flat_map-append}
 use Rattle.std.proofs.lemmas.List.{length-append, length-map}
 use Rattle.std.proofs.lemmas.List.Elements.{filter-append}
 use Rattle.tx_codec.specs.Transaction.{Transaction}
 use Rattle.block_feed.specs.Block.{ChainBlock}
-use Rattle.coin_book.specs.Coins.{Made, confirmed_made, is_open, made_in, made_of, pending_made, weight_for}
-use Rattle.coin_book.specs.Faults.{fault_behind, fault_of, full_at, points}
+use Rattle.coin_book.specs.Coins.{Made, confirmed_made, is_open, made_in, pending_made, weight_for}
+use Rattle.coin_book.specs.Faults.{fault_behind, fault_of, points}
 use Rattle.coin_book.specs.History.{History, confirmed_in, with_block, with_pending}
 use Rattle.coin_book.specs.Kept.{points_in}
 use Rattle.coin_book.specs.declared.fault.BookFault.{BookFault}

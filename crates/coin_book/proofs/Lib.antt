@@ -13,3 +13,5 @@ pub mod ListSteps
 pub mod StaySteps
 pub mod BlockSteps
 pub mod LawSteps
+pub mod RepeatSteps
+pub mod SpendSteps

@@ -1,11 +1,10 @@
 -- One transaction more that waits.
-use Rattle.std.proofs.Common.{◌≡◌, ◌≢◌, ◌∙◌, ℕ, ◌+◌, ◌<◌, ◌≤◌, Bool, true, false, cond, ◌||◌, List, [], ◌∷◌, ◌++◌, length, map, filter, Option, Some, None, All, Vec, Global, refl, sym, ap, subst, arith, true≢false}
+use Rattle.std.proofs.Common.{◌≡◌, ◌≢◌, ◌∙◌, ℕ, ◌+◌, ◌<◌, ◌≤◌, Bool, true, false, cond, ◌||◌, List, [], ◌∷◌, ◌++◌, length, map, filter, Option, Some, None, All, Vec, Global, refl, sym, ap, subst, arith}
 use Rattle.std.specs.Prelude.{bytes_eq, is_none, is_some, nat_le, nat_lt}
 use Rattle.std.specs.declared.snapshot.Snapshot.{Snapshot}
 use Rattle.std.specs.List.{flat_map, list_any}
 use Rattle.std.specs.Map.{keys_of, lookup}
-use Rattle.std.specs.Option.{option_or}
-use Rattle.std.proofs.lemmas.Bool.{leb-false, leb-true, ltb-false, ltb-true}
+use Rattle.std.proofs.lemmas.Bool.{leb-false, leb-true, ltb-true}
 use Rattle.std.proofs.lemmas.Grind.{flat_map-append}
 use Rattle.std.proofs.lemmas.List.{append-nil, length-append, length-map, map-append}
 use Rattle.std.proofs.lemmas.List.Elements.{All-head, All-tail, filter-append}
@@ -25,7 +24,7 @@ use Rattle.coin_book.specs.declared.fault.BookFault.{BookFault}
 use Rattle.coin_book.specs.declared.fault.BookFault.TheVariants.{Full}
 use Rattle.coin_book.specs.declared.held.Held.{Held}
 use Rattle.coin_book.specs.declared.ledger.Ledger.{Ledger}
-use Rattle.coin_book.proofs.FaultSteps.{fault_rest, few, held_count, no_room_for, room_for, room_is, sound_confirmed, sound_count}
+use Rattle.coin_book.proofs.FaultSteps.{fault_rest, held_count, no_room_for, room_for, sound_confirmed, sound_count}
 use Rattle.coin_book.proofs.MapSteps.{key_count}
 use Rattle.coin_book.proofs.MergeSteps.{coins_behind}
 use Rattle.coin_book.proofs.WaitSteps.{free_of, own_fault, place_of}

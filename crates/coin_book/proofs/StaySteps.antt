@@ -1,12 +1,10 @@
 -- Coins that wait on, and those that move to a block.
-use Rattle.std.proofs.Common.{◌≡◌, ◌∙◌, ℕ, zero, suc, ◌+◌, ◌<◌, ◌≤◌, Bool, true, false, cond, ◌||◌, List, [], ◌∷◌, ◌++◌, length, map, filter, Option, Some, None, refl, sym, ap, subst, arith, slice_get, true≢false}
+use Rattle.std.proofs.Common.{◌≡◌, ◌∙◌, ℕ, zero, suc, ◌≤◌, Bool, true, false, cond, ◌||◌, List, [], ◌∷◌, ◌++◌, length, map, filter, Option, Some, None, refl, sym, ap, subst, arith, slice_get, true≢false}
 use Rattle.std.specs.Prelude.{bytes_eq, is_none, is_some, nat_le, nat_lt, option_and_then, option_map}
 use Rattle.std.specs.List.{flat_map, list_any}
 use Rattle.std.specs.Map.{keys_of, lookup}
 use Rattle.std.specs.Option.{option_or, option_to_list}
 use Rattle.std.proofs.lemmas.Bool.{ltb-false}
-use Rattle.std.proofs.lemmas.Grind.{flat_map-append}
-use Rattle.std.proofs.lemmas.List.{append-nil, length-map}
 use Rattle.std.proofs.lemmas.List.Elements.{filter-append}
 use Rattle.std.proofs.lemmas.Map.Made.{is_some-lookup}
 use Rattle.std.proofs.lemmas.Slice.Eq.{bytes_eq-Decides}
@@ -18,7 +16,7 @@ use Rattle.block_feed.specs.Block.{ChainBlock}
 use Rattle.coin_book.specs.Coinbase.{is_coinbase_of}
 use Rattle.coin_book.specs.Coins.{Made, coin_at, coin_of, coins_below, is_open, made_in, pending_made, weight_for}
 use Rattle.coin_book.specs.Faults.{points}
-use Rattle.coin_book.specs.History.{Confirmed, History, confirmed_in, with_block}
+use Rattle.coin_book.specs.History.{History, confirmed_in, with_block}
 use Rattle.coin_book.specs.Kept.{HoldsChain, HoldsCoins, made_at}
 use Rattle.coin_book.specs.Spends.{height_of}
 use Rattle.coin_book.specs.Steps.{shares, staying, stays}

@@ -1,5 +1,5 @@
 -- How a book holds a history.
-use Rattle.std.specs.Prelude.{ℕ, ◌≡◌, ◌||◌, Bool, true, is_some, List, [], ◌++◌, length, map, flat_map, bytes_eq, Option, Some, None, Vec, if◌then◌else◌}
+use Rattle.std.specs.Prelude.{ℕ, ◌≡◌, ◌||◌, Bool, true, is_some, List, [], ◌++◌, length, map, flat_map, bytes_eq, Option, None, Vec, if◌then◌else◌}
 use Rattle.std.specs.declared.alloc.Global.{Global}
 use Rattle.std.specs.declared.snapshot.Snapshot.{Snapshot}
 use Rattle.std.specs.Map.{keys_of, lookup}

@@ -1,6 +1,6 @@
 -- The confirmed transactions: at which height each stands, and what they spend.
-use Rattle.std.specs.Prelude.{ℕ, zero, suc, ◌&&◌, ◌==◌, not, List, [], ◌++◌, length, bytes_eq, take, find, slice_get, is_some, Bool, Option, Some, None, option_map, option_and_then, if◌then◌else◌}
-use Rattle.std.specs.List.{list_any}
+use Rattle.std.specs.Prelude.{ℕ, zero, suc, ◌≡◌, ◌≢◌, All, ◌&&◌, not, List, [], ◌++◌, length, bytes_eq, take, find, slice_get, is_some, Bool, Option, Some, None, option_map, option_and_then, if◌then◌else◌}
+use Rattle.std.specs.List.{Any, list_any}
 use Rattle.std.specs.Option.{option_to_list}
 use Rattle.fund_base.specs.Outpoints.{same_outpoint}
 use Rattle.fund_base.specs.declared.outpoint.OutPoint.{OutPoint}
@@ -34,3 +34,13 @@ spends_below chain o (suc n) = spends_below chain o n ++ option_to_list (spend_a
 -- The confirmed transactions that spend the outpoint, in chain order: of those that have one txid the first alone.
 abbrev pub spends_of : List Confirmed → OutPoint → List Spend
 spends_of chain o = spends_below chain o (length chain)
+
+-- The chain holds a transaction at the place of s that has its txid and height and spends the outpoint by some input, and
+-- none of its txid stands before it.
+pub record IsSpendOf (chain : List Confirmed) (o : OutPoint) (s : Spend) : Type 0 where
+  pub by : Confirmed
+  pub stands : slice_get chain s.place ≡ Some by
+  pub txid_is : s.txid ≡ txid_of by.tx
+  pub height_is : s.height ≡ by.height
+  pub spends : Any (λ (i : TxIn). i.prev ≡ o) by.tx.inputs
+  pub first : All (λ (c : Confirmed). txid_of c.tx ≢ s.txid) (take s.place chain)

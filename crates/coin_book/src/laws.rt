@@ -1,12 +1,17 @@
 //! Laws of the history that a book is made from.
 
-ghost use Rattle.std.specs.Prelude.{◌≡◌, [], List, Some};
+ghost use Rattle.std.specs.Prelude.{◌≡◌, ◌≢◌, ◌<◌, ◌≤◌, ◌↔◌, [], List, Contains, Some, None, length};
+ghost use Rattle.std.specs.List.{AllPairs};
+ghost use Rattle.fund_base.specs.declared.outpoint.OutPoint.{OutPoint};
 ghost use Rattle.tx_codec.specs.Transaction.{Transaction};
 ghost use Rattle.block_feed.specs.Block.{ChainBlock};
 ghost use Rattle.wallet_text.specs.PlainWallet.{PlainWallet};
 ghost use Rattle.coin_book.specs.Events.{ComesTo, Event};
-ghost use Rattle.coin_book.specs.Faults.{fault_of};
-ghost use Rattle.coin_book.specs.History.{History, with_block, with_pending};
+ghost use Rattle.coin_book.specs.Coins.{coins_of, confirmed_made};
+ghost use Rattle.coin_book.specs.Faults.{fault_of, points};
+ghost use Rattle.coin_book.specs.History.{Confirmed, History, with_block, with_pending};
+ghost use Rattle.coin_book.specs.Spends.{IsSpendOf, spends_of};
+ghost use Rattle.coin_book.specs.declared.coin.Spend.{Spend};
 ghost use Rattle.coin_book.specs.declared.fault.BookFault.{BookFault};
 
 /// After any calls of [`Book::add_block`](crate::Book::add_block) and [`Book::add_pending`](crate::Book::add_pending)
@@ -22,4 +27,17 @@ pub fn order_of_calls()
 pub fn first_fault_stays()
     ensures blocks { (h : History) (b : ChainBlock) (e : BookFault) → h.pending ≡ [] → fault_of h ≡ Some e → fault_of (with_block h b) ≡ Some e }
     ensures waiting { (h : History) (t : Transaction) (e : BookFault) → fault_of h ≡ Some e → fault_of (with_pending h t) ≡ Some e }
+{}
+
+/// A history has no fault exactly where no outpoint is a confirmed coin twice and there are at most 100,000 coins. So
+/// this is so of each book.
+pub fn no_fault_without_repeats()
+    ensures { (h : History) → (fault_of h ≡ None) ↔ (AllPairs (λ (a b : OutPoint). a ≢ b) (points (confirmed_made h)) × (length (coins_of h) ≤ 100_000)) }
+{}
+
+/// What a book tells of the transactions that spend an outpoint: each confirmed transaction with an input that spends it,
+/// unless one of its txid stands before it, and nothing else; by rising places, so each once.
+pub fn spends_by_inputs()
+    ensures told { (chain : List Confirmed) (o : OutPoint) (s : Spend) → Contains (spends_of chain o) s ↔ IsSpendOf chain o s }
+    ensures order { (chain : List Confirmed) (o : OutPoint) → AllPairs (λ (a b : Spend). a.place < b.place) (spends_of chain o) }
 {}

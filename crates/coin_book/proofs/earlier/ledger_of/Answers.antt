@@ -1,4 +1,4 @@
-use Rattle.std.proofs.Common.{◌≡◌, ◌∙◌, ◌++◌, ◌∷◌, [], ◌+◌, sym, ap, subst, refl, None, List, ℕ, map, take, drop, length, arith}
+use Rattle.std.proofs.Common.{◌≡◌, ◌∙◌, ◌++◌, ◌∷◌, [], ◌+◌, sym, ap, subst, refl, None, List, map, take, drop, length, arith}
 use Rattle.coin_book.specs.Faults.{fault_behind}
 use Rattle.coin_book.specs.History.{Confirmed, confirmed_before}
 use Rattle.coin_book.specs.Kept.{HoldsChain, points_in, weigher}

@@ -1,15 +1,12 @@
-use Rattle.std.proofs.Common.{◌≡◌, ◌∙◌, ap, sym, refl, Option, Some, None, cond, Bool, true, false, not, ◌+◌, ◌++◌, ◌∷◌, [], length}
-use Rattle.std.specs.Prelude.{List, nat_lt}
+use Rattle.std.proofs.Common.{◌∙◌, ap, sym, refl, Some, None, cond, Bool, ◌+◌, ◌++◌, ◌∷◌, [], length}
+use Rattle.std.specs.Prelude.{nat_lt}
 use Rattle.std.specs.Map.{keys_of}
 use Rattle.indexmap.proofs.CallerLemmas.{insert_entry-new}
 use Rattle.fund_base.specs.Outpoints.{same_outpoint}
 use Rattle.fund_base.specs.declared.outpoint.OutPoint.{OutPoint}
-use Rattle.coin_book.specs.declared.fault.BookFault.{BookFault}
 use Rattle.coin_book.specs.declared.fault.BookFault.TheVariants.{Full, RepeatCoin}
-use Rattle.coin_book.specs.Faults.{fault_behind}
 use Rattle.coin_book.specs.Steps.{held_point}
-use Rattle.coin_book.specs.declared.held.Held.{Held}
-use Rattle.coin_book.proofs.MapSteps.{absent, fault_two, key_count}
+use Rattle.coin_book.proofs.MapSteps.{absent, fault_two}
 use Rattle.coin_book.proofs.ledger.add_coin.Goals as goal
 
 pub returns-then-stands-clause-exact : goal.returns-then-stands-clause-exact

@@ -1,7 +1,6 @@
-use Rattle.std.proofs.Common.{◌≡◌, ◌∙◌, ap, [], cond, List}
+use Rattle.std.proofs.Common.{◌∙◌, ap, cond, List}
 use Rattle.std.specs.Map.{lookup}
 use Rattle.fund_base.specs.Outpoints.{same_outpoint}
-use Rattle.fund_base.specs.declared.outpoint.OutPoint.{OutPoint}
 use Rattle.coin_book.specs.Steps.{spends_in}
 use Rattle.coin_book.specs.declared.coin.Spend.{Spend}
 use Rattle.coin_book.proofs.MapSteps.{items_of, put}

@@ -1,4 +1,4 @@
-use Rattle.std.proofs.Common.{◌≡◌, ◌∙◌, ap, length, map}
+use Rattle.std.proofs.Common.{◌∙◌, ap, length, map}
 use Rattle.tx_codec.specs.Transaction.{Transaction}
 use Rattle.coin_book.specs.Coins.{made_in}
 use Rattle.coin_book.specs.Kept.{weigher}

@@ -1,7 +1,6 @@
-use Rattle.std.proofs.Common.{◌≡◌, ◌∙◌, ap, sym, Some, take, ◌++◌, [], cond, List}
+use Rattle.std.proofs.Common.{◌∙◌, ap, sym, ◌++◌, [], cond, List}
 use Rattle.fund_base.specs.Outpoints.{same_outpoint}
-use Rattle.fund_base.specs.declared.outpoint.OutPoint.{OutPoint}
-use Rattle.coin_book.specs.Steps.{all_in, spends_in}
+use Rattle.coin_book.specs.Steps.{spends_in}
 use Rattle.coin_book.specs.declared.coin.Spend.{Spend}
 use Rattle.coin_book.proofs.ListSteps.{on_ok, one_list}
 use Rattle.coin_book.proofs.merging.append_entry.Goals as goal

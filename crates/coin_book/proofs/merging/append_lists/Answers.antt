@@ -1,7 +1,6 @@
-use Rattle.std.proofs.Common.{◌≡◌, ◌∙◌, ap, sym, take, ◌++◌, [], List}
+use Rattle.std.proofs.Common.{◌∙◌, sym}
 use Rattle.std.proofs.lemmas.List.{append-nil}
-use Rattle.fund_base.specs.declared.outpoint.OutPoint.{OutPoint}
-use Rattle.coin_book.specs.Steps.{all_in, spends_in}
+use Rattle.coin_book.specs.Steps.{spends_in}
 use Rattle.coin_book.proofs.merging.append_lists.Goals as goal
 
 pub loop-i-init : goal.loop-i-init

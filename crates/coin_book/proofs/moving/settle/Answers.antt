@@ -1,4 +1,4 @@
-use Rattle.std.proofs.Common.{rules, ◌≡◌, ◌∙◌, ap, sym, cond, Bool, true, length, List, arith, ◌<◌}
+use Rattle.std.proofs.Common.{rules, ◌∙◌, ap, sym, cond, Bool, length, arith, ◌<◌}
 use Rattle.std.proofs.lemmas.Bool.{lt-ltb}
 use Rattle.indexmap.proofs.CallerLemmas.{filter-RetainsPairs}
 use Rattle.fund_base.specs.declared.outpoint.OutPoint.{OutPoint}

@@ -1,4 +1,4 @@
-use Rattle.std.proofs.Common.{◌≡◌, ◌∙◌, ◌++◌, ◌∷◌, ◌+◌, [], ℕ, List, Bool, Some, None, true, cond, ap, sym, subst, arith, map, length}
+use Rattle.std.proofs.Common.{◌∙◌, ◌++◌, ◌∷◌, ◌+◌, [], List, Bool, cond, ap, sym, subst, arith, map, length}
 use Rattle.std.specs.Prelude.{nat_le}
 use Rattle.std.specs.declared.snapshot.Snapshot.{Snapshot}
 use Rattle.block_feed.specs.Block.{ChainBlock}

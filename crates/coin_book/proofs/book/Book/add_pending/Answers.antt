@@ -1,14 +1,11 @@
-use Rattle.std.proofs.Common.{◌≡◌, ◌≢◌, ◌∙◌, ◌++◌, ◌∷◌, ◌+◌, [], ℕ, List, Bool, true, cond, ap, refl, sym, subst, arith, All, map, Some, length}
+use Rattle.std.proofs.Common.{◌≢◌, ◌∙◌, ◌++◌, ◌∷◌, ◌+◌, [], Bool, cond, ap, refl, sym, subst, arith, All}
 use Rattle.std.specs.Prelude.{bytes_eq, nat_le}
 use Rattle.indexmap.specs.IndexSet.{insert_key}
-use Rattle.std.specs.declared.snapshot.Snapshot.{Snapshot}
-use Rattle.std.proofs.lemmas.List.{map-append}
 use Rattle.tx_codec.specs.Transaction.{Transaction}
 use Rattle.tx_codec.specs.Txid.{txid_of}
 use Rattle.coin_book.specs.Faults.{fault_of}
 use Rattle.coin_book.specs.History.{History, with_pending}
 use Rattle.coin_book.specs.Kept.{history_of}
-use Rattle.coin_book.specs.declared.fault.BookFault.TheVariants.{Full, Memory}
 use Rattle.coin_book.proofs.MergeSteps.{told_ok}
 use Rattle.coin_book.proofs.PendingSteps.{one_waiting, pending_fault, pending_full, pending_kept, pending_sound}
 use Rattle.coin_book.proofs.book.Book.add_pending.Goals as goal

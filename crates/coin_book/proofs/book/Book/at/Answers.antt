@@ -1,4 +1,4 @@
-use Rattle.std.proofs.Common.{◌≡◌, ◌∙◌, ◌≤◌, ◌-◌, sym, ap, length, arith}
+use Rattle.std.proofs.Common.{◌∙◌, ◌-◌, ap, arith}
 use Rattle.std.specs.Prelude.{slice_get}
 use Rattle.coin_book.specs.Coins.{coins_of}
 use Rattle.coin_book.specs.History.{History}

@@ -1,6 +1,5 @@
-use Rattle.std.proofs.Common.{◌≡◌, ◌∙◌, sym, ap, [], ℕ, List, Option, None}
-use Rattle.std.specs.Option.{option_or}
-use Rattle.coin_book.specs.History.{Confirmed, History}
+use Rattle.std.proofs.Common.{◌∙◌, sym, ap}
+use Rattle.coin_book.specs.History.{History}
 use Rattle.coin_book.specs.Spends.{height_of}
 use Rattle.coin_book.proofs.book.Book.height.Goals as goal
 

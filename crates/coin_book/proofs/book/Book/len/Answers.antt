@@ -1,4 +1,4 @@
-use Rattle.std.proofs.Common.{◌≡◌, ◌∙◌, ap, sym, ◌+◌, length}
+use Rattle.std.proofs.Common.{◌∙◌, ap, sym, ◌+◌, length}
 use Rattle.coin_book.specs.Coins.{coins_of}
 use Rattle.coin_book.specs.Faults.{fault_of}
 use Rattle.coin_book.specs.History.{History}

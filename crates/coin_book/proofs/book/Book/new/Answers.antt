@@ -1,4 +1,4 @@
-use Rattle.std.proofs.Common.{◌≡◌, ◌∙◌, ap, length}
+use Rattle.std.proofs.Common.{◌∙◌, ap, length}
 use Rattle.wallet_text.specs.PlainWallet.{PlainWallet}
 use Rattle.coin_book.proofs.Started.{start_answer, start_kept}
 use Rattle.coin_book.proofs.book.Book.new.Goals as goal

@@ -1,4 +1,4 @@
-use Rattle.std.proofs.Common.{◌≡◌, ◌∙◌, sym, ap, [], ◌++◌, ℕ, List, Option, Some, None, Vec, Global}
+use Rattle.std.proofs.Common.{◌∙◌, sym, ap, [], Option, Vec, Global}
 use Rattle.std.specs.Option.{option_copied, option_map_or}
 use Rattle.coin_book.specs.History.{History}
 use Rattle.coin_book.specs.Spends.{spends_of, spends_below}

@@ -1,7 +1,4 @@
-use Rattle.std.proofs.Common.{◌≡◌, ◌∙◌, ap, sym, refl, [], ◌++◌, length, ℕ, List, Some, map, Option, cond, ◌∷◌}
-use Rattle.fund_base.specs.declared.outpoint.OutPoint.{OutPoint}
-use Rattle.coin_book.specs.Coins.{Made, made_by}
-use Rattle.coin_book.specs.Faults.{points, fault_behind}
+use Rattle.std.proofs.Common.{◌∙◌, ap, sym, [], ◌++◌, List, cond, ◌∷◌}
 use Rattle.coin_book.specs.History.{confirmed_at}
 use Rattle.coin_book.specs.Kept.{is_known, weigher}
 use Rattle.coin_book.specs.Steps.{spends_in}
