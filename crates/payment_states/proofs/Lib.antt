@@ -2,6 +2,7 @@ pub mod BackSteps
 pub mod Below
 pub mod ChoiceSteps
 pub mod ClashSteps
+pub mod ClearSteps
 pub mod CountSteps
 pub mod FactSteps
 pub mod FirstSteps

@@ -1,14 +1,15 @@
 //! What the definitions of states come to.
 
-ghost use Rattle.std.specs.Prelude.{◌≡◌, ◌<◌, ◌↔◌, ◌≢◌, ◌&&◌, not, IsTrue, List, ℕ, length, All, Any, Contains, Some, None};
+ghost use Rattle.std.specs.Prelude.{◌≡◌, ◌<◌, ◌↔◌, ◌≢◌, ◌&&◌, [], true, not, IsTrue, List, ℕ, length, All, Any, Contains, Some, None};
 ghost use Rattle.std.specs.List.{list_all};
 ghost use Rattle.tx_codec.specs.Transaction.{Transaction};
 ghost use Rattle.tx_codec.specs.Txid.{txid_of};
 ghost use Rattle.tx_codec.specs.declared.tx.TxIn.{TxIn};
 ghost use Rattle.wallet_text.specs.WalletRules.{AreDistinct, ParentsComeFirst};
-ghost use Rattle.coin_book.specs.Spends.{height_of};
+ghost use Rattle.coin_book.specs.Spends.{has_input, height_of, spends_of};
+ghost use Rattle.fund_base.specs.declared.outpoint.OutPoint.{OutPoint};
 ghost use Rattle.coin_book.specs.declared.coin.Coin.{Coin};
-ghost use Rattle.payment_states.specs.Candidates.{is_mine, is_safe, pending_graph, replaces};
+ghost use Rattle.payment_states.specs.Candidates.{is_mine, is_pending, is_safe, pending_graph, replaces};
 ghost use Rattle.payment_states.specs.Graph.{IsInOrder, Reaches, steps, within};
 ghost use Rattle.payment_states.specs.Payments.{payments_in, state_at, state_of};
 ghost use Rattle.payment_states.specs.World.{World, graph, tx_at};
@@ -35,4 +36,12 @@ pub fn parents_by_inputs()
 /// payment is replaced by it, and each parent that is Pending is safe.
 pub fn safe_by_parents()
     ensures { (w : World) (coins : List Coin) (i : ℕ) → ParentsComeFirst w.pending → i < length w.pending → is_safe w coins i ≡ ((is_mine coins (tx_at w i) && not (replaces w (txid_of (tx_at w i)))) && list_all (is_safe w coins) (steps (pending_graph w) i)) }
+{}
+
+/// What it comes to that a payment is Pending: no confirmed transaction spends an outpoint that it spends, each of its
+/// parents is Pending too, and no other Pending payment spends an outpoint that it spends.
+pub fn pending_stands_clear()
+    ensures inputs { (w : World) (i : ℕ) → ParentsComeFirst w.pending → i < length w.pending → is_pending w i ≡ true → All (λ (x : TxIn). spends_of w.chain x.prev ≡ []) (tx_at w i).inputs }
+    ensures parents { (w : World) (i : ℕ) → AreDistinct w.pending → ParentsComeFirst w.pending → i < length w.pending → is_pending w i ≡ true → (p : ℕ) → Contains (steps (graph w) i) p → is_pending w p ≡ true }
+    ensures apart { (w : World) (o : OutPoint) (i k : ℕ) → ParentsComeFirst w.pending → i < length w.pending → k < length w.pending → is_pending w i ≡ true → is_pending w k ≡ true → has_input o (tx_at w i).inputs ≡ true → has_input o (tx_at w k).inputs ≡ true → i ≡ k }
 {}

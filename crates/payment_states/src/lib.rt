@@ -22,6 +22,8 @@ mod tests;
 mod vectors;
 
 pub use choice::candidates;
-pub use laws::{finds_states, parents_by_inputs, reaches_by_steps, safe_by_parents};
+pub use laws::{
+    finds_states, parents_by_inputs, pending_stands_clear, reaches_by_steps, safe_by_parents,
+};
 pub use state::{Payment, State};
 pub use states::{States, all_states};
