@@ -1,6 +1,8 @@
+pub mod Final
 pub mod Laws
 pub mod LawsOfParts
 pub mod LawsOfStacks
+pub mod Longer
 pub mod Outputs
 pub mod Public
 pub mod Stacks

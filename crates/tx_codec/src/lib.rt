@@ -2,6 +2,7 @@
 #![tactic(auto)]
 
 mod fault;
+mod fault_laws;
 mod hasher;
 mod reading;
 mod tx;
@@ -10,6 +11,7 @@ mod vectors;
 mod writing;
 
 pub use fault::TxFault;
+pub use fault_laws::{faults_are_final, legacy_faults_are_final};
 pub use reading::{read_tx, read_whole_legacy_tx, read_whole_tx};
 pub use tx::{Tx, TxIn, TxOut, Witness};
 pub use writing::{signals, txid, weight, write_bare_tx, write_tx, write_tx_out};

@@ -1,0 +1,14 @@
+use Rattle.tx_codec.specs.Reading.{tx_at}
+use Rattle.tx_codec.specs.TransactionText.{IsTransaction}
+use Rattle.tx_codec.proofs.Laws.{tx_reads}
+use Rattle.tx_codec.proofs.Final.{tx_longer, cut_off_by, none_by, final_by}
+use Rattle.tx_codec.proofs.fault_laws.faults_are_final.Goals as goal
+
+pub returns-clause-part : goal.returns-clause-part
+returns-clause-part c = λ bytes part. cut_off_by tx_at IsTransaction tx_reads tx_longer bytes part
+
+pub returns-clause-none : goal.returns-clause-none
+returns-clause-none c = λ bytes fault e whole. none_by tx_at IsTransaction tx_reads tx_longer bytes fault e whole
+
+pub returns-clause-same : goal.returns-clause-same
+returns-clause-same c = λ bytes more fault e whole. final_by tx_at tx_longer bytes more fault e whole
