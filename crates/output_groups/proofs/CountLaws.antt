@@ -11,15 +11,11 @@ use Rattle.output_groups.specs.Pool.{AreKept, CountsKept, keeps}
 use Rattle.output_groups.specs.declared.part.Part.{Part}
 use Rattle.output_groups.specs.declared.rows.Row.{Row}
 use Rattle.output_groups.proofs.GroupLaws.{first_script, starts_first}
-use Rattle.output_groups.proofs.PartLaws.{filter_all}
+use Rattle.output_groups.proofs.PartLaws.{either, filter_all}
 
 -- each test passes as many elements of the one list as of the other
 pub record AreSame {X : Type 0} (xs ys : List X) : Type 0 where
   pub counts : (p : X → Bool) → count_by p xs ≡ count_by p ys
-
-either : (b : Bool) → (b ≡ true) ⊎ (b ≡ false)
-either true = inl refl
-either false = inr refl
 
 -- two filters may be taken in either order
 swapped : {X : Type 0} (p q : X → Bool) (xs : List X) → filter p (filter q xs) ≡ filter q (filter p xs)

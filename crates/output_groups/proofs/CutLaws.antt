@@ -75,7 +75,7 @@ run_one cs start end d run =
 pays_one : (script s : List ℕ) (cs : List Candidate) → All (λ (c : Candidate). script_of c ≡ s) cs → All (λ c. pays_to script c ≡ bytes_eq script s) cs
 pays_one script s cs all k d below = ap (bytes_eq script) (all k d below)
 
-parts_filled : (cs : List Candidate) → All (λ (p : Part). 0 < length p.coins) (parts_of cs)
+pub parts_filled : (cs : List Candidate) → All (λ (p : Part). 0 < length p.coins) (parts_of cs)
 parts_filled cs =
     let Any_coin : Candidate → Type 0 = λ _. Unit {0} in
     All-weaker (λ (p : Part). IsFull Any_coin p.coins) (λ (p : Part). 0 < length p.coins) (λ p full. full.some) (parts_of cs) (parts_full Any_coin cs (λ k d h. tt))

@@ -1,5 +1,6 @@
 pub mod CountLaws
 pub mod CutLaws
+pub mod FormedLaws
 pub mod GroupLaws
 pub mod ItemLaws
 pub mod MeetLaws

@@ -1,3 +1,4 @@
+pub mod Counting
 pub mod Forming
 pub mod Kept
 pub mod Ladder

@@ -5,6 +5,7 @@ ghost use Rattle.std.specs.declared.cmp.Ordering.TheVariants.{Equal};
 ghost use Rattle.fee_rates.specs.Fee.{effective_of};
 ghost use Rattle.fund_base.specs.Candidates.{AreCandidates};
 ghost use Rattle.fund_base.specs.declared.candidate.Candidate.{Candidate};
+ghost use Rattle.output_groups.specs.Counting.{kept_count};
 ghost use Rattle.output_groups.specs.Measures.{IsGroup, value_of};
 ghost use Rattle.output_groups.specs.PlainPool.{PlainPool};
 ghost use Rattle.output_groups.specs.Pool.{IsPool, CountsKept, group_cmp};
@@ -26,4 +27,10 @@ pub fn one_pool()
 pub fn values_are_effective()
     ensures { (rate : ℕ) (g : List Candidate) → IsGroup rate g →
         pos (value_of rate g) ≡ fold (λ s (c : Candidate). s +ℤ effective_of c.value rate c.weight) (pos 0) g }
+{}
+
+/// How many groups a row keeps, counted script by script, is the number of the groups that it keeps, however they are
+/// formed.
+pub fn counts_kept()
+    ensures { (group : Bool) (row : Row) (rate : ℕ) (cs : List Candidate) → CountsKept group row rate cs (kept_count group row rate cs) }
 {}

@@ -15,6 +15,6 @@ mod tests;
 
 pub use fault::PoolFault;
 pub use group::Group;
-pub use laws::{one_pool, values_are_effective};
+pub use laws::{counts_kept, one_pool, values_are_effective};
 pub use row_pool::{RowPool, pool};
 pub use rows::{Row, ladder, meets};
