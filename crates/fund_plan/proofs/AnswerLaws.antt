@@ -19,7 +19,7 @@ use Rattle.wallet_text.specs.declared.wallet.Watch.{Watch}
 use Rattle.fund_plan.specs.Answer.{Answers, AreListed, HasSelection, answer_of, by_presets, is_preset, presets_in}
 use Rattle.fund_plan.specs.Amounts.{AreWithin, value_of}
 use Rattle.fund_plan.specs.Kept.{IsKept}
-use Rattle.fund_plan.specs.Plan.{HasEligible, IsEligible, IsFirstMissing, IsPlan, PlainPlan, may_be_listed}
+use Rattle.fund_plan.specs.Plan.{HasEligible, IsEligible, IsFirstMissing, IsPlan, IsRoomy, PlainPlan, ladder_in, may_be_listed}
 use Rattle.fund_plan.specs.Presets.{presets_of}
 use Rattle.fund_plan.specs.Selection.{AreSorted, first_missing, has_coin, is_listed}
 use Rattle.fund_plan.specs.Terms.{load_of, rates_of}
@@ -187,5 +187,5 @@ answer_fits p h = fits_as p.request p.change (presets_in p) (presets_of (rates_o
 pub missing_is : (p : PlainPlan) (found : Option OutPoint) (coins : List Candidate) (points : List OutPoint) → found ≡ first_missing coins points → coins ≡ presets_in p → points ≡ p.request.coins → found ≡ first_missing (presets_in p) p.request.coins
 missing_is p found coins points e cs ps = e ∙ ap (λ (xs : List Candidate). first_missing xs points) cs ∙ ap (first_missing (presets_in p)) ps
 
-pub plan_is : (p : PlainPlan) → IsRequest p.request → p.request.bump ≡ None → IsWatch p.change → AreCandidates p.candidates → value_of p.candidates ≤ 2_100_000_000_000_000 → first_missing (presets_in p) p.request.coins ≡ None → IsPlan p
-plan_is p r bump w cs within none = record { request = r; bump = bump; change = w; candidates = cs; within = within; eligible = all_eligible p none }
+pub plan_is : (p : PlainPlan) → IsRequest p.request → p.request.bump ≡ None → IsWatch p.change → AreCandidates p.candidates → value_of p.candidates ≤ 2_100_000_000_000_000 → first_missing (presets_in p) p.request.coins ≡ None → All (IsRoomy p) (ladder_in p) → IsPlan p
+plan_is p r bump w cs within none roomy = record { request = r; bump = bump; change = w; candidates = cs; within = within; eligible = all_eligible p none; roomy = roomy }

@@ -221,7 +221,7 @@ filter_sum f p (c ∷ coins) =
     (λ _. omega (arith, sum_by-cons f c (filter p coins)))
     (λ _. omega arith)
 
-filter_length : (p : Candidate → Bool) (coins : List Candidate) → length (filter p coins) ≤ length coins
+pub filter_length : (p : Candidate → Bool) (coins : List Candidate) → length (filter p coins) ≤ length coins
 filter_length p [] = omega arith
 filter_length p (c ∷ coins) =
     let again = filter_length p coins in
@@ -239,6 +239,20 @@ taken_within p coins h within =
     }
 
 -- ---- one coin more
+
+pub kept_more : (p : Candidate → Bool) (coins : List Candidate) (c : Candidate) (old new : List Candidate) → p c ≡ true → new ≡ old ++ c ∷ [] → old ≡ filter p coins → new ≡ filter p (coins ++ c ∷ [])
+kept_more p coins c old new passes put was =
+    put
+    ∙ ap (λ (l : List Candidate). l ++ c ∷ []) was
+    ∙ ap (λ (b : Bool). filter p coins ++ cond b (c ∷ []) []) (sym passes)
+    ∙ sym (filter-append p coins (c ∷ []))
+
+pub kept_same : (p : Candidate → Bool) (coins : List Candidate) (c : Candidate) (old : List Candidate) → p c ≡ false → old ≡ filter p coins → old ≡ filter p (coins ++ c ∷ [])
+kept_same p coins c old fails was =
+    was
+    ∙ sym (append-nil (filter p coins))
+    ∙ ap (λ (b : Bool). filter p coins ++ cond b (c ∷ []) []) (sym fails)
+    ∙ sym (filter-append p coins (c ∷ []))
 
 pub order_more : (p : Candidate → Bool) (coins : List Candidate) (c : Candidate) (old new : Entries) → p c ≡ true → new ≡ ins old c → old ≡ by_outpoint (filter p coins) → new ≡ by_outpoint (filter p (coins ++ c ∷ []))
 unfolding by_outpoint

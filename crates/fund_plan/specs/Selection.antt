@@ -1,5 +1,5 @@
 -- Coins that a payment spends, and the order in which they stand.
-use Rattle.std.specs.Prelude.{ℕ, ◌≡◌, List, [], fold, map, find, not, AllPairs, Bool, Option}
+use Rattle.std.specs.Prelude.{ℕ, ◌≡◌, List, [], fold, filter, map, find, not, AllPairs, Bool, Option}
 use Rattle.std.specs.List.{list_any}
 use Rattle.std.specs.BTreeMap.{insert_entry}
 use Rattle.std.specs.Map.{values_of}
@@ -36,3 +36,7 @@ has_coin coins point = is_listed (map (λ (c : Candidate). c.coin) coins) point
 -- the first of the outpoints at which no coin is
 abbrev pub first_missing : List Candidate → List OutPoint → Option OutPoint
 first_missing coins points = find (λ p. not (has_coin coins p)) points
+
+-- the coins that aren't listed
+abbrev pub unlisted : List OutPoint → List Candidate → List Candidate
+unlisted points coins = filter (λ c. not (is_listed points c.coin)) coins

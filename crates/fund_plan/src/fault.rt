@@ -12,6 +12,9 @@ pub enum PlanFault {
     /// The request lists this outpoint, and no candidate is there that is safe, or may be unsafe by the request. It is
     /// the first such.
     NotEligible(OutPoint),
+    /// The row of this number keeps this many groups, which are more than 10,000, of the coins that the request doesn't
+    /// list. It is the first such row of the ladder.
+    TooMany(u8, u64),
     /// There was not enough memory.
     Memory,
 }

@@ -10,6 +10,7 @@ mod laws;
 mod outcome;
 mod payment;
 mod plan;
+mod pools;
 mod presets;
 mod selection;
 mod terms;

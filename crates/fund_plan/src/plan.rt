@@ -5,13 +5,14 @@ ghost use Rattle.fund_base.specs.Candidates.{AreCandidates};
 ghost use Rattle.request_text.specs.declared.request.Method.TheVariants.{Manual};
 ghost use Rattle.wallet_text.specs.WalletRules.{IsWatch};
 ghost use Rattle.fund_plan.specs.Answer.{Answers, HasSelection, answer_of, by_presets};
-ghost use Rattle.fund_plan.specs.Plan.{HasEligible, IsFault, IsPlan, IsWithin};
+ghost use Rattle.fund_plan.specs.Plan.{HasEligible, IsFault, IsPlan, IsRoomy, IsWithin, ladder_in};
 
 use crate::amounts::total;
 use crate::fault::PlanFault;
 use crate::outcome::{Funded, Outcome};
+use crate::pools::first_crowded;
 use crate::presets::{Presets, presets_alone};
-use crate::selection::{copies, missing, presets};
+use crate::selection::{Parted, copies, missing, split};
 use crate::terms::{load, rates};
 use fee_rates::{Load, Rates};
 use fund_base::{Candidate, MAX_MONEY, Memory};
@@ -66,7 +67,9 @@ impl Plan {
     ///
     /// [`PlanFault::Total`] comes exactly where the candidates are worth more than 21,000,000 bitcoin together. Otherwise
     /// [`PlanFault::NotEligible`] comes exactly where the request lists an outpoint at which there is no candidate that is
-    /// safe, or that may be unsafe because the request says `include_unsafe`; it shows the first such outpoint.
+    /// safe, or that may be unsafe because the request says `include_unsafe`; it shows the first such outpoint. Otherwise
+    /// [`PlanFault::TooMany`] comes exactly where a row of the request's ladder keeps more than 10,000 groups of the
+    /// candidates that it doesn't list; it shows the first such row.
     pub fn new(
         alloc: Global,
         request: &Request,
@@ -79,6 +82,7 @@ impl Plan {
         ensures made { IfOk result (λ p. p ≡ record { request = request.now; change = change.now; candidates = candidates.items }) }
         ensures within { IfOk result (λ p. IsWithin p) }
         ensures eligible { IfOk result (λ p. All (HasEligible p) p.request.coins) }
+        ensures roomy { IfOk result (λ p. All (IsRoomy p) (ladder_in p)) }
         ensures fault { IfErr result (IsFault (record { request = request.now; change = change.now; candidates = candidates.items })) }
     {
         let sum = total(&candidates);
@@ -86,9 +90,15 @@ impl Plan {
             return Err(PlanFault::Total(sum));
         }
         let all = Snapshot::of(&candidates);
-        let coins = presets(alloc, request, candidates)?;
+        let Parted {
+            listed: coins,
+            rest,
+        } = split(alloc, request, candidates)?;
         if let Some(point) = missing(alloc, &coins, &request.coins)? {
             return Err(PlanFault::NotEligible(point));
+        }
+        if let Some(row) = first_crowded(alloc, request, &rest)? {
+            return Err(PlanFault::TooMany(row.number, row.groups));
         }
         request.keeps_rules();
         let load = load(request, change, &coins);
@@ -104,8 +114,8 @@ impl Plan {
     }
 
     /// That the plan keeps its rules: those of the request, of the change script and of the candidates; that the
-    /// candidates are worth at most 21,000,000 bitcoin together; and that at each listed outpoint there is a candidate that
-    /// the request may list. A call does nothing.
+    /// candidates are worth at most 21,000,000 bitcoin together; that at each listed outpoint there is a candidate that
+    /// the request may list; and that each row of the ladder keeps at most 10,000 groups of the others. A call does nothing.
     pub fn keeps_rules(&self)
         ensures { IsPlan self.now }
     {

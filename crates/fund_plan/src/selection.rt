@@ -7,7 +7,7 @@ ghost use Rattle.fund_base.specs.Outpoints.{outpoint_cmp, same_outpoint};
 ghost use Rattle.fund_base.specs.declared.candidate.Candidate.{Candidate};
 ghost use Rattle.fund_base.specs.declared.outpoint.OutPoint.{OutPoint};
 ghost use Rattle.fund_plan.specs.Answer.{is_preset};
-ghost use Rattle.fund_plan.specs.Selection.{by_outpoint, first_missing, in_order, is_listed};
+ghost use Rattle.fund_plan.specs.Selection.{by_outpoint, first_missing, in_order, is_listed, unlisted};
 
 use fund_base::{Candidate, Memory, OutPoint};
 use indexmap::IndexSet;
@@ -65,22 +65,32 @@ fn is_preset(wanted: &IndexSet<OutPoint>, include_unsafe: bool, candidate: &Cand
     wanted.contains(&candidate.coin) && (candidate.safe || include_unsafe)
 }
 
-/// Those of the candidates that the request lists and may list, in the order of their outpoints.
-pub fn presets(
-    alloc: Global,
-    request: &Request,
-    candidates: Vec<Candidate>,
-) -> Result<Vec<Candidate>, Memory>
-    ensures { IfOk result (λ v. v.items ≡ in_order (filter (is_preset request.now) candidates.items)) }
+/// The candidates of a request.
+#[derive(Drop)]
+pub struct Parted {
+    /// Those that it lists and may list, in the order of their outpoints.
+    pub listed: Vec<Candidate>,
+    /// Those that it doesn't list.
+    pub rest: Vec<Candidate>,
+}
+
+/// Splits the candidates by what the request lists.
+pub fn split(alloc: Global, request: &Request, candidates: Vec<Candidate>) -> Result<Parted, Memory>
+    ensures listed { IfOk result (λ s. s.listed.items ≡ in_order (filter (is_preset request.now) candidates.items)) }
+    ensures rest { IfOk result (λ s. s.rest.items ≡ unlisted request.now.coins candidates.items) }
 {
     let wanted = set_of(alloc, &request.coins)?;
     let mut chosen = BTreeMap::new(alloc);
+    let mut rest = Vec::new(alloc);
     for candidate in candidates {
         if is_preset(&wanted, request.include_unsafe, &candidate) {
             put(&mut chosen, candidate)?;
+        } else if !wanted.contains(&candidate.coin) {
+            rest.push(candidate)?;
         }
     }
-    Ok(chosen.into_values().collect(alloc)?)
+    let listed = chosen.into_values().collect(alloc)?;
+    Ok(Parted { listed, rest })
 }
 
 /// A copy of each coin.
