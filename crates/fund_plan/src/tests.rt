@@ -144,6 +144,9 @@ fn comes_to(
             let first = point.txid.bytes()[0];
             return Ok(format!(in alloc; "not eligible {first}:{}", point.index)?);
         }
+        Err(PlanFault::TooMany(row, groups)) => {
+            return Ok(format!(in alloc; "row {row}, {groups} groups")?);
+        }
         Err(PlanFault::Memory) => return Err(Fail::from("memory")),
     };
     let funded = match plan.go()? {
