@@ -10,7 +10,7 @@ use Rattle.fund_top.specs.declared.ending.Ending.{Ending}
 use Rattle.fund_top.specs.declared.ending.Ending.TheVariants as endings
 use Rattle.fund_top.specs.declared.files.Stop.{Stop}
 use Rattle.fund_top.specs.declared.files.Stop.TheVariants as stops
-use Rattle.fund_top.specs.Cause.{Cause, TooLong, BadWallet, BadBlocks, RepeatCoin, ManyCoins, BadRequest, BumpNotYet, PlanNotYet, NotEligible, Total, cause_of}
+use Rattle.fund_top.specs.Cause.{Cause, TooLong, BadWallet, BadBlocks, RepeatCoin, ManyCoins, BadRequest, BumpNotYet, PlanNotYet, NotEligible, Total, ManyGroups, cause_of}
 use Rattle.fund_top.specs.Chain.{held_of}
 use Rattle.fund_top.specs.Conclusion.{IsConcluded, IsEnded, MeansFault, StopsPlan}
 use Rattle.fund_top.specs.Ends.{IsListed}
@@ -69,9 +69,10 @@ meant files s p w blocks r (RepeatCoin coin) inputs m = absurd m
 meant files s p w blocks r ManyCoins inputs m = absurd m
 meant files s p w blocks r (BadRequest fault) inputs m = absurd m
 meant files s p w blocks r BumpNotYet inputs m = absurd m
-meant files s p w blocks r PlanNotYet inputs m = absurd m
+meant files s p w blocks r PlanNotYet inputs m = (w, blocks, r, inputs, m.0, m.1)
 meant files s p w blocks r (NotEligible coin) inputs m = (w, blocks, r, inputs, m)
 meant files s p w blocks r (Total sum) inputs m = (w, blocks, r, inputs, m)
+meant files s p w blocks r ManyGroups inputs m = (m.0, m.1, (w, blocks, r, inputs, m.2))
 
 stops_on : (told : Type 0) (s : Sources) (p : Payment) (w : PlainWallet) (blocks : List ChainBlock) (r : PlainRequest) (old new : ShelfView) (stop : Stop) → (told → AreInputs old.files s p w blocks r) → StopsPlan (held_of w blocks) r stop → StopsFor told (Fund s p) old new stop
 stops_on told s p w blocks r old new (stops.Read file) inputs is = absurd is

@@ -25,7 +25,7 @@ use Rattle.fund_top.specs.declared.refusal.File.TheVariants.{Wallet, Blocks, Req
 use Rattle.fund_top.specs.declared.files.Stop.{Stop}
 use Rattle.fund_top.specs.declared.files.Stop.TheVariants as stops
 use Rattle.fund_top.specs.Booked.{IsBooked, IsRead}
-use Rattle.fund_top.specs.Cause.{Cause, BumpNotYet, PlanNotYet, cause_of}
+use Rattle.fund_top.specs.Cause.{Cause, BumpNotYet, cause_of}
 use Rattle.fund_top.specs.Chain.{confirmed_history, history_of}
 use Rattle.fund_top.specs.Held.{IsBehind, IsBlocksCause, stop_of}
 use Rattle.fund_top.specs.InputStop.{StopsAt, IsAskedCause, IsWalletCause, IsRequestCause}
@@ -72,14 +72,13 @@ blocks_meant files c w file cause (inl h) = subst (λ (x : Cause). IsMeant files
 blocks_meant files c w file cause (inr h) = subst (λ (x : Cause). IsMeant files c x) (sym h.4) (book_meant files c h.1)
 
 -- so does one of a request that isn't taken
-option_meant : (files : List ℕ → List ℕ) (c : Command) (cause : Cause) (bump manual : Bool) → cond bump (Some BumpNotYet) (cond manual None (Some PlanNotYet)) ≡ Some cause → IsMeant files c cause
-option_meant files c cause true manual e = subst (λ (x : Cause). IsMeant files c x) (same_Some BumpNotYet cause e) tt
-option_meant files c cause false true e = absurd cc
-option_meant files c cause false false e = subst (λ (x : Cause). IsMeant files c x) (same_Some PlanNotYet cause e) tt
+option_meant : (files : List ℕ → List ℕ) (c : Command) (cause : Cause) (bump : Bool) → cond bump (Some BumpNotYet) None ≡ Some cause → IsMeant files c cause
+option_meant files c cause true e = subst (λ (x : Cause). IsMeant files c x) (same_Some BumpNotYet cause e) tt
+option_meant files c cause false e = absurd cc
 
 asked_meant : (files : List ℕ → List ℕ) (s : Sources) (p : Payment) (cause : Cause) (r : Result PlainRequest requests.Refusal) → request_of (files p.request) ≡ r → IsAskedCause r cause → IsMeant files (Fund s p) cause
 asked_meant files s p cause (Err fault) is h = subst (λ (x : Cause). IsMeant files (Fund s p) x) (sym h) is
-asked_meant files s p cause (Ok r) is h = option_meant files (Fund s p) cause (is_some r.bump) (is_manual r.method) h
+asked_meant files s p cause (Ok r) is h = option_meant files (Fund s p) cause (is_some r.bump) h
 
 request_meant : (files : List ℕ → List ℕ) (s : Sources) (p : Payment) (cause : Cause) → IsRequestCause (files p.request) cause → IsMeant files (Fund s p) cause
 request_meant files s p cause (inl h) = subst (λ (x : Cause). IsMeant files (Fund s p) x) (sym h.0) tt

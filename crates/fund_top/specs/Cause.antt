@@ -22,6 +22,7 @@ pub data Cause : Type 0 where
   PlanNotYet : Cause
   NotEligible : OutPoint → Cause
   Total : ℕ → Cause
+  ManyGroups : Cause
 
 -- the cause of a refusal
 abbrev pub cause_of : Refusal → Cause
@@ -35,3 +36,4 @@ cause_of refusals.BumpNotYet = BumpNotYet
 cause_of refusals.PlanNotYet = PlanNotYet
 cause_of (refusals.NotEligible coin) = NotEligible coin
 cause_of (refusals.Total sum) = Total sum
+cause_of refusals.ManyGroups = ManyGroups

@@ -1,5 +1,5 @@
 -- How a request ends, as one of the outcomes of the files.
-use Rattle.std.specs.Prelude.{ℕ, ◌≡◌, List, string_bytes}
+use Rattle.std.specs.Prelude.{ℕ, ◌≡◌, ◌≢◌, List, string_bytes}
 use Rattle.fund_plan.specs.Answer.{Answers}
 use Rattle.fund_plan.specs.Plan.{IsFault, IsPlan}
 use Rattle.fund_plan.specs.Selection.{Selection}
@@ -8,7 +8,8 @@ use Rattle.fund_plan.specs.declared.fault.PlanFault.TheVariants as plans
 use Rattle.fund_plan.specs.declared.outcome.Outcome.TheVariants as answers
 use Rattle.psbt_codec.specs.Psbt.{IsPsbt}
 use Rattle.request_text.specs.PlainRequest.{PlainRequest}
-use Rattle.fund_top.specs.Cause.{Cause, NotEligible, Total, cause_of}
+use Rattle.request_text.specs.declared.request.Method.TheVariants.{Manual}
+use Rattle.fund_top.specs.Cause.{Cause, ManyGroups, NotEligible, PlanNotYet, Total, cause_of}
 use Rattle.fund_top.specs.Ending.{psbt_of, report_of}
 use Rattle.fund_top.specs.Ends.{IsFunded, IsNotFunded}
 use Rattle.fund_top.specs.Outcome.{Outcome, Refused, NoSelection, Funded, plan_of, planned}
@@ -33,10 +34,12 @@ abbrev pub IsConcluded : Held → PlainRequest → Ending → Type 0
 IsConcluded k r endings.NoSelection = IsPlan (plan_of k r) × Answers (plan_of k r) answers.NoSelection × (planned k r ≡ NoSelection)
 IsConcluded k r (endings.Funded text) = IsPlan (plan_of k r) × IsPaid k r (string_bytes text)
 
--- the fault of a plan, as a cause
+-- the fault of a plan, or that the coins of a plan are to be chosen, as a cause
 abbrev pub MeansFault : Held → PlainRequest → Cause → Type 0
 MeansFault k r (NotEligible coin) = IsFault (plan_of k r) (plans.NotEligible coin)
 MeansFault k r (Total sum) = IsFault (plan_of k r) (plans.Total sum)
+MeansFault k r ManyGroups = (number n : ℕ) × IsFault (plan_of k r) (plans.TooMany number n)
+MeansFault k r PlanNotYet = IsPlan (plan_of k r) × (r.method ≢ Manual)
 MeansFault k r cause = ⊥
 
 -- the stop is the refusal that is due, or want of memory
@@ -49,6 +52,7 @@ StopsPlan k r stops.Memory = Unit {0}
 abbrev pub plan_stop_of : PlanFault → Stop
 plan_stop_of (plans.Total sum) = stops.Refused (refusals.Total sum)
 plan_stop_of (plans.NotEligible coin) = stops.Refused (refusals.NotEligible coin)
+plan_stop_of (plans.TooMany number n) = stops.Refused refusals.ManyGroups
 plan_stop_of plans.Memory = stops.Memory
 
 -- this is how the request of the command ends

@@ -13,7 +13,7 @@ use Rattle.fund_top.specs.declared.refusal.File.{File}
 use Rattle.fund_top.specs.declared.refusal.Refusal.{Refusal}
 use Rattle.fund_top.specs.declared.status.Status.{Status}
 use Rattle.fund_top.specs.declared.status.Status.TheVariants as statuses
-use Rattle.fund_top.specs.Cause.{Cause, TooLong, BadWallet, BadBlocks, RepeatCoin, ManyCoins, BadRequest, BumpNotYet, PlanNotYet, NotEligible, Total, cause_of}
+use Rattle.fund_top.specs.Cause.{Cause, TooLong, BadWallet, BadBlocks, RepeatCoin, ManyCoins, BadRequest, BumpNotYet, PlanNotYet, NotEligible, Total, ManyGroups, cause_of}
 use Rattle.fund_top.specs.Chain.{held_of, history_of}
 use Rattle.fund_top.specs.Ending.{psbt_of, report_of}
 use Rattle.fund_top.specs.Outcome.{Outcome, Refused, Listed, NoSelection, Funded as Paid, listing_in, outcome_of, plan_of}
@@ -38,6 +38,7 @@ status_of_cause BumpNotYet = statuses.Input
 status_of_cause PlanNotYet = statuses.Input
 status_of_cause (NotEligible coin) = statuses.Input
 status_of_cause (Total sum) = statuses.Input
+status_of_cause ManyGroups = statuses.Limit
 
 -- the status of what the files come to, where nothing fails
 abbrev pub status_of : Outcome → Status

@@ -1,5 +1,6 @@
 -- What the files of a command come to.
-use Rattle.std.specs.Prelude.{ℕ, Bool, true, false, List, length, nat_lt, is_some, if◌then◌else◌, Option, Some, None, option_map, Result, Ok, Err}
+use Rattle.std.specs.Prelude.{ℕ, Bool, true, false, List, length, nat_lt, is_some, if◌then◌else◌, Option, Some, None, Result, Ok, Err}
+use Rattle.std.specs.List.{list_any}
 use Rattle.block_feed.specs.Block.{ChainBlock}
 use Rattle.block_feed.specs.Blocks.{blocks_of}
 use Rattle.block_feed.specs.declared.fault.FeedFault.{FeedFault}
@@ -9,12 +10,15 @@ use Rattle.coin_book.specs.declared.fault.BookFault.{BookFault}
 use Rattle.coin_book.specs.declared.fault.BookFault.TheVariants as books
 use Rattle.coin_listing.specs.Listing.{listing_of}
 use Rattle.fund_base.specs.declared.candidate.Candidate.{Candidate}
+use Rattle.fund_base.specs.declared.outpoint.OutPoint.{OutPoint}
 use Rattle.fund_plan.specs.Amounts.{value_of}
 use Rattle.fund_plan.specs.Answer.{answer_of, presets_in}
-use Rattle.fund_plan.specs.Plan.{PlainPlan}
-use Rattle.fund_plan.specs.Selection.{first_missing}
+use Rattle.fund_plan.specs.Plan.{PlainPlan, ladder_in}
+use Rattle.fund_plan.specs.Selection.{first_missing, unlisted}
 use Rattle.fund_plan.specs.declared.outcome.Outcome.{Outcome as Answer}
 use Rattle.fund_plan.specs.declared.outcome.Outcome.TheVariants as answers
+use Rattle.output_groups.specs.Counting.{kept_count}
+use Rattle.output_groups.specs.declared.rows.Row.{Row}
 use Rattle.payment_states.specs.Candidates.{candidates_of}
 use Rattle.payment_states.specs.Payments.{payments_of}
 use Rattle.request_text.specs.PlainRequest.{PlainRequest}
@@ -27,7 +31,7 @@ use Rattle.wallet_text.specs.WalletText.{wallet_of}
 use Rattle.wallet_text.specs.declared.fault.Refusal as wallets
 use Rattle.fund_top.specs.declared.booking.Held.{Held}
 use Rattle.fund_top.specs.declared.refusal.File.TheVariants.{Wallet, Blocks, Request}
-use Rattle.fund_top.specs.Cause.{Cause, TooLong, BadWallet, BadBlocks, RepeatCoin, ManyCoins, BadRequest, BumpNotYet, PlanNotYet, NotEligible, Total}
+use Rattle.fund_top.specs.Cause.{Cause, TooLong, BadWallet, BadBlocks, RepeatCoin, ManyCoins, BadRequest, BumpNotYet, PlanNotYet, NotEligible, Total, ManyGroups}
 use Rattle.fund_top.specs.Chain.{held_of, history_of}
 use Rattle.fund_top.specs.Ending.{report_of}
 use Rattle.fund_top.specs.Words.{Command, Coins, Fund, sources_of}
@@ -98,11 +102,21 @@ abbrev pub by_answer : Held → PlainRequest → Answer → Outcome
 by_answer k r answers.NoSelection = NoSelection
 by_answer k r (answers.Funded f) = Funded (report_of k.book r k.wallet.change f)
 
--- why no plan is made: its candidates are worth more than 21,000,000 bitcoin, or a listed coin isn't eligible
+-- whether the row keeps more than 10,000 groups of the candidates that the request doesn't list
+abbrev pub is_crowded : PlainPlan → Row → Bool
+is_crowded p row = nat_lt 10_000 (kept_count p.request.group row p.request.rate (unlisted p.request.coins p.candidates))
+
+-- by the first listed coin that isn't eligible, and then by the rows of the ladder
+abbrev pub by_missing : PlainPlan → Option OutPoint → Option Cause
+by_missing p (Some coin) = Some (NotEligible coin)
+by_missing p None = if list_any (is_crowded p) (ladder_in p) then Some ManyGroups else None
+
+-- why no plan is made: its candidates are worth more than 21,000,000 bitcoin, or a listed coin isn't eligible, or a row of
+-- the ladder keeps too many groups
 abbrev pub plan_cause : PlainPlan → Option Cause
 plan_cause p =
     if nat_lt 2_100_000_000_000_000 (value_of p.candidates) then Some (Total (value_of p.candidates))
-    else option_map (λ coin. NotEligible coin) (first_missing (presets_in p) p.request.coins)
+    else by_missing p (first_missing (presets_in p) p.request.coins)
 
 -- the method that spends the listed coins and no others
 abbrev pub is_manual : Method → Bool
@@ -112,13 +126,17 @@ is_manual Weight = false
 is_manual Draw = false
 is_manual Manual = true
 
--- what isn't taken of a request yet: a payment to be replaced, and then a method that chooses coins
+-- what isn't taken of a request yet: a payment to be replaced
 abbrev pub not_taken : PlainRequest → Option Cause
-not_taken r = if is_some r.bump then Some BumpNotYet else if is_manual r.method then None else Some PlanNotYet
+not_taken r = if is_some r.bump then Some BumpNotYet else None
 
--- what is due for a request of which all is taken
+-- what isn't taken of a plan yet: a method that chooses coins
+abbrev pub not_chosen : PlainRequest → Option Cause
+not_chosen r = if is_manual r.method then None else Some PlanNotYet
+
+-- what is due for a request that replaces no payment
 unfoldable pub planned : Held → PlainRequest → Outcome
-planned k r = by_cause (plan_cause (plan_of k r)) (by_answer k r (answer_of (plan_of k r)))
+planned k r = by_cause (plan_cause (plan_of k r)) (by_cause (not_chosen r) (by_answer k r (answer_of (plan_of k r))))
 
 -- by the request that was read
 abbrev pub by_request : Held → Result PlainRequest requests.Refusal → Outcome

@@ -1,18 +1,19 @@
 -- Why a command stops before it writes or prints.
-use Rattle.std.specs.Prelude.{ℕ, ◌≡◌, ◌≤◌, List, [], length, None, Ok, Err}
+use Rattle.std.specs.Prelude.{ℕ, ◌≡◌, ◌≢◌, ◌≤◌, List, [], length, None, Ok, Err}
 use Rattle.fund_base.specs.Causes.{ShelfView, Rose}
 use Rattle.block_feed.specs.Block.{ChainBlock}
 use Rattle.block_feed.specs.BlockFile.{IsBlockFile}
 use Rattle.coin_book.specs.Faults.{fault_of}
-use Rattle.fund_plan.specs.Plan.{IsFault}
+use Rattle.fund_plan.specs.Plan.{IsFault, IsPlan}
 use Rattle.fund_plan.specs.declared.fault.PlanFault.{PlanFault}
 use Rattle.fund_plan.specs.declared.fault.PlanFault.TheVariants as plans
 use Rattle.request_text.specs.PlainRequest.{PlainRequest}
 use Rattle.request_text.specs.RequestText.{request_of}
 use Rattle.request_text.specs.declared.fault.Refusal as requests
+use Rattle.request_text.specs.declared.request.Method.TheVariants.{Manual}
 use Rattle.wallet_text.specs.PlainWallet.{PlainWallet}
 use Rattle.wallet_text.specs.WalletText.{wallet_of}
-use Rattle.fund_top.specs.Cause.{Cause, TooLong, BadWallet, BadBlocks, RepeatCoin, ManyCoins, BadRequest, BumpNotYet, PlanNotYet, NotEligible, Total, cause_of}
+use Rattle.fund_top.specs.Cause.{Cause, TooLong, BadWallet, BadBlocks, RepeatCoin, ManyCoins, BadRequest, BumpNotYet, PlanNotYet, NotEligible, Total, ManyGroups, cause_of}
 use Rattle.fund_top.specs.Chain.{held_of, history_of}
 use Rattle.fund_top.specs.Outcome.{Refused, not_taken, outcome_of, plan_of}
 use Rattle.fund_top.specs.Words.{Command, Coins, Fund, Payment, Sources, sources_of}
@@ -77,13 +78,19 @@ abbrev pub IsPlanned : (List ℕ → List ℕ) → Command → PlanFault → Typ
 IsPlanned files (Fund s p) fault = (w : PlainWallet) × (blocks : List ChainBlock) × (r : PlainRequest) × AreInputs files s p w blocks r × IsFault (plan_of (held_of w blocks) r) fault
 IsPlanned files (Coins s) fault = ⊥
 
+-- the files hold a request whose plan keeps its rules, and whose coins are to be chosen
+abbrev pub IsUnchosen : (List ℕ → List ℕ) → Command → Type 0
+IsUnchosen files (Fund s p) = (w : PlainWallet) × (blocks : List ChainBlock) × (r : PlainRequest) × AreInputs files s p w blocks r × IsPlan (plan_of (held_of w blocks) r) × (r.method ≢ Manual)
+IsUnchosen files (Coins s) = ⊥
+
 -- the request file has this fault first
 abbrev pub IsAskedWrong : (List ℕ → List ℕ) → Command → requests.Refusal → Type 0
 IsAskedWrong files (Fund s p) fault = request_of (files p.request) ≡ Err fault
 IsAskedWrong files (Coins s) fault = ⊥
 
 -- What a cause means by itself: the fault is the first that the wallet file has, or the request file; the candidates are
--- worth more than 21,000,000 bitcoin; this is the first listed coin at which no candidate is that may be listed.
+-- worth more than 21,000,000 bitcoin; this is the first listed coin at which no candidate is that may be listed; a row of
+-- the ladder keeps more than 10,000 groups; none of these is so, and the coins are to be chosen.
 abbrev pub IsMeant : (List ℕ → List ℕ) → Command → Cause → Type 0
 IsMeant files c (TooLong file) = Unit {0}
 IsMeant files c (BadWallet fault) = wallet_of (files (sources_of c).wallet) ≡ Err fault
@@ -92,9 +99,10 @@ IsMeant files c (RepeatCoin coin) = Unit {0}
 IsMeant files c ManyCoins = Unit {0}
 IsMeant files c (BadRequest fault) = IsAskedWrong files c fault
 IsMeant files c BumpNotYet = Unit {0}
-IsMeant files c PlanNotYet = Unit {0}
+IsMeant files c PlanNotYet = IsUnchosen files c
 IsMeant files c (NotEligible coin) = IsPlanned files c (plans.NotEligible coin)
 IsMeant files c (Total sum) = IsPlanned files c (plans.Total sum)
+IsMeant files c ManyGroups = (number n : ℕ) × IsPlanned files c (plans.TooMany number n)
 
 -- The files come to a refusal of this cause.
 abbrev pub IsDue : (List ℕ → List ℕ) → Command → Cause → Type 0

@@ -7,7 +7,7 @@ use Rattle.fault_text.specs.Words.{feed_fault_words, request_fault_words, wallet
 use Rattle.fund_top.specs.declared.refusal.File.{File}
 use Rattle.fund_top.specs.declared.refusal.File.TheVariants.{Wallet, Blocks, Request}
 use Rattle.fund_top.specs.declared.refusal.Refusal.{Refusal}
-use Rattle.fund_top.specs.declared.refusal.Refusal.TheVariants.{TooLong, BadWallet, BadBlocks, RepeatCoin, ManyCoins, BadRequest, BumpNotYet, PlanNotYet, NotEligible, Total}
+use Rattle.fund_top.specs.declared.refusal.Refusal.TheVariants.{TooLong, BadWallet, BadBlocks, RepeatCoin, ManyCoins, BadRequest, BumpNotYet, PlanNotYet, NotEligible, Total, ManyGroups}
 
 -- how a fault line names a file
 abbrev pub file_word : File → List ℕ
@@ -31,6 +31,7 @@ refusal_words BumpNotYet = codes "input bump NotYet"
 refusal_words PlanNotYet = codes "input plan NotYet"
 refusal_words (NotEligible coin) = codes "input plan NotEligible " ++ coin_text coin
 refusal_words (Total sum) = codes "input plan Total " ++ decimal sum
+refusal_words ManyGroups = codes "limit groups"
 
 -- the log of a payment from listed coins, and of none: no search was made
 abbrev pub log_text : List ℕ

@@ -9,7 +9,7 @@ ghost use Rattle.fund_plan.specs.Answer.{IsSelection};
 ghost use Rattle.fund_top.specs.Chain.{HasTexts, IsHeld};
 ghost use Rattle.fund_top.specs.Conclusion.{IsConcluded, StopsPlan, plan_stop_of};
 ghost use Rattle.fund_top.specs.Ending.{psbt_of, psbt_text_of, report_of, spent_of};
-ghost use Rattle.fund_top.specs.Outcome.{not_taken, plan_of};
+ghost use Rattle.fund_top.specs.Outcome.{is_manual, not_taken, plan_of};
 
 use crate::booking::Held;
 use crate::files::Stop;
@@ -22,7 +22,7 @@ use fee_rates::is_program;
 use fund_base::{Candidate, MAX_MONEY, Memory, Sat};
 use fund_plan::{Figures, Funded, Outcome, Plan, PlanFault, pays_in_text, unsigned};
 use psbt_codec::{Psbt, Spent, write_psbt};
-use request_text::Request;
+use request_text::{Method, Request};
 use std::alloc::Global;
 use tx_codec::TxOut;
 
@@ -138,8 +138,16 @@ fn plan_stop(fault: PlanFault) -> Stop
     match fault {
         PlanFault::Total(sum) => Stop::Refused(Refusal::Total(sum)),
         PlanFault::NotEligible(coin) => Stop::Refused(Refusal::NotEligible(coin)),
+        PlanFault::TooMany(_, _) => Stop::Refused(Refusal::ManyGroups),
         PlanFault::Memory => Stop::Memory,
     }
+}
+
+/// Whether exactly the listed coins are to be spent.
+fn is_manual(method: Method) -> bool
+    ensures { result ≡ is_manual method }
+{
+    matches!(method, Method::Manual)
 }
 
 /// The plan of the request.
@@ -167,6 +175,9 @@ pub fn conclude(alloc: Global, held: &Held, request: &Request) -> Result<Ending,
 {
     let plan = plan(alloc, held, request)?;
     plan.keeps_rules();
+    if !is_manual(request.method) {
+        return Err(Stop::Refused(Refusal::PlanNotYet));
+    }
     match plan.go() {
         Ok(Outcome::NoSelection) => Ok(Ending::NoSelection),
         Ok(Outcome::Funded(funded)) => match report(alloc, held, request, &funded) {

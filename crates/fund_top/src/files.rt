@@ -9,7 +9,7 @@ ghost use Rattle.fund_top.specs.Cause.{TooLong, cause_of};
 ghost use Rattle.fund_top.specs.Command.{plain_payment, plain_sources};
 ghost use Rattle.fund_top.specs.Held.{AreAsked, AreHeld, IsBehind, IsBlocksCause, stop_of};
 ghost use Rattle.fund_top.specs.InputStop.{StopsAt, IsWalletCause, IsRequestCause};
-ghost use Rattle.fund_top.specs.Outcome.{book_cause, is_manual, not_taken};
+ghost use Rattle.fund_top.specs.Outcome.{book_cause, not_taken};
 ghost use Rattle.fund_top.specs.Stop.{StopsFor};
 ghost use Rattle.fund_top.specs.Words.{Command, Fund, sources_of};
 
@@ -20,7 +20,7 @@ use crate::words::{Payment, Sources};
 use block_feed::FeedFault;
 use coin_book::{Book, BookFault};
 use fund_base::{Memory, ReadError, Shelf, read_whole};
-use request_text::{Method, Request, RequestFault, read_request};
+use request_text::{Request, RequestFault, read_request};
 use std::alloc::Global;
 use wallet_text::{Wallet, WalletFault, read_wallet};
 
@@ -143,27 +143,18 @@ pub fn read_chain<H: Shelf>(alloc: Global, sources: &Sources, shelf: &mut H) -> 
     Ok(Held { wallet, book, tip })
 }
 
-/// Whether exactly the listed coins are to be spent.
-fn is_manual(method: Method) -> bool
-    ensures { result ≡ is_manual method }
-{
-    matches!(method, Method::Manual)
-}
-
 /// What isn't taken of the request yet.
 fn not_taken(request: &Request) -> Option<Refusal>
     ensures { option_map cause_of result ≡ not_taken request.now }
 {
     if request.bump.is_some() {
         Some(Refusal::BumpNotYet)
-    } else if is_manual(request.method) {
-        None
     } else {
-        Some(Refusal::PlanNotYet)
+        None
     }
 }
 
-/// The request, of which all is taken.
+/// The request, which replaces no payment.
 fn request_from<H: Shelf>(alloc: Global, shelf: &mut H, name: &str) -> Result<Request, Stop>
     ensures form { H.tells → IfOk result (λ r. request_of ((H.view shelf.old).files name.now) ≡ Ok r) }
     ensures taken { IfOk result (λ r. not_taken r ≡ None) }

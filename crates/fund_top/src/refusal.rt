@@ -38,6 +38,8 @@ pub enum Refusal {
     NotEligible(OutPoint),
     /// The coins that may be spent are together worth this much, which is more than 21,000,000 bitcoin; in satoshi.
     Total(u128),
+    /// A row of the ladder keeps more than 10,000 groups of coins.
+    ManyGroups,
 }
 
 impl File {

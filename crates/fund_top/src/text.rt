@@ -35,6 +35,7 @@ pub fn refusal_words(alloc: Global, refusal: &Refusal) -> Result<String, Memory>
         Refusal::BumpNotYet => Ok(format!(in alloc; "input bump NotYet")?),
         Refusal::PlanNotYet => Ok(format!(in alloc; "input plan NotYet")?),
         Refusal::Total(sum) => Ok(format!(in alloc; "input plan Total {}", *sum)?),
+        Refusal::ManyGroups => Ok(format!(in alloc; "limit groups")?),
         Refusal::NotEligible(coin) => {
             let coin = coin_text(alloc, coin)?;
             Ok(format!(in alloc; "input plan NotEligible {}", coin)?)

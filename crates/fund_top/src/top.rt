@@ -90,7 +90,7 @@ fn status_of(refusal: &Refusal) -> Status
     ensures { result ≡ status_of_cause (cause_of refusal.now) }
 {
     match refusal {
-        Refusal::TooLong(_) | Refusal::ManyCoins => Status::Limit,
+        Refusal::TooLong(_) | Refusal::ManyCoins | Refusal::ManyGroups => Status::Limit,
         _ => Status::Input,
     }
 }
