@@ -16,7 +16,7 @@ ghost use Rattle.block_feed.specs.declared.fault.FeedFault.TheVariants.{Read, Me
 use crate::block::Block;
 use crate::fault::FeedFault;
 use crate::merkle::tree_of;
-use fund_base::Cursor;
+use fund_base::{Cursor, Txid};
 use sha2::{Digest, Sha256};
 use std::alloc::{AllocError, Global};
 use tx_codec::{Tx, TxFault, read_tx, txid};
@@ -171,21 +171,26 @@ fn counted_txs(alloc: Global, height: u32, cursor: &mut Cursor) -> Result<Vec<Tx
     }
 }
 
-fn txid_bytes(tx: &Tx) -> [u8; 32]
-    ensures { result ≡ txid_of tx.now }
-{
-    *txid(tx).bytes()
-}
-
 /// The txids of transactions, in order.
-fn txids(alloc: Global, txs: &[Tx]) -> Result<Vec<[u8; 32]>, AllocError>
+fn txids(alloc: Global, txs: &[Tx]) -> Result<Vec<Txid>, AllocError>
     ensures { IfOk result (λ v. v.items ≡ map txid_of txs.now) }
 {
     let mut txids = Vec::new(alloc);
     for tx in txs {
-        txids.push(txid_bytes(tx))?;
+        txids.push(txid(tx))?;
     }
     Ok(txids)
+}
+
+/// The bytes of txids, which are the lowest level of a Merkle tree.
+fn leaves(alloc: Global, txids: &[Txid]) -> Result<Vec<[u8; 32]>, AllocError>
+    ensures { IfOk result (λ v. v.items ≡ txids.now) }
+{
+    let mut leaves = Vec::new(alloc);
+    for txid in txids {
+        leaves.push(*txid.bytes())?;
+    }
+    Ok(leaves)
 }
 
 /// The double SHA-256 of a header.
@@ -214,7 +219,8 @@ fn sealed(alloc: Global, height: u32, header: &[u8], txs: Vec<Tx>) -> Result<Blo
     ensures height { IfOk result (λ b. b.height ≡ height) }
     ensures never_read { result ≢ Err Read }
 {
-    let tree = tree_of(alloc, txids(alloc, &txs)?)?;
+    let txids = txids(alloc, &txs)?;
+    let tree = tree_of(alloc, leaves(alloc, &txids)?)?;
     if tree.root != hash_in(header, 36) {
         return Err(FeedFault::Merkle(height));
     }
@@ -225,6 +231,7 @@ fn sealed(alloc: Global, height: u32, header: &[u8], txs: Vec<Tx>) -> Result<Blo
         height,
         hash: hash_of(header),
         txs,
+        txids,
     })
 }
 

@@ -3,6 +3,7 @@
 ghost use Rattle.std.specs.Prelude.{ℕ, ◌≡◌, ◌+◌, ◌<◌, ◌^◌, ◌++◌, ◌∷◌, [], IfOk, List, OnOk, Some, bytes_eq, length, map, if◌then◌else◌};
 ghost use Rattle.std.specs.Map.{lookup};
 ghost use Rattle.fund_base.specs.declared.outpoint.OutPoint.{OutPoint};
+ghost use Rattle.tx_codec.specs.Txid.{txid_of};
 ghost use Rattle.coin_book.specs.Coins.{made_by};
 ghost use Rattle.coin_book.specs.Faults.{points, fault_behind};
 ghost use Rattle.coin_book.specs.History.{Confirmed, confirmed_at};
@@ -16,7 +17,7 @@ use crate::ledger::{Ledger, Weights, add_coins, add_spends};
 use crate::making::held_in;
 use fund_base::{Memory, Txid};
 use std::alloc::Global;
-use tx_codec::{Tx, TxIn, txid};
+use tx_codec::{Tx, TxIn};
 
 impl Ledger {
     /// Whether a transaction of this txid stands here or in the other ledger.
@@ -46,7 +47,7 @@ impl Ledger {
         Ok(())
     }
 
-    /// Adds the transaction that stands behind these and those of `base`, at this height and place. RepeatCoin or Full
+    /// Adds the transaction that stands behind these and those of `base`, with its txid, height and place. RepeatCoin or Full
     /// comes exactly where an outpoint would be a coin twice or a coin be number 100,001, by the first coin of which this
     /// is so.
     pub fn add(
@@ -55,31 +56,25 @@ impl Ledger {
         base: &Ledger,
         weights: &Weights,
         tx: &Tx,
-        height: u32,
-        place: u64,
+        spend: &Spend,
     ) -> Result<(), BookFault>
-        ensures holds { (before behind : List Confirmed) → HoldsChain (weigher weights.now.entries) [] before base.now → HoldsChain (weigher weights.now.entries) before behind self.old → place ≡ length (before ++ behind)
-            → OnOk result (HoldsChain (weigher weights.now.entries) before (behind ++ confirmed_at height tx.now ∷ []) self.new) }
+        requires { spend.now.txid ≡ txid_of tx.now }
+        ensures holds { (before behind : List Confirmed) → HoldsChain (weigher weights.now.entries) [] before base.now → HoldsChain (weigher weights.now.entries) before behind self.old → spend.now.place ≡ length (before ++ behind)
+            → OnOk result (HoldsChain (weigher weights.now.entries) before (behind ++ confirmed_at spend.now.height tx.now ∷ []) self.new) }
         ensures exact { (before behind : List Confirmed) → HoldsChain (weigher weights.now.entries) [] before base.now → HoldsChain (weigher weights.now.entries) before behind self.old
-            → Meets result (fault_behind (points_in (weigher weights.now.entries) before ++ points_in (weigher weights.now.entries) behind) (points (made_by (weigher weights.now.entries) (confirmed_at height tx.now)))) }
+            → Meets result (fault_behind (points_in (weigher weights.now.entries) before ++ points_in (weigher weights.now.entries) behind) (points (made_by (weigher weights.now.entries) (confirmed_at spend.now.height tx.now)))) }
     {
-        let txid = txid(tx);
-        let held = held_in(alloc, weights, tx, txid, Some(height))?;
+        let held = held_in(alloc, weights, tx, spend.txid, Some(spend.height))?;
         match add_coins(&mut self.coins, &base.coins, held) {
             Ok(()) => {}
             Err(fault) => return Err(fault),
         }
-        let spend = Spend {
-            txid,
-            height,
-            place,
-        };
-        self.add_spender(alloc, base, &tx.inputs, &spend)?;
+        self.add_spender(alloc, base, &tx.inputs, spend)?;
         Ok(())
     }
 }
 
-/// A ledger of transactions at one height, which stand behind those of `base`, the first at this place. RepeatCoin or
+/// A ledger of transactions of these txids at one height, which stand behind those of `base`, the first at this place. RepeatCoin or
 /// Full comes exactly where an outpoint would be a coin twice or a coin be number 100,001, by the first coin of which
 /// this is so.
 pub fn ledger_behind(
@@ -87,10 +82,12 @@ pub fn ledger_behind(
     base: &Ledger,
     weights: &Weights,
     txs: &[Tx],
+    txids: &[Txid],
     height: u32,
     first: u64,
 ) -> Result<Ledger, BookFault>
-    requires { first + length txs.now < 2 ^ 64 }
+    requires room { first + length txs.now < 2 ^ 64 }
+    requires txids { txids.now ≡ map txid_of txs.now }
     ensures holds { (before : List Confirmed) → HoldsChain (weigher weights.now.entries) [] before base.now → first ≡ length before
         → IfOk result (λ l. HoldsChain (weigher weights.now.entries) before (map (confirmed_at height) txs.now) l) }
     ensures exact { (before : List Confirmed) → HoldsChain (weigher weights.now.entries) [] before base.now → first ≡ length before
@@ -98,14 +95,12 @@ pub fn ledger_behind(
 {
     let mut ledger = Ledger::new(alloc);
     for index in 0..txs.len() {
-        match ledger.add(
-            alloc,
-            base,
-            weights,
-            &txs[index],
+        let spend = Spend {
+            txid: txids[index],
             height,
-            first + index as u64,
-        ) {
+            place: first + index as u64,
+        };
+        match ledger.add(alloc, base, weights, &txs[index], &spend) {
             Ok(()) => {}
             Err(fault) => return Err(fault),
         }

@@ -113,6 +113,7 @@ impl Book {
             ledger,
             weights,
             &block.txs,
+            block.txids(),
             block.height,
             self.count,
         ) {

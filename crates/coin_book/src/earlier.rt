@@ -7,11 +7,13 @@ ghost use Rattle.coin_book.specs.History.{confirmed_before};
 ghost use Rattle.coin_book.specs.Kept.{HoldsChain, points_in, weigher};
 ghost use Rattle.coin_book.specs.Steps.{Meets};
 
+use crate::coin::Spend;
 use crate::fault::BookFault;
 use crate::ledger::{Ledger, Weights};
 use fund_base::Memory;
 use indexmap::IndexMap;
 use std::alloc::Global;
+use tx_codec::txid;
 use wallet_text::{Earlier, Watch};
 
 /// The listed scripts with their weights.
@@ -38,7 +40,12 @@ pub fn ledger_of(alloc: Global, weights: &Weights, earlier: &[Earlier]) -> Resul
     let mut ledger = Ledger::new(alloc);
     for index in 0..earlier.len() {
         let entry = &earlier[index];
-        match ledger.add(alloc, &base, weights, &entry.tx, entry.height, index as u64) {
+        let spend = Spend {
+            txid: txid(&entry.tx),
+            height: entry.height,
+            place: index as u64,
+        };
+        match ledger.add(alloc, &base, weights, &entry.tx, &spend) {
             Ok(()) => {}
             Err(fault) => return Err(fault),
         }

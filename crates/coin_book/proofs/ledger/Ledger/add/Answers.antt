@@ -18,13 +18,13 @@ returns-clause-exact c = λ before behind under h.
 
 pub returns-clause-holds : goal.returns-clause-holds
 returns-clause-holds c = λ before behind under h at.
-    chain_more (weigher c.args.weights.now.entries) before behind c.args.base.now c.args.self.now c.add_spender.new.self (confirmed_at c.args.height c.args.tx.now) c.in_ok-held.held.items _
-    under h (λ k. record { txid = c.txid-txid.ensures k; height = c.args.height; place = at k }) c.in_ok-held.ensures
+    chain_more (weigher c.args.weights.now.entries) before behind c.args.base.now c.args.self.now c.add_spender.new.self (confirmed_at c.args.spend.now.height c.args.tx.now) c.in_ok-held.held.items _
+    under h (λ k. record { txid = c.requires k; height = c.args.spend.now.height; place = at k }) c.in_ok-held.ensures
     ((λ k. (c.in_ok-add_spender.ensures.coins k).entries) ∙ c.in-Ok.ensures.added)
     (record {
       heights = c.in_ok-add_spender.ensures.heights;
       spends = λ o.
           c.in_ok-add_spender.ensures.spends o
-          ∙ ap (λ (inputs : List TxIn). spends_in c.args.self.now.spends.entries o ++ cond (is_known c.args.base.now c.args.self.now c.txid-txid.result) [] (cond (has_input o inputs) (record { txid = c.txid-txid.result; height = c.args.height; place = c.args.place } ∷ []) []))
+          ∙ ap (λ (inputs : List TxIn). spends_in c.args.self.now.spends.entries o ++ cond (is_known c.args.base.now c.args.self.now c.args.spend.now.txid) [] (cond (has_input o inputs) (c.args.spend.now ∷ []) []))
           (c.deref.ensures.value ∙ ap (λ (t : Transaction). t.inputs) c.tx.view_is);
     })
