@@ -1,0 +1,57 @@
+#!/usr/bin/env bash
+# Times a payment of 100 listed coins from a wallet of 10,000 coins over 64 MiB of blocks by crates/fund_cli, the best of
+# three, and prints the seconds, the greatest memory, and the shares of its processor time by what was done, as Linux' perf
+# samples them. The ladder has six rows, so six pools are made. A step that fails ends it with a non-zero status; a time
+# never does.
+#
+# usage: bench/fund.sh [SEED]
+set -euo pipefail
+export LC_ALL=C
+
+top=$(cd "$(dirname "$0")/.." && pwd)
+program=$top/crates/fund_cli/out/fund_cli
+folder=$(mktemp -d)
+trap 'rm -rf "$folder"' EXIT
+
+# Proves and builds the program, and runs it on a small file of its folder data/.
+cd "$top/crates/fund_cli"
+rt run -- coins data/wallet.json data/blocks.dat >"$folder/small.txt" 2>"$folder/build.log" || { cat "$folder/build.log" >&2; exit 1; }
+[ -s "$folder/small.txt" ]
+
+cd "$folder"
+python3 "$top/bench/make_fund.py" wallet.json blocks.dat request.json --seed "${1:-1}"
+python3 - "$program" <<'PYTHON'
+import collections, re, resource, subprocess, sys, time
+
+command = [sys.argv[1], "fund", "wallet.json", "blocks.dat", "request.json", "log"]
+best = None
+for _ in range(3):
+    start = time.monotonic()
+    printed = subprocess.run(command, check=True, capture_output=True).stdout
+    best = min(best or 1e9, time.monotonic() - start)
+assert printed.startswith(b"funded given\n") and printed.count(b"\nin ") == 100, printed[:100]
+memory = resource.getrusage(resource.RUSAGE_CHILDREN).ru_maxrss // 1024
+print(f"time: {best:.2f} s, {memory} MiB of memory, load {open('/proc/loadavg').read().split()[0]}")
+
+SHARES = (
+    ("hashing", r"sha2::"),
+    ("system, reading files and pages of memory", r"\[k\]"),
+    ("memory: taken, given back, moved", r"libc\.so|rattle_alloc|Destruct::drop|std_alloc::"),
+    ("pools and plan", r"output_groups::|fund_plan::|fee_rates::|core::slice::(sort|edits)"),
+    ("states and candidates", r"payment_states::"),
+    ("book of coins", r"coin_book::|indexmap::"),
+    ("JSON and hex", r"serde_json|\bjson|json_fields::|wallet_text::|request_text::|\bhex::"),
+    ("reading transactions and blocks", r"tx_codec::|block_feed::|fund_base::|fund_top::blocks"),
+)
+subprocess.run(["perf", "record", "-q", "-F", "4999", "-o", "perf.data", *command], check=True, stdout=subprocess.DEVNULL)
+report = subprocess.run(["perf", "report", "-i", "perf.data", "--no-children", "--stdio"], check=True, capture_output=True, text=True).stdout
+shares, rest = collections.Counter(), 0.0
+for line in report.splitlines():
+    found = re.match(r"\s+([0-9.]+)%\s+(.*)", line)
+    if found:
+        share, name = float(found[1]), found[2]
+        which = next((what for what, form in SHARES if re.search(form, name)), "the rest")
+        shares[which] += share
+for what, share in shares.most_common():
+    print(f"{share:5.1f} %  {what}")
+PYTHON

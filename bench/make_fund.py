@@ -1,0 +1,93 @@
+#!/usr/bin/env python3
+"""Writes a wallet file, a block file and a request for a payment from many coins, made from a seed alone.
+
+usage: make_fund.py WALLET BLOCKS REQUEST [--seed N] [--coins N] [--bytes N] [--listed N]
+
+Half of the --coins coins are outputs of earlier transactions of the wallet, 20 each, and half of them are outputs of
+payments in the blocks. The blocks are filled up with other payments until the file has at least --bytes bytes. The
+request lists --listed coins and pays a third of what they are worth; its ladder has six rows. The same words give the
+same bytes.
+"""
+
+import argparse
+import json
+import random
+import struct
+
+from make_blocks import MAGIC, coinbase, compact_size, double_sha256, merkle_root, spend, string
+
+OUTPUTS = 20
+SCRIPTS = 100
+BLOCK_BYTES = 1_000_000
+
+
+def payment(rng, scripts):
+    """A payment to the wallet, its txid, and what its outputs are worth."""
+    values = [rng.randrange(10_000, 1_000_000) for _ in range(OUTPUTS)]
+    outputs = b"".join(struct.pack("<Q", value) + string(rng.choice(scripts)) for value in values)
+    start = struct.pack("<I", 2) + b"\x01" + rng.randbytes(32) + bytes(4) + b"\x00" + b"\xfd\xff\xff\xff"
+    text = start + compact_size(OUTPUTS) + outputs + bytes(4)
+    return text, double_sha256(text)[::-1].hex(), values
+
+
+def write_blocks(rng, name, payments, wanted):
+    """Blocks of payments and of others; how many blocks and transactions there are."""
+    previous, height, count, written = bytes(32), 0, 0, 0
+    share = -(-len(payments) // max(1, -(-wanted // BLOCK_BYTES)))
+    with open(name, "wb") as file:
+        while payments or written < wanted:
+            height += 1
+            txs = [coinbase(rng, height)] + payments[:share]
+            payments = payments[share:]
+            size = 88 + sum(map(len, txs))
+            while size < min(BLOCK_BYTES, wanted - written):
+                txs.append(spend(rng))
+                size += len(txs[-1])
+            root = merkle_root([double_sha256(tx) for tx in txs])
+            header = struct.pack("<I", 4) + previous + root + struct.pack("<III", 1_231_006_505 + 600 * height, 0x207FFFFF, 0)
+            body = header + compact_size(len(txs)) + b"".join(txs)
+            previous = double_sha256(header)
+            file.write(MAGIC + struct.pack("<I", len(body)) + body)
+            written += 8 + len(body)
+            count += len(txs)
+    return height, count
+
+
+def main():
+    words = argparse.ArgumentParser(description="Writes the files of a payment from many coins.")
+    for name in ("wallet", "blocks", "request"):
+        words.add_argument(name)
+    words.add_argument("--seed", type=int, default=1)
+    words.add_argument("--coins", type=int, default=10_000)
+    words.add_argument("--bytes", type=int, default=64 * 1024 * 1024)
+    words.add_argument("--listed", type=int, default=100)
+    words = words.parse_args()
+    rng = random.Random(words.seed)
+
+    scripts = [b"\x00\x14" + rng.randbytes(20) for _ in range(SCRIPTS)]
+    made = [payment(rng, scripts) for _ in range(words.coins // OUTPUTS)]
+    earlier, later = made[: len(made) // 2], made[len(made) // 2 :]
+
+    watched = [{"script": script.hex(), "weight": 272} for script in scripts]
+    wallet = {
+        "height": 0, "hash": "00" * 32, "scripts": watched, "change": watched[0],
+        "earlier": [{"tx": text.hex(), "height": 0} for text, _, _ in earlier], "pending": [],
+    }
+    with open(words.wallet, "w") as file:
+        json.dump(wallet, file)
+
+    blocks, count = write_blocks(rng, words.blocks, [text for text, _, _ in later], words.bytes)
+
+    coins = [(f"{txid}:{place}", value) for _, txid, values in made for place, value in enumerate(values)]
+    listed = rng.sample(coins, words.listed)
+    request = {
+        "recipients": [{"script": "0014" + rng.randbytes(20).hex(), "amount": sum(value for _, value in listed) // 3}],
+        "rate": 10_000, "method": "manual", "zero_conf": True, "coins": [name for name, _ in listed],
+    }
+    with open(words.request, "w") as file:
+        json.dump(request, file)
+    print(f"{len(coins)} coins, {blocks} blocks, {count} transactions")
+
+
+if __name__ == "__main__":
+    main()
