@@ -13,6 +13,7 @@ use Rattle.std.proofs.lemmas.Slice.Eq.{bytes_eq-Decides}
 use Rattle.std.proofs.lemmas.Str.{digit_value_digit}
 use Rattle.std.proofs.lemmas.Str.Parse.{numerals_by_value, tells_digits, digit_at, digits_value-take-le}
 use Rattle.std.proofs.lemmas.Int.Digits.{digits_more, digits_value_more}
+use Rattle.std.proofs.lemmas.Option.{cond_some}
 use Rattle.fund_base.specs.Decimal.{number_of}
 
 -- what is known of the digits that were read
@@ -39,10 +40,6 @@ ends text i n most lt so_far refused all =
 
 -- ---- the number that a text spells
 
-chosen_if : {A : Type 0} (b : Bool) (x y : A) → cond b (Some x) None ≡ Some y → (b ≡ true) × (x ≡ y)
-chosen_if true x y e = (refl, cc)
-chosen_if false x y e = absurd cc
-
 none_if : {A : Type 0} (b : Bool) (x : A) → (b ≡ true → ⊥) → cond b (Some x) None ≡ None
 none_if true x never = absurd (never refl)
 none_if false x never = refl
@@ -54,7 +51,7 @@ pub found : (most : ℕ) (text : List ℕ) (n : ℕ) → number_of most text ≡
 unfolding number_of
 found most text n e =
     let v = digits_value 10 text in
-    let c = chosen_if (nat_le v most && bytes_eq text (decimal v)) v n e in
+    let c = cond_some (nat_le v most && bytes_eq text (decimal v)) v n e in
     let t = (tells most v text).0 c.0 in
     subst (λ k. (text ≡ decimal k) × (k ≤ most)) c.1 (t.1, t.0)
 

@@ -149,7 +149,7 @@ wide_again w limit wide least lead n at rest lt le is =
     }
 
 -- the four spellings
-compact1 : (n : ℕ) → n < 253 → compact n ≡ n ∷ []
+pub compact1 : (n : ℕ) → n < 253 → compact n ≡ n ∷ []
 unfolding compact
 compact1 n lt = rw (lt-ltb n 253 lt) refl
 

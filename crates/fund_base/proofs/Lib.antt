@@ -2,6 +2,7 @@ pub mod Counts
 pub mod Decimals
 pub mod Laws
 pub mod LawsOfNumbers
+pub mod Lists
 pub mod OutpointLaws
 pub mod Outside
 pub mod Parts

@@ -1,5 +1,5 @@
 -- Outpoints as values that are compared and ordered.
-use Rattle.std.specs.Prelude.{ℕ, ◌==◌, ◌&&◌, Bool, List, bytes_eq}
+use Rattle.std.specs.Prelude.{◌==◌, ◌&&◌, Bool, bytes_eq}
 use Rattle.std.specs.Ordering.{nat_cmp, ordering_then}
 use Rattle.std.specs.declared.cmp.Ordering.{Ordering}
 use Rattle.std.specs.Cmp.Lexicographic.{slice_cmp}

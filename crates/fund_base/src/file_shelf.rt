@@ -1,6 +1,7 @@
 //! The files of the system.
 
-ghost use Rattle.std.specs.Prelude.{◌≡◌, ◌≤◌, ℕ, List, [], length, IfOk};
+ghost use Rattle.std.specs.Prelude.{◌≡◌, ◌≢◌, ◌≤◌, ℕ, List, [], length, IfOk, OnOk, IsErrOf, Err};
+ghost use Rattle.fund_base.specs.Causes.{Rose, NeverFall, one_more};
 
 use crate::shelf::{Fault, Shelf};
 use std::fs;
@@ -47,7 +48,19 @@ impl<R: Files + Drop> Shelf for FileShelf<R> {
 
     ghost view = { view_of };
 
-    fn read_at(&mut self, name: &str, at: u64, buf: &mut [u8]) -> Result<usize, Fault> {
+    fn read_at(&mut self, name: &str, at: u64, buf: &mut [u8]) -> Result<usize, Fault>
+        requires { at ≤ 1073741824 }
+        ensures bound { IfOk result (λ n. n ≤ length buf.new) }
+        ensures reads { NeverFall (view_of self.old).reads (view_of self.new).reads }
+        ensures writes { (view_of self.new).writes ≡ (view_of self.old).writes }
+        ensures cause { IsErrOf result Fault.Failed → Rose ((view_of self.old).reads name.now) ((view_of self.new).reads name.now) }
+        ensures unfailed { OnOk result ((view_of self.new).reads ≡ (view_of self.old).reads) }
+        ensures short { IsErrOf result Fault.Memory → (view_of self.new).reads ≡ (view_of self.old).reads }
+
+        // Whatever the system's error is, it is told as a failure.
+        ensures counted { IsErrOf result Fault.Failed → (view_of self.new).reads name.now ≡ one_more ((view_of self.old).reads name.now) }
+        ensures failed { result ≢ Err Fault.Memory }
+    {
         match read_piece(&self.rt, name, at, buf) {
             Ok(count) => Ok(count),
             Err(_) => {
@@ -57,7 +70,17 @@ impl<R: Files + Drop> Shelf for FileShelf<R> {
         }
     }
 
-    fn write_file(&mut self, name: &str, bytes: &[u8]) -> Result<(), Fault> {
+    fn write_file(&mut self, name: &str, bytes: &[u8]) -> Result<(), Fault>
+        ensures reads { (view_of self.new).reads ≡ (view_of self.old).reads }
+        ensures writes { NeverFall (view_of self.old).writes (view_of self.new).writes }
+        ensures cause { IsErrOf result Fault.Failed → Rose ((view_of self.old).writes name.now) ((view_of self.new).writes name.now) }
+        ensures unfailed { OnOk result ((view_of self.new).writes ≡ (view_of self.old).writes) }
+        ensures short { IsErrOf result Fault.Memory → (view_of self.new).writes ≡ (view_of self.old).writes }
+
+        // Whatever the system's error is, it is told as a failure.
+        ensures counted { IsErrOf result Fault.Failed → (view_of self.new).writes name.now ≡ one_more ((view_of self.old).writes name.now) }
+        ensures failed { result ≢ Err Fault.Memory }
+    {
         match fs::write(&self.rt, name, bytes) {
             Ok(()) => Ok(()),
             Err(_) => {

@@ -3,6 +3,7 @@
 #![tactic(auto)]
 
 mod candidate;
+mod comparing;
 mod cursor;
 mod decimal;
 mod failures;
@@ -24,6 +25,7 @@ mod sure_sink;
 mod writer;
 
 pub use candidate::Candidate;
+pub use comparing::compare_outpoints;
 pub use cursor::{Cursor, CutFault};
 pub use decimal::{read_decimal, reads_decimals};
 pub use failures::Failures;

@@ -1,6 +1,6 @@
 //! Files in memory, of which some reads and writes fail.
 
-ghost use Rattle.std.specs.Prelude.{◌≡◌, ◌≤◌, ◌+◌, List, ℕ, length, option_copied, IfOk, OnOk, OnErr, IsErrOf, IsTrue, IsFalse};
+ghost use Rattle.std.specs.Prelude.{◌≡◌, ◌≢◌, ◌≤◌, ◌+◌, List, ℕ, length, option_copied, IfOk, OnOk, OnErr, IsErrOf, IsTrue, IsFalse};
 ghost use Rattle.fund_base.specs.Causes.{Rose, NeverFall, IsRead, SameElsewhere};
 ghost use Rattle.fund_base.specs.Failures.{is_due, after_call};
 ghost use Rattle.fund_base.specs.Files.{file_of, bytes_of, times};
@@ -57,10 +57,11 @@ impl MemShelf {
 }
 
 // The failure of a call that was given this name, once it is counted. Without memory it isn't.
-#[tactic(auto, using(crate::proofs::Counts::times_push, crate::proofs::Counts::times_grow))]
+#[tactic(auto, using(crate::proofs::Counts::times_push, crate::proofs::Counts::times_other, crate::proofs::Counts::times_grow))]
 fn failure(alloc: Global, names: &mut Vec<String>, name: &str) -> Fault
     ensures counted { result ≡ Fault.Failed → times name.now names.new.items ≡ times name.now names.old.items + 1 }
-    ensures others { (other : List ℕ) → times other names.old.items ≤ times other names.new.items }
+    ensures grow { (other : List ℕ) → times other names.old.items ≤ times other names.new.items }
+    ensures others { (other : List ℕ) → other ≢ name.now → times other names.new.items ≡ times other names.old.items }
     ensures memory { result ≡ Fault.Memory → names.new.items ≡ names.old.items }
 {
     let Ok(name) = String::from_str(alloc, name) else {
@@ -89,6 +90,8 @@ impl Shelf for MemShelf {
         ensures cause { IsErrOf result Fault.Failed → Rose ((view_of self.old).reads name.now) ((view_of self.new).reads name.now) }
         ensures unfailed { OnOk result ((view_of self.new).reads ≡ (view_of self.old).reads) }
         ensures short { IsErrOf result Fault.Memory → (view_of self.new).reads ≡ (view_of self.old).reads }
+        ensures counted { IsErrOf result Fault.Failed → (view_of self.new).reads name.now ≡ (view_of self.old).reads name.now + 1 }
+        ensures alone { (other : List ℕ) → other ≢ name.now → (view_of self.new).reads other ≡ (view_of self.old).reads other }
 
         // Want of memory may take the place of a failure that is due.
         ensures failed { IsErrOf result Fault.Failed → IsTrue (read_fails self.old name.now) }
@@ -114,6 +117,8 @@ impl Shelf for MemShelf {
         ensures cause { IsErrOf result Fault.Failed → Rose ((view_of self.old).writes name.now) ((view_of self.new).writes name.now) }
         ensures unfailed { OnOk result ((view_of self.new).writes ≡ (view_of self.old).writes) }
         ensures short { IsErrOf result Fault.Memory → (view_of self.new).writes ≡ (view_of self.old).writes }
+        ensures counted { IsErrOf result Fault.Failed → (view_of self.new).writes name.now ≡ (view_of self.old).writes name.now + 1 }
+        ensures alone { (other : List ℕ) → other ≢ name.now → (view_of self.new).writes other ≡ (view_of self.old).writes other }
 
         // Want of memory may take the place of a failure that is due.
         ensures failed { IsErrOf result Fault.Failed → IsTrue (is_due (write_plan self.old)) }

@@ -1,7 +1,7 @@
 //! Bytes put in memory, where some puts fail.
 
 ghost use Rattle.std.specs.Prelude.{◌≡◌, ◌≤◌, ◌↔◌, ◌++◌, [], length, take, IfOk, OnOk, OnErr, IsErrOf, IsTrue};
-ghost use Rattle.fund_base.specs.Causes.{Rose};
+ghost use Rattle.fund_base.specs.Causes.{Rose, one_more};
 ghost use Rattle.fund_base.specs.Failures.{is_due, after_call};
 
 use crate::failures::Failures;
@@ -64,6 +64,8 @@ impl Sink for MemSink {
         ensures failed_alone { IsErrOf result Fault.Failed → (view_of self.new).refusals ≡ (view_of self.old).refusals }
         ensures refused_alone { IsErrOf result Fault.Memory → (view_of self.new).faults ≡ (view_of self.old).faults }
 
+        ensures counted { IsErrOf result Fault.Failed → (view_of self.new).faults ≡ one_more (view_of self.old).faults }
+        ensures counted_short { IsErrOf result Fault.Memory → (view_of self.new).refusals ≡ one_more (view_of self.old).refusals }
         ensures failed { IsErrOf result Fault.Failed ↔ IsTrue (is_due (put_plan self.old)) }
         ensures whole { IfOk result (λ n. n ≡ length bytes.now) }
         ensures plan { put_plan self.new ≡ after_call (put_plan self.old) }

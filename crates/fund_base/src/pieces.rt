@@ -1,6 +1,6 @@
 //! Whole files read, and whole texts put, piece by piece.
 
-ghost use Rattle.std.specs.Prelude.{◌≡◌, ◌≤◌, ◌<◌, ◌++◌, vec_len, length, IfOk, OnOk, IsErrOf};
+ghost use Rattle.std.specs.Prelude.{◌≡◌, ◌≢◌, ◌≤◌, ◌<◌, ◌++◌, vec_len, length, IfOk, OnOk, IsErrOf, Err};
 ghost use Rattle.fund_base.specs.Causes.{Rose, NeverFall, HasPart};
 
 use crate::shelf::{Fault, Shelf};
@@ -61,7 +61,7 @@ pub fn read_whole<H: Shelf>(
     ensures reads { NeverFall (H.view shelf.old).reads (H.view shelf.new).reads }
     ensures writes { (H.view shelf.new).writes ≡ (H.view shelf.old).writes }
     ensures cause { IsErrOf result ReadError.Failed → Rose ((H.view shelf.old).reads name.now) ((H.view shelf.new).reads name.now) }
-    ensures unfailed { OnOk result ((H.view shelf.new).reads ≡ (H.view shelf.old).reads) }
+    ensures unfailed { result ≢ Err ReadError.Failed → (H.view shelf.new).reads ≡ (H.view shelf.old).reads }
 {
     let mut piece = room(alloc)?;
     read_pieces(alloc, shelf, name, limit, &mut piece)
@@ -91,7 +91,7 @@ fn read_pieces<H: Shelf>(
     ensures reads { NeverFall (H.view shelf.old).reads (H.view shelf.new).reads }
     ensures writes { (H.view shelf.new).writes ≡ (H.view shelf.old).writes }
     ensures cause { IsErrOf result ReadError.Failed → Rose ((H.view shelf.old).reads name.now) ((H.view shelf.new).reads name.now) }
-    ensures unfailed { OnOk result ((H.view shelf.new).reads ≡ (H.view shelf.old).reads) }
+    ensures unfailed { result ≢ Err ReadError.Failed → (H.view shelf.new).reads ≡ (H.view shelf.old).reads }
 {
     let mut bytes = Vec::new(alloc);
     'reading: while bytes.len() <= limit {
@@ -114,6 +114,8 @@ pub fn put_all<O: Sink>(out: &mut O, bytes: &[u8]) -> Result<(), Fault>
     ensures cause { IsErrOf result Fault.Failed → Rose (O.view out.old).faults (O.view out.new).faults }
     ensures unfailed { OnOk result ((O.view out.new).faults ≡ (O.view out.old).faults) }
     ensures unrefused { OnOk result ((O.view out.new).refusals ≡ (O.view out.old).refusals) }
+    ensures failed_alone { IsErrOf result Fault.Failed → (O.view out.new).refusals ≡ (O.view out.old).refusals }
+    ensures refused_alone { IsErrOf result Fault.Memory → (O.view out.new).faults ≡ (O.view out.old).faults }
 {
     let mut at = 0;
     'putting: while at < bytes.len() {

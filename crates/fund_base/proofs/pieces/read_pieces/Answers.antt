@@ -1,4 +1,4 @@
-use Rattle.std.proofs.Common.{ℕ, List, ◌∙◌, subst, arith}
+use Rattle.std.proofs.Common.{ℕ, List, ◌∙◌, subst}
 use Rattle.fund_base.specs.Causes.{IsRead}
 use Rattle.fund_base.proofs.Parts.{read_more}
 use Rattle.fund_base.proofs.pieces.read_pieces.Goals as goal
