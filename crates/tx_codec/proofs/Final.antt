@@ -140,7 +140,7 @@ final_by item carries bytes more fault e whole =
     ]
 
 -- a reading is no fault where it is a value
-apart : {A E : Type 0} (r : Result A E) (x : A) (e : E) → r ≡ Ok x → r ≡ Err e → ⊥
+pub apart : {A E : Type 0} (r : Result A E) (x : A) (e : E) → r ≡ Ok x → r ≡ Err e → ⊥
 apart r x e p q = absurd (cc (p, q))
 
 pub none_by : (item : At → Result (Transaction × At) TxFault) (Is : Transaction → Type 0) → Reads item text_of Is → ((more : List ℕ) (at : At) → Carries IsCut more (item at) (item (longer more at)))
@@ -150,7 +150,7 @@ none_by item Is laws carries bytes fault e whole more tx rest fits is =
     apart (item (start (bytes ++ more))) (tx, a.next) fault a.reads (final_by item carries bytes more fault e whole)
 
 -- a list with another behind it is empty only where both are
-no_more : (xs more : List ℕ) → xs ++ more ≡ [] → more ≡ []
+pub no_more : (xs more : List ℕ) → xs ++ more ≡ [] → more ≡ []
 no_more [] more e = e
 no_more (x ∷ xs) more e = absurd cc
 

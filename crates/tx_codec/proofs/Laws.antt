@@ -5,6 +5,7 @@ use Rattle.std.specs.Int.{w32, to_le_bytes}
 use Rattle.std.specs.List.{flat_map, AllByRecursion}
 use Rattle.std.proofs.lemmas.Bool.{eqb-true, ne_eqb, both_ways, cases_Bool}
 use Rattle.std.proofs.lemmas.List.Elements.{All-nil, All-cons, All-drop, All-weaker, All-from_recursion, recursion_from_All}
+use Rattle.fund_base.proofs.Lists.{regroup3}
 use Rattle.fund_base.specs.CompactSize.{compact, counted}
 use Rattle.fund_base.specs.Cursor.{At, IsBytes, after}
 use Rattle.fund_base.proofs.Laws.{bind_ok, bind_is, guard_ok, guard_met, ok_is, Takes, takes_then, Again, Reads}
@@ -66,9 +67,6 @@ legacy_takes version small at x fits e =
 
 regroup2 : (a b c rest : List ℕ) → (a ++ (b ++ c)) ++ rest ≡ a ++ (b ++ (c ++ rest))
 regroup2 a b c rest = simp append_assoc
-
-regroup3 : (a b c d rest : List ℕ) → (a ++ (b ++ (c ++ d))) ++ rest ≡ a ++ (b ++ (c ++ (d ++ rest)))
-regroup3 a b c d rest = simp append_assoc
 
 -- what a reader that ends here gives
 abbrev read : Transaction → At → Result (Transaction × At) TxFault

@@ -6,6 +6,7 @@ use Rattle.std.proofs.lemmas.Bool.{ltb-false, le-ltb, eqb-false, ne_eqb}
 use Rattle.std.proofs.lemmas.List.{append-nil}
 use Rattle.std.proofs.lemmas.List.Elements.{All-nil, All-from_recursion, recursion_from_All}
 use Rattle.std.proofs.lemmas.List.Sums.{sum_by-append, sum_by-cons, sum_by_push}
+use Rattle.fund_base.proofs.Lists.{regroup3}
 use Rattle.fund_base.specs.CompactSize.{compact, prefixed, counted}
 use Rattle.fund_base.specs.Cursor.{At, IsBytes, take_at as bytes_at, number_at, compact_at}
 use Rattle.fund_base.specs.Parsing.{string_at}
@@ -63,9 +64,6 @@ input_takes at x fits e =
     let made : TxIn × At = (record { prev = record { txid = a.0.0; index = b.0.0 }; script = c.0.0; sequence = d.0.0; witness = [] }, d.0.1) in
     let small : InputFits made.0 = record { txid_len = ta.1.0; txid = ta.1.1; index = tb.1; script = tc.1.0; script_len = tc.1.1; sequence = td.1; stack = All-nil StringFits; stack_len = omega arith } in
     subst (λ (y : TxIn × At). Takes at (input_text y.0) y.1 × BareFits y.0) (ok_is made x (Ok made) refl d.2) (ad, record { fits = small; bare = refl })
-
-regroup3 : (a b c d rest : List ℕ) → (a ++ (b ++ (c ++ d))) ++ rest ≡ a ++ (b ++ (c ++ (d ++ rest)))
-regroup3 a b c d rest = simp append_assoc
 
 abbrev read : TxIn → At → Result (TxIn × At) TxFault
 read i next = Ok (i, next)

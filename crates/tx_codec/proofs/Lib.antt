@@ -6,4 +6,4 @@ pub mod Longer
 pub mod Outputs
 pub mod Public
 pub mod Stacks
-pub mod Untrailed
+pub mod OwnFaults

@@ -8,7 +8,7 @@ use Rattle.fund_base.specs.Parsing.{whole_of, YieldsAll}
 use Rattle.fund_base.proofs.Laws.{bind_is, Reads}
 use Rattle.tx_codec.specs.Transaction.{Transaction}
 use Rattle.tx_codec.specs.TransactionText.{text_of, IsFollowed}
-use Rattle.tx_codec.proofs.Untrailed.{Untrailed}
+use Rattle.tx_codec.proofs.OwnFaults.{Untrailed}
 use Rattle.tx_codec.specs.declared.fault.TxFault.{TxFault}
 use Rattle.tx_codec.specs.declared.fault.TxFault.TheVariants.{Truncated, LongCompact, ValueRange, NoInputs, NoOutputs, BadFlag, EmptyWitness, Trailing, Memory}
 
