@@ -1,6 +1,6 @@
 -- What is read of a block file is its blocks' text, and that text is read as those blocks.
 use Rattle.std.proofs.Common.{◌≡◌, ℕ, ◌+◌, ◌^◌, ◌<◌, ◌≤◌, Bool, true, false, cond, not, ltb, eqb, List, [], ◌∷◌, ◌++◌, length, take, drop, map, All, Result, Ok, Err, Option, Some, None, refl, sym, ap, subst, ◌∙◌, arith, inl, inr}
-use Rattle.std.specs.Prelude.{◌==◌, ◌||◌, bytes_eq, IfOk}
+use Rattle.std.specs.Prelude.{◌==◌, bytes_eq, IfOk}
 use Rattle.std.specs.Int.{w32, to_le_bytes, from_le_bytes}
 use Rattle.fund_base.specs.CompactSize.{compact, counted}
 use Rattle.fund_base.specs.Cursor.{At, IsBytes, after, compact_at}
@@ -19,7 +19,7 @@ use Rattle.block_feed.specs.Block.{ChainBlock, IsBlock, IsLinked, previous_of, r
 use Rattle.block_feed.specs.Merkle.{double_sha256, merkle_root, is_mutated, IsRoot}
 use Rattle.block_feed.specs.Reading.{tx_fault, magic_at, sized_at, body_at, record_at, sealed_at, txs_at, counted_txs_at, block_at}
 use Rattle.std.specs.List.{flat_map, list_all}
-use Rattle.std.proofs.lemmas.Bool.{cases_Bool, not-false, not_from_true, ltb-false, le-ltb, eqb-true, eqb-false, ne_eqb, both_ways}
+use Rattle.std.proofs.lemmas.Bool.{cases_Bool, not-false, not_from_true, ltb-false, le-ltb, eqb-true, eqb-false, ne_eqb, both_ways, or_parts}
 use Rattle.std.proofs.lemmas.List.{take-append-drop, drop-drop, length-take-le, length-map, nil_from_length, append-nil, length-append}
 use Rattle.std.proofs.lemmas.List.Concat.{flat_map-cons}
 use Rattle.std.proofs.lemmas.List.Elements.{All-drop}
@@ -27,17 +27,10 @@ use Rattle.std.proofs.Math.Seq.{take-append_seam, drop-append_seam}
 use Rattle.std.proofs.lemmas.Bool.Decides.{Decides-by_and, Decides-eqb}
 use Rattle.std.specs.Bool.{Decides}
 use Rattle.block_feed.specs.BlockFile.{IsTail}
-use Rattle.std.proofs.lemmas.Slice.Eq.{bytes_eq-Decides}
+use Rattle.fund_base.proofs.Lists.{equal_bytes, same_bytes}
 use Rattle.fund_base.specs.Cursor.{take_at as bytes_at, number_at}
 use Rattle.fund_base.proofs.LawsOfNumbers.{bytes_reads}
 use Rattle.block_feed.proofs.TreeLaws.{merkle_root_is, root_is, mutated_is, is_found}
-
--- a list of two equal parts
-equal_bytes : (a b : List ℕ) → bytes_eq a b ≡ true → a ≡ b
-equal_bytes a b e = (bytes_eq-Decides a b).0 e
-
-same_bytes : (a b : List ℕ) → a ≡ b → bytes_eq a b ≡ true
-same_bytes a b e = (bytes_eq-Decides a b).1 e
 
 -- ---- the transactions of a block
 
@@ -57,7 +50,7 @@ txs_take height n at txs fits e =
     let whole : at.rest ≡ flat_map text_of a.0.0 = t.0.parts ∙ ap (λ (r : List ℕ). flat_map text_of a.0.0 ++ r) nothing ∙ append-nil (flat_map text_of a.0.0) in
     subst (λ (l : List Transaction). (at.rest ≡ flat_map text_of l) × ((length l ≡ n) × All IsTransaction l)) (ok_is a.0.0 txs (Ok a.0.0) refl g.1) (whole, t.1)
 
-counted_take : (height : ℕ) (at : At) (txs : List Transaction) → IsBytes at.rest → counted_txs_at height at ≡ Ok txs → IsList txs at.rest
+pub counted_take : (height : ℕ) (at : At) (txs : List Transaction) → IsBytes at.rest → counted_txs_at height at ≡ Ok txs → IsList txs at.rest
 unfolding counted_txs_at
 counted_take height at txs fits e =
     let a = bind_ok _ _ txs e in
@@ -75,7 +68,7 @@ txs_again height at txs each is =
     let nothing : length a.next.rest ≡ 0 = ap (λ (r : List ℕ). length r) a.left in
     bind_is _ _ _ _ (told_is (tx_fault height) (many_at tx_at (length txs) at) (txs, a.next) a.reads) (rw nothing refl)
 
-counted_again : (height : ℕ) (at : At) (txs : List Transaction) → length txs < 2 ^ 64 → IsList txs at.rest → counted_txs_at height at ≡ Ok txs
+pub counted_again : (height : ℕ) (at : At) (txs : List Transaction) → length txs < 2 ^ 64 → IsList txs at.rest → counted_txs_at height at ≡ Ok txs
 unfolding counted_txs_at
 counted_again height at txs small list =
     let a = count_reads.again (length txs) at (flat_map text_of txs) small list.text in
@@ -144,7 +137,7 @@ text_some t =
       | inr form ↦ rw (form, length-append) (omega arith)
     ]
 
-txs_few : (txs : List Transaction) → length txs ≤ length (flat_map text_of txs)
+pub txs_few : (txs : List Transaction) → length txs ≤ length (flat_map text_of txs)
 txs_few [] = omega arith
 txs_few (t ∷ txs) = let h = text_some t in let k = txs_few txs in rw (flat_map-cons, length-append) (omega arith)
 
@@ -171,7 +164,7 @@ block_again previous height bytes block small is =
 
 -- ---- the record of a block
 
-magic_takes : (longer : Bool) (place : ℕ) (rest after : List ℕ) → magic_at longer place rest ≡ Ok after → rest ≡ magic ++ after
+pub magic_takes : (longer : Bool) (place : ℕ) (rest after : List ℕ) → magic_at longer place rest ≡ Ok after → rest ≡ magic ++ after
 unfolding magic_at
 magic_takes longer place rest behind e =
     let a = guard_ok _ _ _ _ e in
@@ -180,7 +173,7 @@ magic_takes longer place rest behind e =
     let left : drop 4 rest ≡ behind = ok_is (drop 4 rest) behind (Ok (drop 4 rest)) refl b.1 in
     sym (take-append-drop 4 rest) ∙ ap (λ (l : List ℕ). l ++ drop 4 rest) here ∙ ap (λ (l : List ℕ). magic ++ l) left
 
-magic_again : (longer : Bool) (place : ℕ) (after : List ℕ) → magic_at longer place (magic ++ after) ≡ Ok after
+pub magic_again : (longer : Bool) (place : ℕ) (after : List ℕ) → magic_at longer place (magic ++ after) ≡ Ok after
 unfolding magic_at
 magic_again longer place behind =
     let long : ltb (length (magic ++ behind)) 4 ≡ false = le-ltb _ _ (omega arith) in
@@ -192,19 +185,15 @@ pub record IsSized (body bytes rest : List ℕ) : Type 0 where
   pub least : 81 ≤ length body
   pub most : length body ≤ 4_000_000
 
-or_neither : (a b : Bool) → (a || b) ≡ false → (a ≡ false) × (b ≡ false)
-or_neither true b e = absurd cc
-or_neither false b e = (refl, e)
-
 -- a number of four bytes
-number_again : (bytes rest : List ℕ) (n : ℕ) → n < 2 ^ 32 → bytes ≡ to_le_bytes w32 n ++ rest → (ltb (length bytes) 4 ≡ false) × (from_le_bytes w32 (take 4 bytes) ≡ n) × (drop 4 bytes ≡ rest)
+pub number_again : (bytes rest : List ℕ) (n : ℕ) → n < 2 ^ 32 → bytes ≡ to_le_bytes w32 n ++ rest → (ltb (length bytes) 4 ≡ false) × (from_le_bytes w32 (take 4 bytes) ≡ n) × (drop 4 bytes ≡ rest)
 number_again bytes rest n lt is =
     let a = number32_reads.again n (start bytes) rest lt is in
     let g = guard_ok _ _ _ _ a.reads in
     let same : (from_le_bytes w32 (take 4 bytes), after 4 (start bytes)) ≡ (n, a.next) = ok_is _ (n, a.next) (Ok (n, a.next)) (sym g.1 ∙ refl) refl in
     (g.0, ap (λ (p : ℕ × At). p.0) same, ap (λ (p : ℕ × At). p.1.rest) same ∙ a.left)
 
-number_takes : (bytes : List ℕ) → IsBytes bytes → ltb (length bytes) 4 ≡ false → bytes ≡ to_le_bytes w32 (from_le_bytes w32 (take 4 bytes)) ++ drop 4 bytes
+pub number_takes : (bytes : List ℕ) → IsBytes bytes → ltb (length bytes) 4 ≡ false → bytes ≡ to_le_bytes w32 (from_le_bytes w32 (take 4 bytes)) ++ drop 4 bytes
 number_takes bytes fits long =
     let read : number_at w32 (start bytes) ≡ Ok (from_le_bytes w32 (take 4 bytes), after 4 (start bytes)) = rw long refl in
     (number32_reads.takes (start bytes) (from_le_bytes w32 (take 4 bytes), after 4 (start bytes)) fits read).0.parts
@@ -213,7 +202,7 @@ sized_takes : (longer : Bool) (place size : ℕ) (bytes rest body : List ℕ) �
 unfolding sized_at
 sized_takes longer place size bytes rest body parts e =
     let b = guard_ok _ _ _ _ e in
-    let range = or_neither (ltb size 81) (ltb 4_000_000 size) b.0 in
+    let range = or_parts (ltb size 81) (ltb 4_000_000 size) b.0 in
     let c = guard_ok _ _ _ _ b.1 in
     let here : take size rest ≡ body = ok_is (take size rest) body (Ok (take size rest)) refl c.1 in
     let enough : size ≤ length rest = ltb-false (length rest) size c.0 in
@@ -253,17 +242,17 @@ body_again longer place bytes body rest sized =
 
 -- ---- nothing, or zero bytes alone
 
-tail_is : (bytes : List ℕ) → Decides (list_all (λ b. b == 0) bytes) (IsTail bytes)
+pub tail_is : (bytes : List ℕ) → Decides (list_all (λ b. b == 0) bytes) (IsTail bytes)
 tail_is bytes = Decides-by_and (λ b. b == 0) (λ b. b ≡ 0) (λ l. list_all (λ b. b == 0) l) (λ b. Decides-eqb b 0) refl (λ _ _. refl) bytes
 
 -- ---- a record
 
 -- the bytes of the block whose magic stands here
-abbrev body_in : Bool → ℕ → List ℕ → Result (Option (List ℕ)) FeedFault
+abbrev pub body_in : Bool → ℕ → List ℕ → Result (Option (List ℕ)) FeedFault
 body_in longer place rest = magic_at longer place rest >>= λ behind. body_at longer (place + 4) behind >>= λ body. Ok (Some body)
 
 -- and where nothing or zero bytes alone follow, none
-abbrev tail_or : Bool → Bool → Result (Option (List ℕ)) FeedFault → Result (Option (List ℕ)) FeedFault
+abbrev pub tail_or : Bool → Bool → Result (Option (List ℕ)) FeedFault → Result (Option (List ℕ)) FeedFault
 tail_or tail longer read = cond tail (cond longer (Err Limit) (Ok None)) read
 
 some_at : (longer tail : Bool) (read : Result (Option (List ℕ)) FeedFault) (body : List ℕ) → tail_or tail longer read ≡ Ok (Some body) → read ≡ Ok (Some body)

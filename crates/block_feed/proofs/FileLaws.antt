@@ -9,7 +9,7 @@ use Rattle.block_feed.specs.declared.fault.FeedFault.{FeedFault}
 use Rattle.block_feed.specs.Block.{ChainBlock, Begins}
 use Rattle.block_feed.specs.BlockFile.{IsBlockFile}
 use Rattle.block_feed.specs.Blocks.{blocks_from, blocks_of, with_rest}
-use Rattle.block_feed.specs.Feed.{FeedState, next_of, Gives, Moves, StandsBefore}
+use Rattle.block_feed.specs.Feed.{FeedState, next_of, Moves, StandsBefore}
 use Rattle.block_feed.proofs.FeedLaws.{file_again, file_found, file_moves, file_none, none_file}
 
 abbrev answer : List ChainBlock → Result (List ChainBlock) FeedFault

@@ -5,3 +5,6 @@ pub mod BlockLaws
 pub mod FeedLaws
 pub mod Limits
 pub mod FileLaws
+pub mod Failing
+pub mod Refusals
+pub mod Refused

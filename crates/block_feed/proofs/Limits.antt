@@ -1,5 +1,5 @@
 -- Where no byte lies behind the limit, its fault never comes.
-use Rattle.std.proofs.Common.{◌≡◌, ℕ, Bool, true, false, cond, List, Result, Ok, Err, Option, Some, None, refl, ap, ◌∙◌, ltb, length, take, ◌<◌}
+use Rattle.std.proofs.Common.{◌≡◌, ℕ, zero, suc, Bool, true, false, cond, List, [], ◌∷◌, Result, Ok, Err, Option, Some, None, refl, sym, ap, subst, ◌∙◌, ltb, length, take, ◌<◌}
 use Rattle.std.proofs.lemmas.Bool.{ltb-true}
 use Rattle.fund_base.specs.Cursor.{At, take_at, compact_at}
 use Rattle.fund_base.specs.Parsing.{◌>>=◌, fault_as, many_at}
@@ -10,8 +10,9 @@ use Rattle.tx_codec.specs.Transaction.{Transaction}
 use Rattle.block_feed.specs.declared.fault.FeedFault.{FeedFault}
 use Rattle.block_feed.specs.declared.fault.FeedFault.TheVariants.{Magic, Length, Merkle, Mutated, NotLinked, Trailing, Empty, Limit}
 use Rattle.block_feed.specs.Block.{ChainBlock, previous_of}
+use Rattle.block_feed.specs.Blocks.{blocks_from, blocks_of, with_rest}
 use Rattle.block_feed.specs.Reading.{tx_fault, magic_at, sized_at, body_at, record_at, sealed_at, txs_at, counted_txs_at, block_at}
-use Rattle.block_feed.specs.Feed.{FeedState, linked_at, next_in, Gives}
+use Rattle.block_feed.specs.Feed.{FeedState, linked_at, most, next_in, Gives}
 
 -- not the fault of the limit
 record Within {A : Type 0} (read : Result A FeedFault) : Type 0 where
@@ -99,3 +100,26 @@ gives_limit m file old new (Err d) gives is =
     let limit : d ≡ Limit = is_limit d (Err d) refl is in
     let stopped : next_in (ltb m (length file)) (take m file) old.hash old.height old.place ≡ Err d = gives (λ e. absurd cc) (λ e. absurd cc) in
     ltb-true m (length file) (limit_longer (ltb m (length file)) (take m file) old.hash old.height old.place (stopped ∙ ap (λ (c : FeedFault). Err c) limit))
+
+-- ---- a whole file
+
+-- the blocks behind one that was read
+behind_within : (rest : ChainBlock → ℕ → Result (List ChainBlock) FeedFault) → ((block : ChainBlock) (place : ℕ) → Within (rest block place)) → (read : Option (ChainBlock × ℕ)) → Within (with_rest rest read)
+behind_within rest h None = given []
+behind_within rest h (Some read) = then _ _ (h read.0 read.1) (λ blocks. given (read.0 ∷ blocks))
+
+from_within : (n : ℕ) (file hash : List ℕ) (height place : ℕ) → ltb most (length file) ≡ false → Within (blocks_from n file hash height place)
+unfolding blocks_from
+from_within zero file hash height place short = given []
+from_within (suc n) file hash height place short =
+    let first : Within (next_in (ltb most (length file)) (take most file) hash height place) = subst (λ (longer : Bool). Within (next_in longer (take most file) hash height place)) (sym short) (next_within (take most file) hash height place) in
+    then _ _ first (behind_within (λ block behind. blocks_from n file block.hash block.height behind) (λ block behind. from_within n file block.hash block.height behind short))
+
+-- the fault of the limit is that of a file that is longer
+pub blocks_limit : (file hash : List ℕ) (height : ℕ) → blocks_of file hash height ≡ Err Limit → 1_073_741_824 < length file
+unfolding blocks_of
+blocks_limit file hash height e = by (ltb most (length file)) refl
+  where
+    by : (b : Bool) → ltb most (length file) ≡ b → 1_073_741_824 < length file
+    by true longer = ltb-true 1_073_741_824 (length file) longer
+    by false short = absurd ((from_within (suc (length file)) file hash height 0 short).never e)

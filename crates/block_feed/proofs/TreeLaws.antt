@@ -1,7 +1,7 @@
 -- The root and the mutation that are worked out are those of the levels.
-use Rattle.std.proofs.Common.{◌≡◌, ℕ, zero, suc, ◌+◌, ◌*◌, ◌≤◌, ◌<◌, Bool, true, false, ltb, List, [], ◌∷◌, length, get_or, refl, sym, ap, subst, ◌∙◌, arith, inl, inr, add-one}
+use Rattle.std.proofs.Common.{◌≡◌, ℕ, zero, suc, ◌+◌, ◌*◌, ◌≤◌, ◌<◌, true, false, ltb, List, [], ◌∷◌, length, get_or, refl, sym, ap, subst, ◌∙◌, arith, inl, inr, add-one}
 use Rattle.std.specs.Prelude.{◌||◌, bytes_eq}
-use Rattle.std.proofs.lemmas.Bool.{cases_Bool, lt-ltb, le-ltb, ltb-true, ltb-false, or_cases, both_ways}
+use Rattle.std.proofs.lemmas.Bool.{cases_Bool, lt-ltb, le-ltb, ltb-true, ltb-false, or_cases, both_ways, or_right, or_left}
 use Rattle.std.proofs.lemmas.Slice.Eq.{bytes_eq-Decides}
 use Rattle.block_feed.specs.Merkle.{level_above, level, has_twins, root_within, merkle_root, mutated_within, is_mutated, IsRoot, IsMutated}
 use Rattle.block_feed.proofs.Trees.{shorter}
@@ -88,14 +88,6 @@ twins_found (left ∷ right ∷ hashes) e =
       | inl same ↦ record { place = 0; there = omega arith; equal = (bytes_eq-Decides left right).0 same }
       | inr later ↦ twins_behind left right hashes (twins_found hashes later)
     ]
-
-or_right : (a b : Bool) → b ≡ true → (a || b) ≡ true
-or_right true b e = refl
-or_right false b e = e
-
-or_left : (a b : Bool) → a ≡ true → (a || b) ≡ true
-or_left true b e = refl
-or_left false b e = absurd cc
 
 twins_seen : (hashes : List (List ℕ)) (place : ℕ) → 2 * place + 1 < length hashes → get_or hashes (2 * place) [] ≡ get_or hashes (2 * place + 1) [] → has_twins hashes ≡ true
 twins_seen [] place there equal = absurd (omega arith)

@@ -4,3 +4,4 @@ pub mod Merkle
 pub mod Reading
 pub mod Feed
 pub mod Blocks
+pub mod Faults

@@ -144,6 +144,7 @@ impl Feed {
         ensures memory { IsErrOf result FeedFault.Memory → self.new ≡ self.old }
         ensures read { IsErrOf result FeedFault.Read → self.new ≡ self.old }
         ensures cause { IsErrOf result FeedFault.Read → Rose ((H.view shelf.old).reads name.now) ((H.view shelf.new).reads name.now) }
+        ensures unfailed { result ≢ Err Read → (H.view shelf.new).reads ≡ (H.view shelf.old).reads }
         ensures may_go_on { IsSameFile H.tells self.new name.now ((H.view shelf.new).files name.now) }
         ensures same { H.tells → (H.view shelf.new).files ≡ (H.view shelf.old).files }
         ensures reads { NeverFall (H.view shelf.old).reads (H.view shelf.new).reads }
@@ -181,8 +182,9 @@ impl Feed {
     /// [`FeedFault::Tx`] of a transaction, [`FeedFault::Trailing`], [`FeedFault::Merkle`],
     /// [`FeedFault::Mutated`]; and [`FeedFault::Limit`] in place of one, exactly where the file is longer
     /// than the limit and a byte behind the limit is needed. After any of these the feed answers it
-    /// again. [`FeedFault::Read`] comes only where the shelf's count of failed reads of `name` rose; after
-    /// it and after [`FeedFault::Memory`] the feed stands as before the call.
+    /// again. [`FeedFault::Read`] comes only where the shelf's count of failed reads of `name` rose, and no
+    /// count of failed reads rises without it; after it and after [`FeedFault::Memory`] the feed stands as
+    /// before the call.
     pub fn next<H: Shelf>(
         &mut self,
         alloc: Global,
@@ -218,6 +220,7 @@ impl Feed {
         ensures memory { IsErrOf result FeedFault.Memory → self.new ≡ self.old }
         ensures read { IsErrOf result FeedFault.Read → self.new ≡ self.old }
         ensures cause { IsErrOf result FeedFault.Read → Rose ((H.view shelf.old).reads name.now) ((H.view shelf.new).reads name.now) }
+        ensures unfailed { result ≢ Err Read → (H.view shelf.new).reads ≡ (H.view shelf.old).reads }
 
         // The file that a further call reads, and what the call leaves of the shelf.
         ensures may_go_on { IsSameFile H.tells self.new name.now ((H.view shelf.new).files name.now) }

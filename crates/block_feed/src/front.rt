@@ -1,6 +1,6 @@
 //! A file's first bytes.
 
-ghost use Rattle.std.specs.Prelude.{◌≡◌, ◌≤◌, ◌<◌, ◌⊎◌, length, take, nat_lt, vec_len, IfOk, IfErr, IsErrOf};
+ghost use Rattle.std.specs.Prelude.{◌≡◌, ◌≤◌, ◌<◌, ◌⊎◌, length, take, nat_lt, vec_len, IfOk, OnOk, IfErr, IsErrOf};
 ghost use Rattle.fund_base.specs.Causes.{Rose, NeverFall};
 ghost use Rattle.block_feed.specs.Feed.{IsFront, IsSeen};
 ghost use Rattle.block_feed.specs.declared.fault.FeedFault.TheVariants.{Read, Memory};
@@ -57,6 +57,8 @@ pub fn read_front<H: Shelf>(alloc: Global, shelf: &mut H, name: &str) -> Result<
     ensures reads { NeverFall (H.view shelf.old).reads (H.view shelf.new).reads }
     ensures writes { (H.view shelf.new).writes ≡ (H.view shelf.old).writes }
     ensures cause { IsErrOf result FeedFault.Read → Rose ((H.view shelf.old).reads name.now) ((H.view shelf.new).reads name.now) }
+    ensures unfailed { OnOk result ((H.view shelf.new).reads ≡ (H.view shelf.old).reads) }
+    ensures short { IsErrOf result FeedFault.Memory → (H.view shelf.new).reads ≡ (H.view shelf.old).reads }
     ensures fault { IfErr result (λ e. (e ≡ Read) ⊎ (e ≡ Memory)) }
 {
     let mut piece = room(alloc)?;
@@ -90,6 +92,8 @@ fn read_pieces<H: Shelf>(
     ensures reads { NeverFall (H.view shelf.old).reads (H.view shelf.new).reads }
     ensures writes { (H.view shelf.new).writes ≡ (H.view shelf.old).writes }
     ensures cause { IsErrOf result FeedFault.Read → Rose ((H.view shelf.old).reads name.now) ((H.view shelf.new).reads name.now) }
+    ensures unfailed { OnOk result ((H.view shelf.new).reads ≡ (H.view shelf.old).reads) }
+    ensures short { IsErrOf result FeedFault.Memory → (H.view shelf.new).reads ≡ (H.view shelf.old).reads }
     ensures fault { IfErr result (λ e. (e ≡ Read) ⊎ (e ≡ Memory)) }
 {
     let mut bytes = Vec::new(alloc);

@@ -1,14 +1,28 @@
-//! What the blocks of a file are.
+//! What the blocks of a file are, and where a file is refused.
 
-ghost use Rattle.std.specs.Prelude.{◌≡◌, ◌≤◌, ℕ, List, length, Ok};
+ghost use Rattle.std.specs.Prelude.{◌≡◌, ◌≤◌, ◌<◌, ◌+◌, ◌↔◌, ℕ, List, length, drop, Ok, Err, Some, None};
 ghost use Rattle.fund_base.specs.Cursor.{IsBytes};
-ghost use Rattle.block_feed.specs.Block.{ChainBlock};
+ghost use Rattle.block_feed.specs.Block.{ChainBlock, Begins};
 ghost use Rattle.block_feed.specs.BlockFile.{IsBlockFile};
 ghost use Rattle.block_feed.specs.Blocks.{blocks_of};
+ghost use Rattle.block_feed.specs.Faults.{IsFault};
+ghost use Rattle.block_feed.specs.Feed.{FeedState, IsEnd, next_of};
+ghost use Rattle.block_feed.specs.declared.fault.FeedFault.{FeedFault};
+ghost use Rattle.block_feed.specs.declared.fault.FeedFault.TheVariants.{Limit};
 
-/// That reading a file record by record gives exactly the blocks that it is made of, where it is within its limit.
-/// A call does nothing.
+/// That reading a file record by record gives exactly the blocks that it is made of, where it is within its limit, and
+/// that the fault of the limit is that of a longer file alone. A call does nothing.
 pub fn blocks_are()
     ensures found { (file hash : List ℕ) (height : ℕ) (blocks : List ChainBlock) → IsBytes file → blocks_of file hash height ≡ Ok blocks → IsBlockFile hash height blocks file × (length file ≤ 1_073_741_824) }
     ensures only { (file hash : List ℕ) (height : ℕ) (blocks : List ChainBlock) → IsBlockFile hash height blocks file → length file ≤ 1_073_741_824 → blocks_of file hash height ≡ Ok blocks }
+    ensures limit { (file hash : List ℕ) (height : ℕ) → blocks_of file hash height ≡ Err Limit → 1_073_741_824 < length file }
+{}
+
+/// The law of what a file has where the feed stands: its end, a block, or a fault, each exactly where the file says
+/// so. Of a file that is longer than 1,073,741,824 bytes only these are looked at. A call does nothing.
+pub fn judges_records()
+    ensures end { (file : List ℕ) (state : FeedState) → (next_of file state ≡ Ok None) ↔ IsEnd file state.place }
+    ensures block { (file : List ℕ) (state : FeedState) (block : ChainBlock) (behind : ℕ) → IsBytes file → next_of file state ≡ Ok (Some (block, behind)) → Begins state.hash state.height block (drop state.place file) (drop behind file) }
+    ensures read { (file rest : List ℕ) (state : FeedState) (block : ChainBlock) → Begins state.hash state.height block (drop state.place file) rest → length file ≤ 1_073_741_824 + length rest → (behind : ℕ) × (next_of file state ≡ Ok (Some (block, behind))) × (drop behind file ≡ rest) }
+    ensures fault { (file : List ℕ) (state : FeedState) (fault : FeedFault) → IsBytes file → (next_of file state ≡ Err fault) ↔ IsFault file state fault }
 {}

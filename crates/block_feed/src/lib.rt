@@ -17,4 +17,4 @@ mod vectors;
 pub use block::Block;
 pub use fault::FeedFault;
 pub use feed::Feed;
-pub use laws::blocks_are;
+pub use laws::{blocks_are, judges_records};
