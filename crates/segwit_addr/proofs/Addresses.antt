@@ -17,9 +17,10 @@ use Rattle.segwit_addr.specs.Reading.{behind_last, char_count, decode_of, has_ou
 use Rattle.segwit_addr.specs.declared.fault.AddrFault.{AddrFault}
 use Rattle.segwit_addr.specs.declared.fault.AddrFault.TheVariants.{Case, Separator, Letter, Checksum, Network, Version, Length, Padding, Memory}
 use Rattle.segwit_addr.proofs.Found.{decode_found}
-use Rattle.segwit_addr.proofs.Letters.{values_back, chars_of_letters, no_one, small_known, split_only}
+use Rattle.segwit_addr.proofs.Letters.{values_back, chars_of_letters, no_one, small_known}
 use Rattle.segwit_addr.proofs.Lower.{text_lower}
 use Rattle.segwit_addr.proofs.Regrouped.{bytes_of_values, size_of_values, values_padded, values_small, length_values}
+use Rattle.segwit_addr.proofs.Separators.{behind_one}
 use Rattle.segwit_addr.proofs.Sums.{checksum_reaches}
 
 -- ---- the checksum of a version
@@ -129,7 +130,7 @@ unfolding text_of
 lower_only version program low allowed bytes =
     let letters = map letter_of (all_for version program) in
     let text : List ℕ = 98 ∷ 99 ∷ 49 ∷ letters in
-    let last : behind_last text ≡ Some (length letters) = split_only letters (λ k lt. no_one (all_for version program) (all_small version program low) k (omega (arith, lt, length-map (all_for version program) letter_of))) in
+    let last : behind_last text ≡ Some (length letters) = behind_one (98 ∷ 99 ∷ []) letters (no_one (all_for version program) (all_small version program low)) in
     let before : length text - length letters - 1 ≡ 2 = omega arith in
     let behind : length text - length letters ≡ 3 = omega arith in
     ap (λ (o : Option ℕ). split_at text o) last

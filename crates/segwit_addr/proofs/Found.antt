@@ -16,8 +16,9 @@ use Rattle.segwit_addr.specs.Address.{IsAddress, encode_of, is_refused, is_witne
 use Rattle.segwit_addr.specs.Reading.{behind_last, char_count, decode_of, is_badly_padded, parts_at, program_at, split_at, summed_at, versioned_at}
 use Rattle.segwit_addr.specs.declared.fault.AddrFault.TheVariants.{Case, Separator, Letter, Checksum, Network, Version, Length, Padding}
 use Rattle.fund_base.proofs.Laws.{guard_ok}
-use Rattle.segwit_addr.proofs.Letters.{letters_back, known_small, split_found}
+use Rattle.segwit_addr.proofs.Letters.{letters_back, known_small}
 use Rattle.segwit_addr.proofs.Regrouped.{length_bytes, values_of_bytes, bytes_small}
+use Rattle.segwit_addr.proofs.Separators.{split_found}
 use Rattle.segwit_addr.proofs.Sums.{checksum_found}
 
 -- ---- the first byte of a script

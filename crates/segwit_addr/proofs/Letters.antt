@@ -1,15 +1,16 @@
--- Letters and their values, and where the separator of a text stands.
-use Rattle.std.proofs.Common.{◌≡◌, ◌≢◌, ℕ, ◌+◌, ◌-◌, ◌<◌, zero, suc, Bool, true, false, not, cond, ◌&&◌, List, [], ◌∷◌, ◌++◌, map, length, get_or, take, drop, reverse, Option, Some, None, sym, ◌∙◌, ap, refl, arith}
-use Rattle.std.specs.Prelude.{◌==◌, nat_lt, nat_le, ◌||◌, unwrap_or}
-use Rattle.std.specs.List.{All, position_or_len}
+-- Letters and their values.
+use Rattle.std.proofs.Common.{◌≡◌, ◌≢◌, ℕ, ◌<◌, suc, Bool, true, false, not, cond, ◌&&◌, List, [], ◌∷◌, map, length, get_or, Option, Some, None, sym, ◌∙◌, ap, refl, arith}
+use Rattle.std.specs.Prelude.{◌==◌, nat_lt, nat_le, ◌||◌, unwrap_or, Contains}
+use Rattle.std.specs.List.{All}
 use Rattle.std.proofs.Math.Nat.{mod-eq_of_lt}
-use Rattle.std.proofs.lemmas.Bool.{eqb-true, eqb-false, and_parts, not-true, agree_below, agree_below_at, lt-ltb, ltb-true, lt-leb, leb-false, ne_eqb, eq-eqb, false_from_ne_true, both_ways}
-use Rattle.std.proofs.lemmas.List.{get_or-reverse, length-reverse, take-append-drop, drop_more}
+use Rattle.std.proofs.lemmas.Bool.{eqb-true, eqb-false, and_parts, not-true, agree_below, agree_below_at, lt-ltb, ltb-true, lt-leb, leb-false, false_from_ne_true, both_ways}
+use Rattle.std.proofs.lemmas.List.{get_or_default}
+use Rattle.std.proofs.lemmas.List.Elements.{All-nil, All-cons}
 use Rattle.std.proofs.lemmas.List.Folds.{list_any_at}
-use Rattle.std.proofs.lemmas.List.Sums.{position_or_len_is, sum_by-cons}
+use Rattle.std.proofs.lemmas.List.Sums.{sum_by-cons}
 use Rattle.std.proofs.lemmas.List.Quantifiers.{position-Some}
 use Rattle.segwit_addr.specs.Bech32.{alphabet, found_at, value_of, letter_at, letter_of}
-use Rattle.segwit_addr.specs.Reading.{behind_last, char_count, has_unknown}
+use Rattle.segwit_addr.specs.Reading.{char_count, has_unknown}
 
 -- ---- one letter
 
@@ -66,10 +67,10 @@ chars_of_letters (v ∷ vs) small =
     let one : ◌≡◌ {A = ℕ} (cond (nat_lt (letter_of v) 128 || nat_le 192 (letter_of v)) 1 0) 1 = ap (λ (b : Bool). cond {A = ℕ} (b || nat_le 192 (letter_of v)) 1 0) short in
     omega (arith, one, sum_by-cons (λ (c : ℕ). cond {A = ℕ} (nat_lt c 128 || nat_le 192 c) 1 0) (letter_of v) (map letter_of vs), chars_of_letters vs (λ k d lt. small (suc k) d (omega arith)))
 
-pub no_one : (values : List ℕ) → All (λ v. v < 32) values → (k : ℕ) → k < length values → get_or (map letter_of values) k 0 ≢ 49
-no_one [] small k lt = absurd (omega arith)
-no_one (v ∷ vs) small zero lt = (letter_is v (small 0 0 (omega arith))).other
-no_one (v ∷ vs) small (suc k) lt = no_one vs (λ k d lt. small (suc k) d (omega arith)) k (omega arith)
+-- no letter is a `1`
+pub no_one : (values : List ℕ) → All (λ v. v < 32) values → All (λ c. c ≢ 49) (map letter_of values)
+no_one [] small = All-nil (λ (c : ℕ). c ≢ 49)
+no_one (v ∷ vs) small = All-cons (λ (c : ℕ). c ≢ 49) (letter_of v) (map letter_of vs) (letter_is v (small 0 0 (omega arith))).other (no_one vs (λ k d lt. small (suc k) d (omega arith)))
 
 pub known_small : (values : List ℕ) → has_unknown values ≡ false → All (λ v. v < 32) values
 unfolding has_unknown
@@ -81,33 +82,19 @@ unfolding has_unknown
 small_known [] small = refl
 small_known (v ∷ vs) small = rw (lt-leb 32 v (small 0 0 (omega arith))) (small_known vs (λ k d lt. small (suc k) d (omega arith)))
 
--- ---- the separator
+-- ---- which letters there are
 
--- a 1 stands where the last one was found
-pub split_found : (text : List ℕ) (behind : ℕ) → behind_last text ≡ Some behind → text ≡ take (length text - behind - 1) text ++ 49 ∷ drop (length text - behind) text
-split_found text behind is =
-    let found = position-Some (λ (c : ℕ). c == 49) (reverse text) behind 0 is in
-    let within : behind < length text = omega (arith, found.0, length-reverse text) in
-    let at = length text - behind - 1 in
-    let one : get_or text at 0 ≡ 49 = ap (λ (k : ℕ). get_or text k 0) (omega arith) ∙ sym (get_or-reverse text behind 0 within) ∙ eqb-true _ _ found.1 in
-    let rest : drop at text ≡ 49 ∷ drop (length text - behind) text =
-    drop_more text at 0 (omega arith) ∙ (λ i. one i ∷ drop (let next : at + 1 ≡ length text - behind = omega arith in next i) text) in
-    sym (take-append-drop at text) ∙ ap (λ (l : List ℕ). take at text ++ l) rest
+-- a letter has a value exactly where it stands in the alphabet
+pub letter_valued : (c : ℕ) → Contains alphabet c → value_of c < 32
+unfolding letter_at
+letter_valued c has =
+    let low : has.0 < 32 = has.1 in
+    let same : letter_of has.0 ≡ c = ap (λ (k : ℕ). get_or alphabet k 0) (mod-eq_of_lt low) ∙ get_or_default alphabet has.0 0 c low ∙ has.2 in
+    let back : value_of c ≡ has.0 = ap value_of (sym same) ∙ (letter_is has.0 low).back in
+    omega arith
 
--- and where letters stand behind a 1, it is the last one
-pub split_only : (letters : List ℕ) → ((k : ℕ) → k < length letters → get_or letters k 0 ≢ 49) → behind_last (98 ∷ 99 ∷ 49 ∷ letters) ≡ Some (length letters)
-split_only letters none =
-    let text : List ℕ = 98 ∷ 99 ∷ 49 ∷ letters in
-    let n = length letters in
-    let long : length text ≡ n + 3 = omega arith in
-    let other : (k : ℕ) → k < n → (get_or (reverse text) k 0 == 49) ≡ false = λ k lt.
-    ne_eqb _ _ (λ one.
-    none (n - 1 - k) (omega arith)
-    (ap (λ (j : ℕ). get_or text j 0) (let at : suc (suc (suc (n - 1 - k))) ≡ length text - 1 - k = omega arith in at)
-    ∙ sym (get_or-reverse text k 0 (omega arith)) ∙ one)) in
-    let one : get_or (reverse text) n 0 ≡ 49 =
-    get_or-reverse text n 0 (omega arith) ∙ ap (λ (j : ℕ). get_or text j 0) (let at : length text - 1 - n ≡ 2 = omega arith in at) in
-    let place : position_or_len (λ (c : ℕ). c == 49) (reverse text) ≡ n =
-    position_or_len_is (λ (c : ℕ). c == 49) (reverse text) n 0 (omega (arith, length-reverse text)) other (λ lt. eq-eqb _ _ one) in
-    ap (λ (b : Bool). cond b (Some (position_or_len (λ (c : ℕ). c == 49) (reverse text))) None) (lt-ltb _ _ (omega (arith, place, length-reverse text)))
-    ∙ ap (λ (k : ℕ). Some k) place
+pub value_lettered : (c : ℕ) → value_of c < 32 → Contains alphabet c
+unfolding letter_at
+value_lettered c low =
+    let same : get_or alphabet (value_of c) 0 ≡ c = ap (λ (k : ℕ). get_or alphabet k 0) (sym (mod-eq_of_lt low)) ∙ letter_back c low in
+    (value_of c, low, get_or_default alphabet (value_of c) c 0 low ∙ same)

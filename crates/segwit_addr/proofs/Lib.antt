@@ -1,8 +1,12 @@
 pub mod Addresses
+pub mod Breaking
 pub mod Folds
 pub mod Found
+pub mod Judged
 pub mod Letters
 pub mod Lower
 pub mod Regrouped
 pub mod Rows
+pub mod Rules
+pub mod Separators
 pub mod Sums

@@ -1,10 +1,12 @@
 //! Laws of addresses. A call of any of them does nothing.
 
-ghost use Rattle.std.specs.Prelude.{ℕ, ◌≡◌, ◌<◌, ◌^◌, List, ◌++◌, All, IsFalse, length, map, slice_index};
+ghost use Rattle.std.specs.Prelude.{ℕ, ◌≡◌, ◌↔◌, ◌<◌, ◌^◌, List, ◌++◌, All, Ok, Err, IsFalse, length, map, slice_index};
 ghost use Rattle.std.specs.Char.{to_ascii_lowercase};
 ghost use Rattle.fund_base.specs.Cursor.{IsBytes};
 ghost use Rattle.segwit_addr.specs.Address.{IsAddress, sum_in, sum_of, version_of};
-ghost use Rattle.segwit_addr.specs.Reading.{is_badly_padded};
+ghost use Rattle.segwit_addr.specs.Judging.{Breaks};
+ghost use Rattle.segwit_addr.specs.Reading.{decode_of, is_badly_padded};
+ghost use Rattle.segwit_addr.specs.declared.fault.AddrFault.{AddrFault};
 ghost use Rattle.segwit_addr.specs.Bech32.{checksum_of, expanded, polymod};
 ghost use Rattle.segwit_addr.specs.Regrouping.{bytes_of, values_of};
 
@@ -39,4 +41,11 @@ pub fn programs_regroup()
     ensures bytes { (bytes : List ℕ) → IsBytes bytes → bytes_of (values_of bytes) ≡ bytes }
     ensures padding { (bytes : List ℕ) → IsFalse (is_badly_padded (values_of bytes)) }
     ensures values { (values : List ℕ) → All (λ v. v < 32) values → IsFalse (is_badly_padded values) → values_of (bytes_of values) ≡ values }
+{}
+
+/// What [`decode`](crate::decode) answers, in the words of the text: a script exactly where the text is an address of it, and
+/// each fault exactly where its rule is the first that the text breaks.
+pub fn judges_texts()
+    ensures script { (text script : List ℕ) → decode_of text ≡ Ok script ↔ IsAddress text script }
+    ensures fault { (text : List ℕ) (fault : AddrFault) → decode_of text ≡ Err fault ↔ Breaks text fault }
 {}

@@ -14,4 +14,6 @@ mod tests;
 pub use decoding::decode;
 pub use encoding::encode;
 pub use fault::AddrFault;
-pub use laws::{addresses_are_unique, addresses_check, checksums_are_unique, programs_regroup};
+pub use laws::{
+    addresses_are_unique, addresses_check, checksums_are_unique, judges_texts, programs_regroup,
+};
