@@ -1,6 +1,8 @@
 pub mod Decoded
 pub mod EachLaws
+pub mod Final
 pub mod Inner
+pub mod Longer
 pub mod MapLaws
 pub mod MapMeaning
 pub mod MapReads

@@ -2,13 +2,14 @@
 use Rattle.std.proofs.Common.{◌≡◌, ◌≢◌, ℕ, zero, suc, ◌<◌, true, false, List, [], ◌∷◌, ◌++◌, length, get_or, All, refl, sym, ap, ◌∙◌, append_assoc, arith, inl, inr}
 use Rattle.std.specs.Prelude.{Option, Some, None, option_map, find, bytes_eq, Contains, AllPairs}
 use Rattle.std.specs.List.{AllByRecursion}
-use Rattle.std.proofs.lemmas.Bool.{cases_Bool, cases_order, both_ways, false_from_ne_true, lt-ltb, or_left, or_right}
+use Rattle.std.proofs.lemmas.Bool.{cases_Bool, cases_order, both_ways, false_from_ne_true, or_left, or_right}
 use Rattle.std.proofs.lemmas.Option.{same_Some}
 use Rattle.std.proofs.lemmas.List.{append-nil, get_or_append_left, get_or_at, get_or_default, length-append}
 use Rattle.std.proofs.lemmas.List.Elements.{All-from_recursion, recursion_from_All, All-weaker, Contains-get_or}
 use Rattle.std.proofs.lemmas.List.Folds.{list_any-append, list_any_none}
 use Rattle.std.proofs.lemmas.List.Kept.{AllPairs-cons}
-use Rattle.std.proofs.lemmas.Slice.Eq.{bytes_eq-Decides}
+use Rattle.fund_base.proofs.LawsOfNumbers.{compact1}
+use Rattle.fund_base.proofs.Lists.{equal_bytes, same_bytes}
 use Rattle.fund_base.specs.CompactSize.{compact}
 use Rattle.psbt_codec.specs.declared.pairs.Part.{Part}
 use Rattle.psbt_codec.specs.Psbt.{Pair, typed, HaveOtherKeys, IsKey, IsPair, IsMap, Tells}
@@ -18,14 +19,8 @@ use Rattle.psbt_codec.proofs.MapReads.{MapFits}
 
 -- ---- keys
 
-same_key : (a b : List ℕ) → bytes_eq a b ≡ true → a ≡ b
-same_key a b e = (bytes_eq-Decides a b).0 e
-
-key_equal : (a b : List ℕ) → a ≡ b → bytes_eq a b ≡ true
-key_equal a b e = (bytes_eq-Decides a b).1 e
-
 key_other : (a b : List ℕ) → a ≢ b → bytes_eq a b ≡ false
-key_other a b other = false_from_ne_true (bytes_eq a b) (λ e. other (same_key a b e))
+key_other a b other = false_from_ne_true (bytes_eq a b) (λ e. other (equal_bytes a b e))
 
 -- ---- pairs that were read one behind the other are a map
 
@@ -43,7 +38,7 @@ others_differ part p before (q ∷ pairs) has fits =
     (λ same. both_ways (has_key q.key before) fits.0.fresh (has q.key same), others_differ part p (before ++ q ∷ []) pairs (λ key same. still_has before q key (has key same)) fits.1)
 
 last_has : (before : List Pair) (p : Pair) (key : List ℕ) → p.key ≡ key → has_key key (before ++ p ∷ []) ≡ true
-last_has before p key same = list_any-append (λ (r : Pair). bytes_eq r.key key) before (p ∷ []) ∙ or_right (has_key key before) _ (or_left (bytes_eq p.key key) false (key_equal p.key key same))
+last_has before p key same = list_any-append (λ (r : Pair). bytes_eq r.key key) before (p ∷ []) ∙ or_right (has_key key before) _ (or_left (bytes_eq p.key key) false (same_bytes p.key key same))
 
 distinct_keys : (part : Part) (before pairs : List Pair) → MapFits part before pairs → AllPairs HaveOtherKeys pairs
 distinct_keys part before [] fits = λ i j d lt end. absurd (omega (arith, end))
@@ -88,13 +83,13 @@ found key value (p ∷ pairs) e =
     elim (cases_Bool (bytes_eq p.key key)) [
       | inl same ↦
           let v : p.value ≡ value = same_Some p.value value (rw same at e) in
-          let k : p.key ≡ key = same_key p.key key same in
+          let k : p.key ≡ key = equal_bytes p.key key same in
           (0, omega arith, ap (λ (x : List ℕ). record { key = x; value = p.value }) k ∙ ap (λ (x : List ℕ). record { key = key; value = x }) v)
       | inr other ↦ further p (record { key = key; value = value }) pairs (found key value pairs (rw other at e))
     ]
 
 missing_at : (key value : List ℕ) (p : Pair) (pairs : List Pair) → bytes_eq p.key key ≡ false → (Contains pairs (record { key = key; value = value }) → ⊥) → (i : ℕ) → i < length (p ∷ pairs) → get_or (p ∷ pairs) i (record { key = key; value = value }) ≡ record { key = key; value = value } → ⊥
-missing_at key value p pairs other rest zero lt e = both_ways (bytes_eq p.key key) other (key_equal p.key key (ap (λ (q : Pair). q.key) e))
+missing_at key value p pairs other rest zero lt e = both_ways (bytes_eq p.key key) other (same_bytes p.key key (ap (λ (q : Pair). q.key) e))
 missing_at key value p pairs other rest (suc i) lt e = rest (i, omega (arith, lt), e)
 
 missing : (key value : List ℕ) (pairs : List Pair) → option_map (λ (p : Pair). p.value) (find (λ (p : Pair). bytes_eq p.key key) pairs) ≡ None → Contains pairs (record { key = key; value = value }) → ⊥
@@ -117,10 +112,6 @@ one_pair pairs p q distinct a b same =
       ]
     ]
 
-one_byte_key : (kind : ℕ) → kind < 253 → compact kind ≡ kind ∷ []
-unfolding compact
-one_byte_key kind small = rw (lt-ltb kind 253 small) refl
-
 -- a pair whose key is of a type that has a meaning
 pub typed_is : (meant : List ℕ) (p : Pair) (k : IsKey meant p.key) (kind : ℕ) → k.kind ≡ kind → Contains meant kind → p ≡ typed kind p.value
 typed_is meant p k kind is listed =
@@ -129,10 +120,10 @@ typed_is meant p k kind is listed =
     ap (λ (l : List ℕ). record { key = l; value = p.value }) key
 
 pub found_typed : (pairs : List Pair) (kind : ℕ) (value : List ℕ) → kind < 253 → value_of kind pairs ≡ Some value → Contains pairs (typed kind value)
-found_typed pairs kind value small e = rw (one_byte_key kind small) (found (kind ∷ []) value pairs e)
+found_typed pairs kind value small e = rw (compact1 kind small) (found (kind ∷ []) value pairs e)
 
 pub missing_typed : (pairs : List Pair) (kind : ℕ) (value : List ℕ) → kind < 253 → value_of kind pairs ≡ None → Contains pairs (typed kind value) → ⊥
-missing_typed pairs kind value small e c = missing (kind ∷ []) value pairs e (rw (one_byte_key kind small) at c)
+missing_typed pairs kind value small e c = missing (kind ∷ []) value pairs e (rw (compact1 kind small) at c)
 
 told_value_at : {X : Type 0} (pairs : List Pair) (kind : ℕ) (text : X → List ℕ) (known : Option X) → kind < 253 → Tells pairs kind text known → (o : Option (List ℕ)) → value_of kind pairs ≡ o → o ≡ option_map text known
 told_value_at pairs kind text known small tells (Some value) e = sym ((tells value).0 (found_typed pairs kind value small e))

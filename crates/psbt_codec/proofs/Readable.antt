@@ -7,6 +7,7 @@ use Rattle.std.proofs.lemmas.List.{append-nil, nil_from_length, take-append-drop
 use Rattle.std.proofs.lemmas.List.Elements.{All-contains, All-drop, All-from_recursion, recursion_from_All}
 use Rattle.std.proofs.lemmas.List.Concat.{flat_map-cons}
 use Rattle.std.proofs.lemmas.Slice.Eq.{bytes_eq-Decides}
+use Rattle.fund_base.proofs.Lists.{regroup3}
 use Rattle.fund_base.specs.CompactSize.{compact}
 use Rattle.fund_base.specs.Cursor.{At, IsBytes, after, compact_at}
 use Rattle.fund_base.proofs.Laws.{bind_ok, bind_is, guard_met, ok_is, Takes, takes_then, takes_none, Again}
@@ -269,16 +270,13 @@ psbt_takes at x fits e =
     let readable : IsReadable (spelled ta.pairs tb.maps tc.maps) p = record { psbt = is; global = ta.pairs; inputs = tb.maps; outputs = tc.maps; spelling = refl; global_is = ta.global_is; inputs_are = maps_are; outputs_are = tc.maps_are } in
     subst (λ (y : PartialTransaction × At). PsbtTaken at y) (ok_is (p, c.0.1) x (Ok (p, c.0.1)) refl c.2) (record { text = spelled ta.pairs tb.maps tc.maps; takes = all; readable = readable })
 
-regroup : (a b c d rest : List ℕ) → (a ++ (b ++ (c ++ d))) ++ rest ≡ a ++ (b ++ (c ++ (d ++ rest)))
-regroup a b c d rest = simp append_assoc
-
 pub psbt_again : (text : List ℕ) (p : PartialTransaction) (at : At) (rest : List ℕ) → IsReadable text p → at.rest ≡ text ++ rest → Again (psbt_at at) p rest
 unfolding psbt_at maps_at
 psbt_again text p at rest is parts =
     let g = map_text is.global in
     let i = flat_map map_text is.inputs in
     let o = flat_map map_text is.outputs in
-    let parted : at.rest ≡ magic ++ (g ++ (i ++ (o ++ rest))) = parts ∙ ap (λ (l : List ℕ). l ++ rest) is.spelling ∙ regroup magic g i o rest in
+    let parted : at.rest ≡ magic ++ (g ++ (i ++ (o ++ rest))) = parts ∙ ap (λ (l : List ℕ). l ++ rest) is.spelling ∙ regroup3 magic g i o rest in
     let m = magic_again at (g ++ (i ++ (o ++ rest))) parted in
     let bare : IsBare p.tx = record { text = is.psbt.text; unsigned = is.psbt.unsigned } in
     let spent_are = all_zip p.tx.inputs p.spent is.psbt.spent_len (recursion_from_All Pairwise (zip p.tx.inputs p.spent) is.psbt.spent) in

@@ -2,6 +2,7 @@
 #![tactic(auto)]
 
 mod fault;
+mod fault_laws;
 mod pairs;
 mod psbt;
 mod reading;
@@ -12,6 +13,7 @@ mod vectors;
 mod writing;
 
 pub use fault::PsbtFault;
+pub use fault_laws::faults_are_final;
 pub use psbt::{Psbt, Spent};
 pub use reading::read_psbt;
 pub use text::{from_text, to_text};
