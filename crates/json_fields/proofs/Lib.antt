@@ -1,4 +1,5 @@
 pub mod CoinLaws
+pub mod HexLaws
 pub mod LastValues
 pub mod ListLaws
 pub mod Loops
@@ -7,4 +8,5 @@ pub mod Names
 pub mod NumberLaws
 pub mod ObjectLaws
 pub mod Parsed
+pub mod Tables
 pub mod ValueFacts

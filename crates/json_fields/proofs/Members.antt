@@ -6,6 +6,8 @@ use Rattle.std.proofs.lemmas.Map.Text.{is_eq-slice_cmp}
 use Rattle.std.proofs.lemmas.Slice.Eq.{bytes_eq-Decides}
 use Rattle.std.specs.Cmp.Lexicographic.{slice_cmp}
 use Rattle.std.specs.Ordering.{match_ordering, ordering_reverse}
+use Rattle.std.proofs.lemmas.Bool.{or_right}
+use Rattle.fund_base.proofs.Lists.{in_tail}
 use Rattle.serde_json.specs.Data.{Data, Members, no_members, member}
 use Rattle.serde_json.specs.Find.{get_member}
 use Rattle.json_fields.specs.Fields.{names_of, is_among, lesser, least}
@@ -13,21 +15,14 @@ use Rattle.json_fields.specs.Fields.{names_of, is_among, lesser, least}
 abbrev cmp : List ℕ → List ℕ → Ordering
 cmp a b = slice_cmp nat_cmp a b
 
-or_true : (a b : Bool) → b ≡ true → (a || b) ≡ true
-or_true true b h = refl
-or_true false b h = h
-
 among_at : (names : List (List ℕ)) (name : List ℕ) (k : ℕ) → k < length names → get_or names k name ≡ name → is_among names name ≡ true
 among_at [] name k lt e = absurd (omega arith)
 among_at (n ∷ ns) name zero lt e = ap (λ b. b || is_among ns name) ((bytes_eq-Decides name n).1 (sym e))
-among_at (n ∷ ns) name (suc k) lt e = or_true (bytes_eq name n) (is_among ns name) (among_at ns name k (omega arith) e)
+among_at (n ∷ ns) name (suc k) lt e = or_right (bytes_eq name n) (is_among ns name) (among_at ns name k (omega arith) e)
 
 -- the test of a name in a list is exact
 pub is_among-Contains : (names : List (List ℕ)) (name : List ℕ) → Contains names name → is_among names name ≡ true
 is_among-Contains names name h = among_at names name h.0 h.1 h.2
-
-pub behind : {X : Type 0} (x : X) (xs : List X) (y : X) → Contains xs y → Contains (x ∷ xs) y
-behind x xs y h = let lt = h.1 in (suc h.0, omega arith, h.2)
 
 pub Contains-is_among : (names : List (List ℕ)) (name : List ℕ) → is_among names name ≡ true → Contains names name
 Contains-is_among [] name h = absurd (true≢false (sym h))
@@ -35,7 +30,7 @@ Contains-is_among (n ∷ ns) name h = by (bytes_eq name n) refl h (Contains-is_a
   where
     by : (b : Bool) → bytes_eq name n ≡ b → (b || is_among ns name) ≡ true → (is_among ns name ≡ true → Contains ns name) → Contains (n ∷ ns) name
     by true e either rest = (zero, omega arith, sym ((bytes_eq-Decides name n).0 e))
-    by false e either rest = behind n ns name (rest either)
+    by false e either rest = in_tail n ns name (rest either)
 
 or_some : (o : Ordering) (x : Data) (rest : Option Data) → is_some (match_ordering o rest (Some x) rest) ≡ (is_eq o || is_some rest)
 or_some Less x rest = refl
@@ -57,7 +52,7 @@ kept_at p (n ∷ ns) name zero lt e passes = by (p n) (ap p e ∙ passes)
 kept_at p (n ∷ ns) name (suc k) lt e passes = by (p n) (kept_at p ns name k (omega arith) e passes)
   where
     by : (b : Bool) → Contains (filter p ns) name → Contains (cond b (n ∷ filter p ns) (filter p ns)) name
-    by true rest = behind n (filter p ns) name rest
+    by true rest = in_tail n (filter p ns) name rest
     by false rest = rest
 
 -- what passes and stands in a list is kept
@@ -104,7 +99,7 @@ least_stands a (n ∷ ns) = by (cmp a n) (least_stands a ns) (least_stands n ns)
     by : (o : Ordering) → Contains (a ∷ ns) (fold lesser a ns) → Contains (n ∷ ns) (fold lesser n ns) → Contains (a ∷ n ∷ ns) (fold lesser (match_ordering o a a n) ns)
     by Less first second = among (fold lesser a ns) first
     by Equal first second = among (fold lesser a ns) first
-    by Greater first second = behind a (n ∷ ns) (fold lesser n ns) second
+    by Greater first second = in_tail a (n ∷ ns) (fold lesser n ns) second
 
 -- the least of names stands among them, and none is less
 pub least-Contains : (names : List (List ℕ)) (name : List ℕ) → least names ≡ Some name → Contains names name

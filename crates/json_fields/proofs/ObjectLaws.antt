@@ -1,6 +1,7 @@
 -- What an object is told of.
-use Rattle.std.proofs.Common.{◌≡◌, ◌≢◌, ℕ, zero, suc, ◌<◌, Bool, true, false, cond, List, [], ◌∷◌, length, get_or, find, not, Option, Some, None, Result, Ok, Err, is_none, is_some, Contains, refl, sym, ap, subst, ◌∙◌, true≢false, arith}
+use Rattle.std.proofs.Common.{◌≡◌, ◌≢◌, ℕ, zero, suc, ◌<◌, Bool, true, false, cond, List, [], ◌∷◌, ◌++◌, length, get_or, find, not, Option, Some, None, Result, Ok, Err, is_none, is_some, Contains, refl, sym, ap, subst, ◌∙◌, true≢false, arith}
 use Rattle.std.specs.Bool.{⊤}
+use Rattle.fund_base.proofs.Lists.{in_tail}
 use Rattle.fund_base.specs.Parsing.{◌>>=◌}
 use Rattle.serde_json.specs.Data.{Data, null, boolean, number, string, array, object, Members}
 use Rattle.serde_json.specs.Find.{get_member, as_object}
@@ -97,6 +98,18 @@ taken_of known required ms e = by (least (unknown_in known ms)) refl (find (λ n
     by None is (Some n) missing reads = absurd (cc reads)
     by None is None missing reads = (are_known known ms is, all_there required ms missing)
 
+stands_between : (front : List (List ℕ)) (name : List ℕ) (back : List (List ℕ)) → Contains (front ++ name ∷ back) name
+stands_between [] name back = (zero, omega arith, refl)
+stands_between (f ∷ front) name back = in_tail f (front ++ name ∷ back) name (stands_between front name back)
+
+only_of : (known required : List (List ℕ)) (ms : Members) → AreKnown known ms → HasAll required ms → answer known required ms ≡ Ok tt
+only_of known required ms are there = by (least (unknown_in known ms)) refl (find (λ name. is_none (get_member name ms)) required) refl
+  where
+    by : (u : Option (List ℕ)) → least (unknown_in known ms) ≡ u → (m : Option (List ℕ)) → find (λ name. is_none (get_member name ms)) required ≡ m → (refuse Member u >>= λ _. refuse Missing m) ≡ Ok tt
+    by (Some n) is m missing = let first = is_least known ms n is in absurd (first.unknown (are n first.stands))
+    by None is (Some n) missing = let first = is_first required ms n missing in absurd (first.lacks (there n (subst (λ names. Contains names n) (sym first.parts) (stands_between first.front n first.back))))
+    by None is None missing = refl
+
 member_of : (known required : List (List ℕ)) (ms : Members) (name : List ℕ) → answer known required ms ≡ Err (Member name) → IsLeastUnknown known ms name
 member_of known required ms name e = by (least (unknown_in known ms)) refl (find (λ other. is_none (get_member other ms)) required) e
   where
@@ -129,6 +142,10 @@ taken whole known required (boolean b) e = absurd (cc e)
 taken whole known required (number n) e = absurd (cc e)
 taken whole known required (string s) e = absurd (cc e)
 taken whole known required (array ds) e = absurd (cc e)
+
+pub only : (whole : List ℕ) (known required : List (List ℕ)) (d : Data) → HasMembers d (λ ms. AreKnown known ms × HasAll required ms) → object_at whole known required d ≡ Ok tt
+unfolding object_at
+only whole known required d is = rw is.1 (only_of known required is.0 is.2.0 is.2.1)
 
 pub kind : (whole : List ℕ) (known required : List (List ℕ)) (d : Data) (name : List ℕ) → object_at whole known required d ≡ Err (Kind name) → (name ≡ whole) × ((ms : Members) → d ≢ object ms)
 unfolding object_at

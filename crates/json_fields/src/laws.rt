@@ -1,6 +1,6 @@
 //! What the definitions of reading come to, in words that don't follow the reading.
 
-ghost use Rattle.std.specs.Prelude.{◌≡◌, ◌≢◌, ◌≤◌, ◌*◌, ℕ, List, [], reverse, length, Result, Ok, Err, option_and_then};
+ghost use Rattle.std.specs.Prelude.{◌≡◌, ◌≢◌, ◌<◌, ◌≤◌, ◌*◌, ◌%◌, ℕ, List, [], reverse, length, slice_index, Result, Ok, Err, option_and_then};
 ghost use Rattle.std.specs.List.{AllPass};
 ghost use Rattle.hex.specs.Hex.{encode_lower, encode_upper, is_hex_digit};
 ghost use Rattle.json.specs.Json as json;
@@ -9,8 +9,8 @@ ghost use Rattle.serde_json.specs.View.{items_of};
 ghost use Rattle.serde_json.specs.Find.{get};
 ghost use Rattle.serde_json.specs.Read.{of_json};
 ghost use Rattle.fund_base.specs.declared.outpoint.OutPoint.{OutPoint};
-ghost use Rattle.json_fields.specs.Fields.{parsed, object_at, number_at, hash_in, coin_in, each_from, IsHash};
-ghost use Rattle.json_fields.specs.Rules.{HasMembers, AreKnown, HasAll, IsLeastUnknown, IsFirstMissing, IsCoinText, AreRead, IsFirstRefused, text_of, last_value};
+ghost use Rattle.json_fields.specs.Fields.{parsed, object_at, number_at, hex_at, hash_in, coin_in, each_from, IsHash};
+ghost use Rattle.json_fields.specs.Rules.{HasMembers, AreKnown, HasAll, IsLeastUnknown, IsFirstMissing, IsHexDigit, IsHexOf, IsHexString, IsCoinText, AreRead, IsFirstRefused, text_of, last_value};
 ghost use Rattle.json_fields.specs.declared.fault.FieldFault.{FieldFault};
 ghost use Rattle.json_fields.specs.declared.fault.FieldFault.TheVariants.{Kind, Member, Missing};
 
@@ -19,6 +19,7 @@ ghost use Rattle.json_fields.specs.declared.fault.FieldFault.TheVariants.{Kind, 
 /// that it lacks.
 pub fn reads_objects()
     ensures taken { (whole : List ℕ) (known required : List (List ℕ)) (d : Data) → object_at whole known required d ≡ Ok tt → HasMembers d (λ ms. AreKnown known ms × HasAll required ms) }
+    ensures only { (whole : List ℕ) (known required : List (List ℕ)) (d : Data) → HasMembers d (λ ms. AreKnown known ms × HasAll required ms) → object_at whole known required d ≡ Ok tt }
     ensures kind { (whole : List ℕ) (known required : List (List ℕ)) (d : Data) (name : List ℕ) → object_at whole known required d ≡ Err (Kind name) → (name ≡ whole) × ((ms : Members) → d ≢ object ms) }
     ensures member { (whole : List ℕ) (known required : List (List ℕ)) (d : Data) (name : List ℕ) → object_at whole known required d ≡ Err (Member name) → HasMembers d (λ ms. IsLeastUnknown known ms name) }
     ensures missing { (whole : List ℕ) (known required : List (List ℕ)) (d : Data) (name : List ℕ) → object_at whole known required d ≡ Err (Missing name) → HasMembers d (λ ms. AreKnown known ms × IsFirstMissing required ms name) }
@@ -39,8 +40,21 @@ pub fn reads_numbers()
     ensures fault { (name : List ℕ) (most : ℕ) (d : Data) (fault : FieldFault) → number_at name most d ≡ Err fault → fault ≡ Kind name }
 {}
 
-/// The law of hashes: the 64 digits that show one in hex are read as it, in either case; what is read is 64 digits.
+/// The law of hex: a string is read as bytes exactly where it has two letters for each of them, hexadecimal digits of
+/// either case, of which the first counts the byte's sixteens and the second its ones. Anything else is of the wrong
+/// kind; an even number of digits always spells bytes.
+pub fn reads_hex()
+    ensures found { (name bytes : List ℕ) (d : Data) → hex_at name d ≡ Ok bytes → IsHexString d bytes }
+    ensures only { (name bytes : List ℕ) (d : Data) → IsHexString d bytes → hex_at name d ≡ Ok bytes }
+    ensures fault { (name : List ℕ) (d : Data) (fault : FieldFault) → hex_at name d ≡ Err fault → (fault ≡ Kind name) × ((bytes : List ℕ) → ¬ IsHexString d bytes) }
+    ensures digits { (text : List ℕ) → length text % 2 ≡ 0 → ((k : ℕ) → k < length text → (value : ℕ) × IsHexDigit (slice_index text k) value) → (bytes : List ℕ) × IsHexOf text bytes }
+{}
+
+/// The law of hashes: a text is read as one exactly where it spells its 32 bytes in hex, the last byte first. So it has
+/// 64 digits, and those that show a hash in lower or in upper case are among them.
 pub fn reads_hashes()
+    ensures spelled { (text hash : List ℕ) → hash_in text ≡ Some hash → (length hash ≡ 32) × IsHexOf text (reverse hash) }
+    ensures only { (text hash : List ℕ) → length hash ≡ 32 → IsHexOf text (reverse hash) → hash_in text ≡ Some hash }
     ensures lower { (hash : List ℕ) → IsHash hash → hash_in (encode_lower (reverse hash)) ≡ Some hash }
     ensures upper { (hash : List ℕ) → IsHash hash → hash_in (encode_upper (reverse hash)) ≡ Some hash }
     ensures found { (text hash : List ℕ) → hash_in text ≡ Some hash → (length text ≡ 64) × AllPass is_hex_digit text }

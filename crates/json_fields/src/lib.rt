@@ -13,6 +13,7 @@ mod tests;
 pub use fault::{FieldFault, Name};
 pub use field::{coin_of, entries_of, flag_of, hash_of, hex_of, number_of, text_of, txid_of};
 pub use laws::{
-    reads_coins, reads_hashes, reads_last_values, reads_lists, reads_numbers, reads_objects,
+    reads_coins, reads_hashes, reads_hex, reads_last_values, reads_lists, reads_numbers,
+    reads_objects,
 };
 pub use object::{member_of, object_of, parse};
