@@ -1,7 +1,12 @@
 pub mod Alone
+pub mod EntryLaws
 pub mod MethodLaws
+pub mod RangeLaws
+pub mod RecipientLaws
+pub mod RecipientLists
 pub mod RepeatLaws
 pub mod Repeats
 pub mod SeedLaws
 pub mod Seeds
+pub mod TableLaws
 pub mod Witness

@@ -8,7 +8,9 @@ use Rattle.hex.specs.Hex.{decode_of, decode_sized, encode_lower, encode_upper, l
 use Rattle.hex.specs.declared.error.FromHexError.{FromHexError}
 use Rattle.hex.proofs.HexLemmas.{decode_sized-twice, decode_sized-ok, decode_of-ok, decode_of-digits, decode_of-encode_lower, decode_of-encode_upper, length-encode_with}
 use Rattle.serde_json.specs.Data.{Data, null, boolean, number, string, array, object}
+use Rattle.json_fields.proofs.HexLaws.{decoded_sized, decodes_sized}
 use Rattle.json_fields.specs.Fields.{IsHash}
+use Rattle.json_fields.specs.Rules.{IsHexOf, IsHexString}
 use Rattle.json_fields.specs.declared.fault.FieldFault.{FieldFault}
 use Rattle.json_fields.specs.declared.fault.FieldFault.TheVariants.{Kind}
 use Rattle.request_text.specs.RequestText.{seed_at}
@@ -75,3 +77,26 @@ kind (object ms) fault e = cc e
 
 pub refused : (d : Data) (fault : FieldFault) → seed_at d ≡ Err fault → (¬ IsSeedText d) × (fault ≡ Kind (codes "seed"))
 refused d fault e = (λ is. let it = taken d is in cc (it.1, e), kind d fault e)
+
+-- ---- by the value of each digit
+
+text_spelled : (text seed : List ℕ) → seed_at (string text) ≡ Ok seed → IsHexOf text seed
+unfolding seed_at
+text_spelled text seed e = by (decode_sized text 32) refl e
+  where
+    by : (r : Result (List ℕ) FromHexError) → decode_sized text 32 ≡ r → ok_or (result_ok r) (Kind (codes "seed")) ≡ Ok seed → IsHexOf text seed
+    by (Ok bytes) is reads = let same : bytes ≡ seed = cc reads in (decoded_sized text seed 32 (is ∙ ap Ok same)).1
+    by (Err f) is reads = absurd (cc reads)
+
+text_only : (text seed : List ℕ) → length seed ≡ 32 → IsHexOf text seed → seed_at (string text) ≡ Ok seed
+unfolding seed_at
+text_only text seed size is = ap (λ r. ok_or (result_ok r) (Kind (codes "seed"))) (decodes_sized text seed 32 size is)
+
+pub digits : (d : Data) (seed : List ℕ) → seed_at d ≡ Ok seed → IsHexString d seed
+digits d seed e =
+    let is = (found d seed e).0 in
+    let reads : seed_at (string is.text) ≡ Ok seed = ap seed_at (sym is.whole) ∙ e in
+    (is.text, is.whole, text_spelled is.text seed reads)
+
+pub only : (d : Data) (seed : List ℕ) → length seed ≡ 32 → IsHexString d seed → seed_at d ≡ Ok seed
+only d seed size is = ap seed_at is.1 ∙ text_only is.0 seed size is.2

@@ -1,4 +1,6 @@
+pub mod Entries
 pub mod PlainRequest
 pub mod Rules
 pub mod RequestText
+pub mod Table
 pub mod Told

@@ -14,6 +14,9 @@ mod request;
 mod tests;
 
 pub use fault::RequestFault;
-pub use laws::{finds_repeats, reads_methods, reads_seeds};
+pub use laws::{
+    finds_repeats, judges_recipient_lists, judges_recipients, reads_members, reads_methods,
+    reads_ranges, reads_seeds,
+};
 pub use reading::read_request;
 pub use request::{Method, Recipient, Request};

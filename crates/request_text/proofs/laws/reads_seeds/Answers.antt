@@ -1,4 +1,4 @@
-use Rattle.request_text.proofs.SeedLaws.{lower, upper, found, refused}
+use Rattle.request_text.proofs.SeedLaws.{digits, only, lower, upper, found, refused}
 use Rattle.request_text.proofs.laws.reads_seeds.Goals as goal
 
 pub returns-clause-lower : goal.returns-clause-lower
@@ -12,3 +12,9 @@ returns-clause-found c = found
 
 pub returns-clause-fault : goal.returns-clause-fault
 returns-clause-fault c = refused
+
+pub returns-clause-spelled : goal.returns-clause-spelled
+returns-clause-spelled c = digits
+
+pub returns-clause-only : goal.returns-clause-only
+returns-clause-only c = only
