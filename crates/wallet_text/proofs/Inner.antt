@@ -15,7 +15,7 @@ use Rattle.wallet_text.specs.declared.fault.Refusal.{Refusal}
 use Rattle.wallet_text.specs.declared.fault.Refusal.TheVariants.{Script, Weight, Tx, Repeat, ParentLater}
 use Rattle.wallet_text.specs.declared.wallet.Watch.{Watch}
 use Rattle.wallet_text.specs.declared.wallet.Earlier.{Earlier}
-use Rattle.wallet_text.proofs.TxMemory.{whole_never}
+use Rattle.tx_codec.proofs.OwnFaults.{whole_never}
 
 -- no transaction is refused for want of memory
 pub record HasReasons {A : Type 0} (read : Result A Refusal) : Type 0 where

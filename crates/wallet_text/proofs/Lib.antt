@@ -1,6 +1,9 @@
+pub mod EntryLaws
 pub mod Inner
+pub mod ListLaws
 pub mod Orders
 pub mod Rules
 pub mod Strings
-pub mod TxMemory
+pub mod TableLaws
+pub mod TxEntryLaws
 pub mod WalletLaws

@@ -1,11 +1,12 @@
 -- The rules over whole lists, as loops test them.
-use Rattle.std.proofs.Common.{◌≡◌, ℕ, suc, ◌+◌, ◌<◌, ◌≤◌, Bool, true, false, cond, ◌||◌, List, [], ◌∷◌, ◌++◌, length, get_or, take, drop, bytes_eq, Option, Some, None, refl, sym, ap, ◌∙◌, arith, add-one, drop-cons, not, true≢false}
+use Rattle.std.proofs.Common.{◌≡◌, ℕ, suc, ◌+◌, ◌<◌, ◌≤◌, Bool, true, false, cond, ◌||◌, List, [], ◌∷◌, ◌++◌, length, get_or, take, drop, bytes_eq, Option, Some, None, refl, sym, ap, ◌∙◌, arith, add-one, drop-cons, not}
 use Rattle.std.proofs.Math.ListN.{drop_of_length-le}
 use Rattle.std.proofs.Math.Seq.{take-suc, drop-length}
 use Rattle.std.proofs.lemmas.List.{length-take-le}
 use Rattle.std.proofs.lemmas.List.Folds.{list_any-append}
 use Rattle.std.proofs.lemmas.Slice.Eq.{bytes_eq-Decides}
 use Rattle.std.specs.List.{list_any}
+use Rattle.std.proofs.lemmas.Bool.{not-false, not-true}
 use Rattle.json_fields.specs.Fields.{is_among}
 use Rattle.tx_codec.specs.Transaction.{Transaction}
 use Rattle.tx_codec.specs.Txid.{txid_of}
@@ -42,25 +43,17 @@ repeat_none xs i total le so_far =
     let one : repeat_from (take i xs) (drop i xs) ≡ None = rw e refl in
     sym one ∙ so_far
 
-not_not : (b : Bool) → not b ≡ false → b ≡ true
-not_not true e = refl
-not_not false e = absurd (true≢false e)
-
-not_fresh : (b : Bool) → not b ≡ true → b ≡ false
-not_fresh true e = absurd (true≢false (sym e))
-not_fresh false e = refl
-
 -- a place whose string was there
 pub repeat_found : (xs : List (List ℕ)) (i : ℕ) (d x : List ℕ) (seen : List (List ℕ)) (fresh : Bool) (total : Option ℕ) → i < length xs → x ≡ get_or xs i d → seen ≡ take i xs → fresh ≡ not (is_among seen x) → fresh ≡ false
     → repeat_from (take i xs) (drop i xs) ≡ total → Some i ≡ total
 repeat_found xs i d x seen fresh total lt is front told known so_far =
-    repeat_here xs i d total lt ((λ k. is_among (sym front k) (sym is k)) ∙ not_not (is_among seen x) (sym told ∙ known)) so_far
+    repeat_here xs i d total lt ((λ k. is_among (sym front k) (sym is k)) ∙ not-false (is_among seen x) (sym told ∙ known)) so_far
 
 -- a place whose string is new
 pub repeat_step : (xs : List (List ℕ)) (i : ℕ) (d x : List ℕ) (seen new : List (List ℕ)) (fresh : Bool) (total : Option ℕ) → i < length xs → x ≡ get_or xs i d → seen ≡ take i xs → fresh ≡ not (is_among seen x) → fresh ≡ true
     → new ≡ cond (is_among seen x) seen (seen ++ x ∷ []) → repeat_from (take i xs) (drop i xs) ≡ total → (new ≡ take (i + 1) xs) × (repeat_from (take (i + 1) xs) (drop (i + 1) xs) ≡ total)
 repeat_step xs i d x seen new fresh total lt is front told known added so_far =
-    let absent : is_among seen x ≡ false = not_fresh (is_among seen x) (sym told ∙ known) in
+    let absent : is_among seen x ≡ false = not-true (is_among seen x) (sym told ∙ known) in
     let front_more : new ≡ take (i + 1) xs = added ∙ ap (λ b. cond b seen (seen ++ x ∷ [])) absent ∙ (λ k. front k ++ is k ∷ []) ∙ rw add-one (sym (take-suc xs i d lt)) in
     (front_more, repeat_more xs i d total lt ((λ k. is_among (sym front k) (sym is k)) ∙ absent) so_far)
 

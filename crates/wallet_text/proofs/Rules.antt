@@ -1,13 +1,15 @@
 -- What is read keeps the rules of wallets.
-use Rattle.std.proofs.Common.{◌≡◌, ◌≢◌, ℕ, zero, suc, ◌<◌, ◌≤◌, ◌==◌, Bool, true, false, cond, ◌&&◌, ◌||◌, not, List, [], ◌∷◌, ◌++◌, length, get_or, map, nat_lt, nat_le, Option, Some, None, Result, Ok, Err, Contains, refl, sym, ap, subst, ◌∙◌, true≢false, arith, append_assoc}
-use Rattle.std.proofs.lemmas.Bool.{leb-true, ltb-true, ltb-false}
+use Rattle.std.proofs.Common.{◌≡◌, ◌≢◌, ℕ, zero, suc, ◌<◌, ◌≤◌, ◌==◌, Bool, true, false, cond, ◌||◌, not, List, [], ◌∷◌, ◌++◌, length, get_or, map, nat_lt, nat_le, Option, Some, None, Result, Ok, Err, Contains, refl, sym, ap, subst, ◌∙◌, true≢false, arith, append_assoc}
+use Rattle.std.proofs.lemmas.Bool.{leb-true, ltb-true, ltb-false, and_parts, or_parts, not-false}
 use Rattle.std.proofs.lemmas.List.{get_or_default, get_or-map, length-map, append-nil}
 use Rattle.std.proofs.lemmas.List.Quantifiers.{all_pairs_push}
 use Rattle.std.specs.List.{list_any}
 use Rattle.std.specs.Prelude.{All, AllPairs}
+use Rattle.std.proofs.lemmas.List.Elements.{All-nil}
+use Rattle.fund_base.proofs.Laws.{bind_ok, told_ok}
 use Rattle.serde_json.specs.Data.{Data}
 use Rattle.fund_base.specs.Cursor.{IsBytes, At}
-use Rattle.fund_base.specs.Parsing.{◌>>=◌, fault_as, whole_of}
+use Rattle.fund_base.specs.Parsing.{◌>>=◌, whole_of}
 use Rattle.fund_base.specs.declared.outpoint.OutPoint.{OutPoint}
 use Rattle.json_fields.proofs.ValueFacts.{hex_is, hash_is, coin_is}
 use Rattle.json_fields.proofs.Loops.{each_keeps, each_is}
@@ -30,16 +32,6 @@ use Rattle.wallet_text.specs.declared.fault.Refusal.TheVariants.{Field, Script, 
 use Rattle.wallet_text.specs.declared.wallet.Watch.{Watch}
 use Rattle.wallet_text.specs.declared.wallet.Earlier.{Earlier}
 
--- a value that is read in two steps
-pub bind_ok : {A B E : Type 0} (first : Result A E) (then : A → Result B E) (out : B) → (first >>= then) ≡ Ok out → (x : A) × (first ≡ Ok x) × (then x ≡ Ok out)
-bind_ok (Ok x) then out e = (x, refl, e)
-bind_ok (Err fault) then out e = absurd (cc e)
-
--- a value that is read, however its fault is told
-pub told_ok : {A E F : Type 0} (tell : E → F) (read : Result A E) (out : A) → fault_as tell read ≡ Ok out → read ≡ Ok out
-told_ok tell (Ok x) out e = let same : x ≡ out = cc e in ap Ok same
-told_ok tell (Err fault) out e = absurd (cc e)
-
 pub field_ok : {A B : Type 0} (first : Result A FieldFault) (then : A → Result B Refusal) (out : B) → (field first >>= then) ≡ Ok out → (x : A) × (first ≡ Ok x) × (then x ≡ Ok out)
 field_ok first then out e = let s = bind_ok (field first) then out e in (s.0, told_ok Field first s.0 s.1, s.2)
 
@@ -56,19 +48,6 @@ watch_bytes whole d w e =
     let same : record { script = script.0; weight = weight.0 } ≡ w = cc weight.2 in
     subst (λ (v : Watch). IsBytes v.script) same (hex_is _ b.0 script.0 script.1)
 
--- what a test that passes says
-pub both : (a b : Bool) → (a && b) ≡ true → (a ≡ true) × (b ≡ true)
-both true b e = (refl, e)
-both false b e = absurd (true≢false (sym e))
-
-pub neither : (a b : Bool) → (a || b) ≡ false → (a ≡ false) × (b ≡ false)
-neither true b e = absurd (true≢false e)
-neither false b e = (refl, e)
-
-pub not_not : (b : Bool) → not b ≡ false → b ≡ true
-not_not true e = refl
-not_not false e = absurd (true≢false e)
-
 -- a rule that isn't broken
 passes : {A : Type 0} (test : Bool) (fault : Refusal) (rest : Result A Refusal) (out : A) → cond test (Err fault) rest ≡ Ok out → (test ≡ false) × (rest ≡ Ok out)
 passes true fault rest out e = absurd (cc e)
@@ -79,9 +58,9 @@ unfolding judged
 judged_is listed index v w bytes e =
     let a = passes (listed || not (has_script_length v.script)) (Script (told_index index)) _ w e in
     let b = passes (nat_lt v.weight 165 || nat_lt 400000 v.weight) (Weight (told_index index)) _ w a.1 in
-    let length_test = neither listed (not (has_script_length v.script)) a.0 in
-    let lengths = both (nat_lt 0 (length v.script)) (nat_le (length v.script) 10000) (not_not (has_script_length v.script) length_test.1) in
-    let weights = neither (nat_lt v.weight 165) (nat_lt 400000 v.weight) b.0 in
+    let length_test = or_parts listed (not (has_script_length v.script)) a.0 in
+    let lengths = and_parts (nat_lt 0 (length v.script)) (nat_le (length v.script) 10000) (not-false (has_script_length v.script) length_test.1) in
+    let weights = or_parts (nat_lt v.weight 165) (nat_lt 400000 v.weight) b.0 in
     let same : v ≡ w = cc b.1 in (
       subst IsWatch same (record {
         some = ltb-true 0 (length v.script) lengths.0;
@@ -172,9 +151,6 @@ optional_is : {A E : Type 0} (P : A → Type 0) (default : A) (reading : Data �
 optional_is P default reading None out here there e = let same : default ≡ out = cc e in subst P same here
 optional_is P default reading (Some d) out here there e = there d out e
 
-all_nil : {X : Type 0} (P : X → Type 0) → All P []
-all_nil P k d lt = absurd (omega arith)
-
 earlier_list_is : (most : ℕ) (d : Data) (es : List Earlier) → earlier_list_at most d ≡ Ok es → All (IsEarlier most) es
 unfolding earlier_list_at
 earlier_list_is most d es e =
@@ -182,7 +158,7 @@ earlier_list_is most d es e =
     each_is (IsEarlier most) (earlier_behind most) (λ front x entry is. earlier_is most (length front) x entry is) a.0 es a.2
 
 pub earlier_are : (most : ℕ) (o : Option Data) (es : List Earlier) → optional [] (earlier_list_at most) o ≡ Ok es → All (IsEarlier most) es
-earlier_are most o es e = optional_is (All (IsEarlier most)) [] (earlier_list_at most) o es (all_nil (IsEarlier most)) (earlier_list_is most) e
+earlier_are most o es e = optional_is (All (IsEarlier most)) [] (earlier_list_at most) o es (All-nil (IsEarlier most)) (earlier_list_is most) e
 
 pending_list_is : (d : Data) (ts : List Transaction) → pending_list_at d ≡ Ok ts → All IsTransaction ts
 unfolding pending_list_at
@@ -191,7 +167,7 @@ pending_list_is d ts e =
     each_is IsTransaction pending_behind (λ front x t is. pending_is (length front) x t is) a.0 ts a.2
 
 pub pending_are : (o : Option Data) (ts : List Transaction) → optional [] pending_list_at o ≡ Ok ts → All IsTransaction ts
-pending_are o ts e = optional_is (All IsTransaction) [] pending_list_at o ts (all_nil IsTransaction) pending_list_is e
+pending_are o ts e = optional_is (All IsTransaction) [] pending_list_at o ts (All-nil IsTransaction) pending_list_is e
 
 abandoned_list_is : (d : Data) (hs : List (List ℕ)) → abandoned_list_at d ≡ Ok hs → All IsHash hs
 unfolding abandoned_list_at
@@ -200,7 +176,7 @@ abandoned_list_is d hs e =
     each_is IsHash (λ _. hash_at _) (λ front x h is. hash_is _ x h is) a.0 hs a.2
 
 pub abandoned_are : (o : Option Data) (hs : List (List ℕ)) → optional [] abandoned_list_at o ≡ Ok hs → All IsHash hs
-abandoned_are o hs e = optional_is (All IsHash) [] abandoned_list_at o hs (all_nil IsHash) abandoned_list_is e
+abandoned_are o hs e = optional_is (All IsHash) [] abandoned_list_at o hs (All-nil IsHash) abandoned_list_is e
 
 locked_list_is : (d : Data) (cs : List OutPoint) → locked_list_at d ≡ Ok cs → All IsPoint cs
 unfolding locked_list_at
@@ -209,7 +185,7 @@ locked_list_is d cs e =
     each_is IsPoint (λ _. coin_at _) (λ front x c is. coin_is _ x c is) a.0 cs a.2
 
 pub locked_are : (o : Option Data) (cs : List OutPoint) → optional [] locked_list_at o ≡ Ok cs → All IsPoint cs
-locked_are o cs e = optional_is (All IsPoint) [] locked_list_at o cs (all_nil IsPoint) locked_list_is e
+locked_are o cs e = optional_is (All IsPoint) [] locked_list_at o cs (All-nil IsPoint) locked_list_is e
 
 -- ---- whole lists
 
@@ -238,8 +214,8 @@ distinct_of f xs e = pairs_of f xs (none_repeats [] (map f xs) e (λ i j d lt wi
 -- a test that no item passes
 fails_at : {X : Type 0} (p : X → Bool) (xs : List X) → list_any p xs ≡ false → (k : ℕ) (d : X) → k < length xs → p (get_or xs k d) ≡ false
 fails_at p [] e k d lt = absurd (omega arith)
-fails_at p (x ∷ xs) e zero d lt = (neither (p x) (list_any p xs) e).0
-fails_at p (x ∷ xs) e (suc k) d lt = fails_at p xs (neither (p x) (list_any p xs) e).1 k d (omega arith)
+fails_at p (x ∷ xs) e zero d lt = (or_parts (p x) (list_any p xs) e).0
+fails_at p (x ∷ xs) e (suc k) d lt = fails_at p xs (or_parts (p x) (list_any p xs) e).1 k d (omega arith)
 
 pub spends_none : (ts : List Transaction) (t : Transaction) → spends_one_of (txids_of ts) t ≡ false → (j : ℕ) (d : Transaction) → j < length ts → SpendsNone t (get_or ts j d)
 spends_none ts t e j d within k input lt same =

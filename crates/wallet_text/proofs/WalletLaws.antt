@@ -1,18 +1,18 @@
 -- What the rules of entries and of whole lists come to.
-use Rattle.std.proofs.Common.{◌≡◌, ◌≢◌, ℕ, zero, suc, ◌+◌, ◌<◌, ◌≤◌, Bool, true, false, cond, ◌&&◌, ◌||◌, not, List, [], ◌∷◌, ◌++◌, length, get_or, nat_lt, nat_le, ◌⊎◌, inl, inr, Option, Some, None, Result, Ok, Err, Contains, refl, sym, ap, subst, ◌∙◌, true≢false, arith, append_assoc}
+use Rattle.std.proofs.Common.{◌≡◌, ◌≢◌, ℕ, zero, suc, ◌+◌, ◌<◌, ◌≤◌, Bool, true, false, cond, ◌&&◌, ◌||◌, not, List, [], ◌∷◌, ◌++◌, length, get_or, nat_lt, nat_le, ◌⊎◌, inl, inr, Option, Some, None, Result, Ok, Err, refl, sym, ap, subst, ◌∙◌, true≢false, arith, append_assoc}
 use Rattle.std.proofs.lemmas.Bool.{leb-true, leb-false, ltb-true, ltb-false, lt-ltb}
 use Rattle.std.proofs.lemmas.List.Quantifiers.{all_pairs_push}
 use Rattle.std.proofs.lemmas.List.{get_or_default}
 use Rattle.std.specs.Bool.{⊤}
-use Rattle.std.specs.List.{list_any}
 use Rattle.std.specs.Prelude.{AllPairs, codes}
+use Rattle.fund_base.proofs.Lists.{any_found}
 use Rattle.fund_base.specs.Parsing.{◌>>=◌}
-use Rattle.json_fields.proofs.Members.{is_among-Contains, Contains-is_among, behind}
+use Rattle.json_fields.proofs.Members.{is_among-Contains, Contains-is_among}
 use Rattle.json_fields.specs.Fields.{is_among, refuse}
 use Rattle.tx_codec.specs.Transaction.{Transaction}
 use Rattle.tx_codec.specs.Txid.{txid_of}
 use Rattle.tx_codec.specs.declared.tx.TxIn.{TxIn}
-use Rattle.wallet_text.specs.WalletRules.{IsWatch, SpendsNone, SpendsOneOf, AreDistinct, IsFirstRepeat, IsFirstLater}
+use Rattle.wallet_text.specs.WalletRules.{IsWatch, SpendsNone, SpendsOneOf, AreDistinct, AreDistinctEarlier, IsFirstRepeat, IsFirstLater}
 use Rattle.wallet_text.specs.WalletText.{told_index, has_script_length, judged, txids_of, earlier_txids, repeat_from, spends_one_of, later_from, lists_at}
 use Rattle.wallet_text.specs.declared.fault.Refusal.{Refusal}
 use Rattle.wallet_text.specs.declared.fault.Refusal.TheVariants.{Script, Weight, Repeat, ParentLater}
@@ -108,7 +108,7 @@ weight_told index w some most (inr high) =
 
 -- ---- lists
 
-repeat_is : (front xs : List (List ℕ)) (place : ℕ) → AllPairs Apart front → repeat_from front xs ≡ Some place → IsFirstRepeat (front ++ xs) place
+pub repeat_is : (front xs : List (List ℕ)) (place : ℕ) → AllPairs Apart front → repeat_from front xs ≡ Some place → IsFirstRepeat (front ++ xs) place
 unfolding repeat_from
 repeat_is front [] place kept e = absurd (cc e)
 repeat_is front (x ∷ xs) place kept e = by (is_among front x) refl e (repeat_is (front ++ x ∷ []) xs place)
@@ -117,18 +117,9 @@ repeat_is front (x ∷ xs) place kept e = by (is_among front x) refl e (repeat_i
     by true is reads rest = record { front = front; txid = x; back = xs; parts = refl; place_is = sym (cc reads); stood = Contains-is_among front x is; distinct = kept }
     by false is reads rest = subst (λ all. IsFirstRepeat all place) (append_assoc front (x ∷ []) xs) (rest (all_pairs_push Apart front x kept (λ k d lt same. true≢false (sym (is_among-Contains front x (k, lt, get_or_default front k x d lt ∙ same)) ∙ is))) reads)
 
--- an item that passes
-some_passes : {X : Type 0} (p : X → Bool) (xs : List X) → list_any p xs ≡ true → (x : X) × Contains xs x × (p x ≡ true)
-some_passes p [] e = absurd (true≢false (sym e))
-some_passes {X} p (x ∷ xs) e = by (p x) refl e (some_passes p xs)
-  where
-    by : (b : Bool) → p x ≡ b → (b || list_any p xs) ≡ true → (list_any p xs ≡ true → (y : X) × Contains xs y × (p y ≡ true)) → (y : X) × Contains (x ∷ xs) y × (p y ≡ true)
-    by true is any rest = (x, (zero, omega arith, refl), is)
-    by false is any rest = let r = rest any in (r.0, behind x xs r.0 r.1, r.2)
-
 spends_is : (ts : List Transaction) (t : Transaction) → spends_one_of (txids_of ts) t ≡ true → SpendsOneOf ts t
 spends_is ts t e =
-    let r = some_passes (λ (i : TxIn). is_among (txids_of ts) i.prev.txid) t.inputs e in
+    let r = any_found (λ (i : TxIn). is_among (txids_of ts) i.prev.txid) t.inputs e in
     (r.0, r.1, Contains-is_among (txids_of ts) r.0.prev.txid r.2)
 
 one_more : (t : Transaction) (ts : List Transaction) (n : ℕ) → ((j : ℕ) (d : Transaction) → j < length (t ∷ ts) → SpendsNone t (get_or (t ∷ ts) j d)) → ((i j : ℕ) (d : Transaction) → i < n → i ≤ j → j < length ts → SpendsNone (get_or ts i d) (get_or ts j d))
@@ -137,7 +128,7 @@ one_more t ts n none rest zero j d lt le within = none j d within
 one_more t ts n none rest (suc i) zero d lt le within = absurd (omega arith)
 one_more t ts n none rest (suc i) (suc j) d lt le within = rest i j d (omega arith) (omega arith) (omega arith)
 
-later_is : (index : ℕ) (ts : List Transaction) (place : ℕ) → later_from index ts ≡ Some place → (k : ℕ) × (place ≡ index + k) × IsFirstLater ts k
+pub later_is : (index : ℕ) (ts : List Transaction) (place : ℕ) → later_from index ts ≡ Some place → (k : ℕ) × (place ≡ index + k) × IsFirstLater ts k
 unfolding later_from
 later_is index [] place e = absurd (cc e)
 later_is index (t ∷ ts) place e = by (spends_one_of (txids_of (t ∷ ts)) t) refl e (later_is (suc index) ts place)
@@ -170,11 +161,11 @@ refused_last : {A : Type 0} (fault : A → Refusal) (o : Option A) (e : Refusal)
 refused_last fault None e is = absurd (cc is)
 refused_last fault (Some x) e is = (x, refl, sym (cc is))
 
-none_apart : AllPairs Apart []
+pub none_apart : AllPairs Apart []
 none_apart i j d lt within = absurd (omega arith)
 
 abbrev Repeated : List Earlier → List Transaction → List ℕ → ℕ → Type 0
-Repeated earlier pending list told = (place : ℕ) × (told ≡ told_index place) × (((list ≡ codes "earlier") × IsFirstRepeat (earlier_txids earlier) place) ⊎ ((list ≡ codes "pending") × IsFirstRepeat (txids_of pending) place))
+Repeated earlier pending list told = (place : ℕ) × (told ≡ told_index place) × (((list ≡ codes "earlier") × IsFirstRepeat (earlier_txids earlier) place) ⊎ ((list ≡ codes "pending") × AreDistinctEarlier earlier × IsFirstRepeat (txids_of pending) place))
 
 pub repeated : (earlier : List Earlier) (pending : List Transaction) (list : List ℕ) (told : ℕ) → lists_at earlier pending ≡ Err (Repeat list told) → Repeated earlier pending list told
 unfolding lists_at
@@ -183,33 +174,33 @@ repeated earlier pending list told e = first (refused_by (λ i. Repeat (codes "e
     third : (x : ℕ) × (later_from 0 pending ≡ Some x) × (Repeat list told ≡ ParentLater (told_index x)) → Repeated earlier pending list told
     third r = absurd (cc r.2)
 
-    second : ((x : ℕ) × (repeat_from [] (txids_of pending) ≡ Some x) × (Repeat list told ≡ Repeat (codes "pending") (told_index x))) ⊎ ((repeat_from [] (txids_of pending) ≡ None) × (refuse (λ i. ParentLater (told_index i)) (later_from 0 pending) ≡ Err (Repeat list told))) → Repeated earlier pending list told
-    second (inl r) = (r.0, cc r.2, inr (cc r.2, repeat_is [] (txids_of pending) r.0 none_apart r.1))
-    second (inr r) = third (refused_last (λ i. ParentLater (told_index i)) (later_from 0 pending) (Repeat list told) r.1)
+    second : AreDistinctEarlier earlier → ((x : ℕ) × (repeat_from [] (txids_of pending) ≡ Some x) × (Repeat list told ≡ Repeat (codes "pending") (told_index x))) ⊎ ((repeat_from [] (txids_of pending) ≡ None) × (refuse (λ i. ParentLater (told_index i)) (later_from 0 pending) ≡ Err (Repeat list told))) → Repeated earlier pending list told
+    second kept (inl r) = (r.0, cc r.2, inr (cc r.2, kept, repeat_is [] (txids_of pending) r.0 none_apart r.1))
+    second kept (inr r) = third (refused_last (λ i. ParentLater (told_index i)) (later_from 0 pending) (Repeat list told) r.1)
 
     first : ((x : ℕ) × (repeat_from [] (earlier_txids earlier) ≡ Some x) × (Repeat list told ≡ Repeat (codes "earlier") (told_index x))) ⊎ ((repeat_from [] (earlier_txids earlier) ≡ None) × ((refuse (λ i. Repeat (codes "pending") (told_index i)) (repeat_from [] (txids_of pending)) >>= λ _. refuse (λ i. ParentLater (told_index i)) (later_from 0 pending)) ≡ Err (Repeat list told))) → Repeated earlier pending list told
     first (inl r) = (r.0, cc r.2, inl (cc r.2, repeat_is [] (earlier_txids earlier) r.0 none_apart r.1))
-    first (inr r) = second (refused_by (λ i. Repeat (codes "pending") (told_index i)) (repeat_from [] (txids_of pending)) _ (Repeat list told) r.1)
+    first (inr r) = second (distinct_of (λ (e : Earlier). txid_of e.tx) earlier r.0) (refused_by (λ i. Repeat (codes "pending") (told_index i)) (repeat_from [] (txids_of pending)) _ (Repeat list told) r.1)
 
-abbrev Later : List Transaction → ℕ → Type 0
-Later pending told = (place : ℕ) × (told ≡ told_index place) × AreDistinct pending × IsFirstLater pending place
+abbrev Later : List Earlier → List Transaction → ℕ → Type 0
+Later earlier pending told = (place : ℕ) × (told ≡ told_index place) × AreDistinctEarlier earlier × AreDistinct pending × IsFirstLater pending place
 
-pub later : (earlier : List Earlier) (pending : List Transaction) (told : ℕ) → lists_at earlier pending ≡ Err (ParentLater told) → Later pending told
+pub later : (earlier : List Earlier) (pending : List Transaction) (told : ℕ) → lists_at earlier pending ≡ Err (ParentLater told) → Later earlier pending told
 unfolding lists_at
 later earlier pending told e = first (refused_by (λ i. Repeat (codes "earlier") (told_index i)) (repeat_from [] (earlier_txids earlier)) _ (ParentLater told) e)
   where
-    third : repeat_from [] (txids_of pending) ≡ None → (x : ℕ) × (later_from 0 pending ≡ Some x) × (ParentLater told ≡ ParentLater (told_index x)) → Later pending told
-    third none r =
+    third : AreDistinctEarlier earlier → repeat_from [] (txids_of pending) ≡ None → (x : ℕ) × (later_from 0 pending ≡ Some x) × (ParentLater told ≡ ParentLater (told_index x)) → Later earlier pending told
+    third kept none r =
         let at = later_is 0 pending r.0 r.1 in
         let place = at.1 in
         let same : r.0 ≡ at.0 = omega arith in
         let is : told ≡ told_index r.0 = cc r.2 in
-        (at.0, is ∙ ap told_index same, distinct_of txid_of pending none, at.2)
+        (at.0, is ∙ ap told_index same, kept, distinct_of txid_of pending none, at.2)
 
-    second : ((x : ℕ) × (repeat_from [] (txids_of pending) ≡ Some x) × (ParentLater told ≡ Repeat (codes "pending") (told_index x))) ⊎ ((repeat_from [] (txids_of pending) ≡ None) × (refuse (λ i. ParentLater (told_index i)) (later_from 0 pending) ≡ Err (ParentLater told))) → Later pending told
-    second (inl r) = absurd (cc r.2)
-    second (inr r) = third r.0 (refused_last (λ i. ParentLater (told_index i)) (later_from 0 pending) (ParentLater told) r.1)
+    second : AreDistinctEarlier earlier → ((x : ℕ) × (repeat_from [] (txids_of pending) ≡ Some x) × (ParentLater told ≡ Repeat (codes "pending") (told_index x))) ⊎ ((repeat_from [] (txids_of pending) ≡ None) × (refuse (λ i. ParentLater (told_index i)) (later_from 0 pending) ≡ Err (ParentLater told))) → Later earlier pending told
+    second kept (inl r) = absurd (cc r.2)
+    second kept (inr r) = third kept r.0 (refused_last (λ i. ParentLater (told_index i)) (later_from 0 pending) (ParentLater told) r.1)
 
-    first : ((x : ℕ) × (repeat_from [] (earlier_txids earlier) ≡ Some x) × (ParentLater told ≡ Repeat (codes "earlier") (told_index x))) ⊎ ((repeat_from [] (earlier_txids earlier) ≡ None) × ((refuse (λ i. Repeat (codes "pending") (told_index i)) (repeat_from [] (txids_of pending)) >>= λ _. refuse (λ i. ParentLater (told_index i)) (later_from 0 pending)) ≡ Err (ParentLater told))) → Later pending told
+    first : ((x : ℕ) × (repeat_from [] (earlier_txids earlier) ≡ Some x) × (ParentLater told ≡ Repeat (codes "earlier") (told_index x))) ⊎ ((repeat_from [] (earlier_txids earlier) ≡ None) × ((refuse (λ i. Repeat (codes "pending") (told_index i)) (repeat_from [] (txids_of pending)) >>= λ _. refuse (λ i. ParentLater (told_index i)) (later_from 0 pending)) ≡ Err (ParentLater told))) → Later earlier pending told
     first (inl r) = absurd (cc r.2)
-    first (inr r) = second (refused_by (λ i. Repeat (codes "pending") (told_index i)) (repeat_from [] (txids_of pending)) _ (ParentLater told) r.1)
+    first (inr r) = second (distinct_of (λ (e : Earlier). txid_of e.tx) earlier r.0) (refused_by (λ i. Repeat (codes "pending") (told_index i)) (repeat_from [] (txids_of pending)) _ (ParentLater told) r.1)

@@ -1,4 +1,7 @@
 pub mod PlainWallet
+pub mod ScriptEntries
+pub mod Table
 pub mod Told
+pub mod TxEntries
 pub mod WalletRules
 pub mod WalletText

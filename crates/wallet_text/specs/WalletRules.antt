@@ -34,6 +34,10 @@ AreDistinctScripts ws = AllPairs (λ (v w : Watch). v.script ≢ w.script) ws
 abbrev pub AreDistinct : List Transaction → Type 0
 AreDistinct ts = AllPairs (λ s t. txid_of s ≢ txid_of t) ts
 
+-- no two earlier ones have
+abbrev pub AreDistinctEarlier : List Earlier → Type 0
+AreDistinctEarlier es = AllPairs (λ (d e : Earlier). txid_of d.tx ≢ txid_of e.tx) es
+
 -- an earlier transaction has a text, and a height that is at most that of the wallet
 pub record IsEarlier (most : ℕ) (e : Earlier) : Type 0 where
   pub tx : IsTransaction e.tx
@@ -46,7 +50,7 @@ pub record IsWallet (w : PlainWallet) : Type 0 where
   pub scripts_distinct : AreDistinctScripts w.scripts
   pub change : IsWatch w.change
   pub earlier : All (IsEarlier w.height) w.earlier
-  pub earlier_distinct : AllPairs (λ (d e : Earlier). txid_of d.tx ≢ txid_of e.tx) w.earlier
+  pub earlier_distinct : AreDistinctEarlier w.earlier
   pub pending : All IsTransaction w.pending
   pub pending_distinct : AreDistinct w.pending
   pub parents : ParentsComeFirst w.pending

@@ -13,6 +13,6 @@ mod tests;
 mod wallet;
 
 pub use fault::WalletFault;
-pub use laws::{judges_entries, judges_lists};
+pub use laws::{judges_entries, judges_lists, judges_scripts, judges_transactions, reads_members};
 pub use reading::read_wallet;
 pub use wallet::{Earlier, Wallet, Watch};
