@@ -1,1 +1,2 @@
+pub mod CoinLaws
 pub mod NameLaws

@@ -17,7 +17,7 @@ mod wallet;
 pub use address::address_fault_words;
 pub use blocks::feed_fault_words;
 pub use coin::{coin_text, shown_hash};
-pub use laws::names_are_told_apart;
+pub use laws::{coins_are_told_apart, names_are_told_apart};
 pub use name::shown_name;
 pub use request::request_fault_words;
 pub use transaction::tx_fault_words;

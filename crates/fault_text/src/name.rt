@@ -6,7 +6,7 @@ ghost use Rattle.fault_text.specs.Name.{shown_byte, shown_name};
 use fund_base::Memory;
 use std::alloc::Global;
 
-/// A name that a file gives, so that it stays one word of one line: each of its bytes that is printable
+/// A name that a file gives, so that it is never two words or two lines: each of its bytes that is printable
 /// ASCII without the blank, 33 to 126, stands as it is, but for the backslash; any other, and the
 /// backslash, is written as `\x` and two lower-case hex digits. It refuses for want of memory alone.
 #[tactic(auto, unfolding(crate::specs::Name::shown_name))]
