@@ -15,3 +15,5 @@ pub mod BlockSteps
 pub mod LawSteps
 pub mod RepeatSteps
 pub mod SpendSteps
+pub mod OutputSteps
+pub mod ToldSteps

@@ -65,7 +65,7 @@ or_none : (a b : Bool) → (a || b) ≡ false → b ≡ false
 or_none true b e = absurd (true≢false e)
 or_none false b e = e
 
-none_is : {X : Type 0} (o : Option X) → is_some o ≡ false → o ≡ None
+pub none_is : {X : Type 0} (o : Option X) → is_some o ≡ false → o ≡ None
 none_is None e = refl
 none_is (Some x) e = absurd (true≢false e)
 

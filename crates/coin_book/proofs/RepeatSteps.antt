@@ -14,18 +14,16 @@ use Rattle.fund_base.proofs.OutpointLaws.{same_outpoint-Decides}
 use Rattle.coin_book.specs.Coins.{Made, coins_of, confirmed_made, made_of, pending_made}
 use Rattle.coin_book.specs.Faults.{fault_behind, fault_of, points}
 use Rattle.coin_book.specs.History.{History}
+use Rattle.coin_book.specs.Repeats.{AreApart}
 use Rattle.coin_book.specs.declared.fault.BookFault.TheVariants.{Full, RepeatCoin}
 use Rattle.coin_book.proofs.FaultSteps.{fault_rest, room_for, sound_confirmed, sound_count}
 
-abbrev pub AreApart : List OutPoint → Type 0
-AreApart os = AllPairs (λ (a b : OutPoint). a ≢ b) os
-
 -- an outpoint that isn't found among others is none of them
-other : (before : List OutPoint) (o : OutPoint) → list_any (same_outpoint o) before ≡ false → (k : ℕ) (d : OutPoint) → k < length before → get_or before k d ≢ o
+pub other : (before : List OutPoint) (o : OutPoint) → list_any (same_outpoint o) before ≡ false → (k : ℕ) (d : OutPoint) → k < length before → get_or before k d ≢ o
 other before o none k d lt same =
     true≢false (sym (list_any_at (same_outpoint o) before k d lt ((same_outpoint-Decides o (get_or before k d)).1 (sym same))) ∙ none)
 
-apart_behind : (before os : List OutPoint) → AreApart before → fault_behind before os ≡ None → AreApart (before ++ os)
+pub apart_behind : (before os : List OutPoint) → AreApart before → fault_behind before os ≡ None → AreApart (before ++ os)
 unfolding fault_behind
 apart_behind before [] apart is = subst AreApart (sym (append-nil before)) apart
 apart_behind before (o ∷ os) apart is =
@@ -63,7 +61,7 @@ none_behind before (o ∷ os) apart le =
     ∙ none_behind (before ++ o ∷ []) os (subst AreApart (sym (append_assoc before (o ∷ []) os)) apart) (omega arith)
 
 -- the coins are the confirmed ones and those that wait
-coin_count : (h : History) → length (coins_of h) ≡ length (confirmed_made h) + length (pending_made h)
+pub coin_count : (h : History) → length (coins_of h) ≡ length (confirmed_made h) + length (pending_made h)
 unfolding made_of
 coin_count h = length-map (made_of h) (λ (m : Made). m.coin) ∙ length-append (confirmed_made h) (pending_made h)
 

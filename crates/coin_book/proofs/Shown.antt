@@ -6,6 +6,7 @@ use Rattle.std.specs.Map.{keys_of, lookup}
 use Rattle.std.proofs.lemmas.List.{length-append, length-map, map-append}
 use Rattle.std.proofs.lemmas.List.Folds.{find-append}
 use Rattle.std.proofs.lemmas.Simd.{map-map}
+use Rattle.coin_book.proofs.StaySteps.{same_head}
 use Rattle.fund_base.specs.Outpoints.{same_outpoint}
 use Rattle.fund_base.specs.declared.outpoint.OutPoint.{OutPoint}
 use Rattle.tx_codec.specs.Transaction.{Transaction}
@@ -67,9 +68,6 @@ maker_in o es = option_map (λ (h : Held). h.maker.value) (lookup (same_outpoint
 
 abbrev pub maker_among : OutPoint → List Made → Option Transaction
 maker_among o made = option_map (λ (m : Made). m.maker) (find (λ (m : Made). same_outpoint o m.coin.coin) made)
-
-same_head : (a b : OutPoint) (xs ys : List OutPoint) → a ∷ xs ≡ b ∷ ys → (a ≡ b) × (xs ≡ ys)
-same_head a b xs ys e = (cc, cc)
 
 found_by : (b : Bool) (x : Held) (m : Made) (r : Option Held) (s : Option Made) → x.maker.value ≡ m.maker → option_map (λ (h : Held). h.maker.value) r ≡ option_map (λ (m : Made). m.maker) s
     → option_map (λ (h : Held). h.maker.value) (cond b (Some x) r) ≡ option_map (λ (m : Made). m.maker) (cond b (Some m) s)

@@ -1,6 +1,6 @@
 -- What is told of the transactions that spend an outpoint is exactly what the chain holds of them.
-use Rattle.std.proofs.Common.{◌≡◌, ◌≢◌, ◌∙◌, ◌⊎◌, inl, inr, ℕ, zero, suc, ◌<◌, Bool, true, false, cond, ◌&&◌, ◌||◌, List, [], ◌∷◌, ◌++◌, length, take, get_or, Option, Some, None, All, Contains, refl, sym, ap, subst, arith, true≢false, slice_get}
-use Rattle.std.specs.Prelude.{bytes_eq, find, is_some, not, option_and_then, option_map, ◌↔◌}
+use Rattle.std.proofs.Common.{◌≡◌, ◌≢◌, ◌∙◌, ◌⊎◌, inl, inr, ℕ, zero, suc, ◌<◌, Bool, true, false, cond, ◌&&◌, List, [], ◌∷◌, ◌++◌, length, take, get_or, Option, Some, None, All, Contains, refl, sym, ap, subst, arith, true≢false, slice_get}
+use Rattle.std.specs.Prelude.{bytes_eq, is_some, not, option_and_then, ◌↔◌}
 use Rattle.std.specs.List.{AllPairs, Any, list_any}
 use Rattle.std.specs.Option.{option_to_list}
 use Rattle.std.proofs.lemmas.Bool.{cases_order, false_from_ne_true}
@@ -10,6 +10,7 @@ use Rattle.std.proofs.lemmas.List.Folds.{Any-from_list_any, list_any-from_Any, l
 use Rattle.std.proofs.lemmas.List.Quantifiers.{all_pairs_push}
 use Rattle.std.proofs.lemmas.Option.{slice_get_within}
 use Rattle.std.proofs.lemmas.Slice.Eq.{bytes_eq-Decides}
+use Rattle.fund_base.proofs.Lists.{found_some}
 use Rattle.fund_base.specs.Outpoints.{same_outpoint}
 use Rattle.fund_base.specs.declared.outpoint.OutPoint.{OutPoint}
 use Rattle.fund_base.proofs.OutpointLaws.{same_outpoint-Decides}
@@ -21,36 +22,28 @@ use Rattle.coin_book.specs.declared.coin.Spend.{Spend}
 
 -- ---- txids in the chain
 
-found_some : {X Y : Type 0} (p : X → Bool) (f : X → Y) (xs : List X) → is_some (option_map f (find p xs)) ≡ list_any p xs
-found_some p f [] = refl
-found_some {X = X} p f (x ∷ xs) = by (p x) (found_some p f xs)
-  where
-    by : (b : Bool) → is_some (option_map f (find p xs)) ≡ list_any p xs → is_some (option_map f (cond b (Some x) (find p xs))) ≡ (b || list_any p xs)
-    by true e = refl
-    by false e = e
-
 has_height : (chain : List Confirmed) (t : List ℕ) → is_some (height_of chain t) ≡ list_any (λ (c : Confirmed). bytes_eq (txid_of c.tx) t) chain
 unfolding height_of
 has_height chain t = found_some (λ (c : Confirmed). bytes_eq (txid_of c.tx) t) (λ (c : Confirmed). c.height) chain
 
-none_before : (chain : List Confirmed) (t : List ℕ) → is_some (height_of chain t) ≡ false → All (λ (c : Confirmed). txid_of c.tx ≢ t) chain
+pub none_before : (chain : List Confirmed) (t : List ℕ) → is_some (height_of chain t) ≡ false → All (λ (c : Confirmed). txid_of c.tx ≢ t) chain
 none_before chain t none = λ k d lt same.
     true≢false (sym (has_height chain t ∙ list_any_at (λ (c : Confirmed). bytes_eq (txid_of c.tx) t) chain k d lt ((bytes_eq-Decides (txid_of (get_or chain k d).tx) t).1 same)) ∙ none)
 
-not_known : (chain : List Confirmed) (t : List ℕ) → All (λ (c : Confirmed). txid_of c.tx ≢ t) chain → is_some (height_of chain t) ≡ false
+pub not_known : (chain : List Confirmed) (t : List ℕ) → All (λ (c : Confirmed). txid_of c.tx ≢ t) chain → is_some (height_of chain t) ≡ false
 not_known chain t apart =
     has_height chain t
     ∙ list_any_none (λ (c : Confirmed). bytes_eq (txid_of c.tx) t) chain (λ k d lt. false_from_ne_true (bytes_eq (txid_of (get_or chain k d).tx) t) (λ is. apart k d lt ((bytes_eq-Decides (txid_of (get_or chain k d).tx) t).0 is)))
 
 -- ---- inputs
 
-spends_by_one : (o : OutPoint) (inputs : List TxIn) → has_input o inputs ≡ true → Any (λ (i : TxIn). i.prev ≡ o) inputs
+pub spends_by_one : (o : OutPoint) (inputs : List TxIn) → has_input o inputs ≡ true → Any (λ (i : TxIn). i.prev ≡ o) inputs
 unfolding has_input
 spends_by_one o inputs h =
     let a = Any-from_list_any (λ (i : TxIn). same_outpoint i.prev o) inputs h in
     (a.0, a.1, a.2, a.3, (same_outpoint-Decides a.1.prev o).0 a.4)
 
-has_one : (o : OutPoint) (inputs : List TxIn) → Any (λ (i : TxIn). i.prev ≡ o) inputs → has_input o inputs ≡ true
+pub has_one : (o : OutPoint) (inputs : List TxIn) → Any (λ (i : TxIn). i.prev ≡ o) inputs → has_input o inputs ≡ true
 unfolding has_input
 has_one o inputs a = list_any-from_Any (λ (i : TxIn). same_outpoint i.prev o) inputs (a.0, a.1, a.2, a.3, (same_outpoint-Decides a.1.prev o).1 a.4)
 
@@ -71,7 +64,7 @@ this_one chain o n c s at is = by (has_input o c.tx.inputs) (is_some (height_of 
     by true true e f is = absurd cc
     by false known e f is = absurd cc
 
-at_place : (chain : List Confirmed) (o : OutPoint) (n : ℕ) (s : Spend) → spend_at chain o n ≡ Some s → IsSpendOf chain o s × (s.place ≡ n)
+pub at_place : (chain : List Confirmed) (o : OutPoint) (n : ℕ) (s : Spend) → spend_at chain o n ≡ Some s → IsSpendOf chain o s × (s.place ≡ n)
 unfolding spend_at
 at_place chain o n s is = by (slice_get chain n) refl is
   where
@@ -80,7 +73,7 @@ at_place chain o n s is = by (slice_get chain n) refl is
     by (Some c) e is = this_one chain o n c s e is
 
 -- such a one is told at its place
-told_at : (chain : List Confirmed) (o : OutPoint) (s : Spend) → IsSpendOf chain o s → spend_at chain o s.place ≡ Some s
+pub told_at : (chain : List Confirmed) (o : OutPoint) (s : Spend) → IsSpendOf chain o s → spend_at chain o s.place ≡ Some s
 unfolding spend_at
 told_at chain o s h =
     ap (option_and_then (spend_by chain o s.place)) h.stands
@@ -91,7 +84,8 @@ told_at chain o s h =
 
 -- ---- all places
 
-some_is : (found : Option Spend) (s : Spend) → Contains (option_to_list found) s → found ≡ Some s
+-- what is the list of one that may be there
+pub some_is : {X : Type 0} (found : Option X) (s : X) → Contains (option_to_list found) s → found ≡ Some s
 some_is None s c = let lt = c.1 in absurd (omega arith)
 some_is (Some x) s c = by c.0 c.1 c.2
   where

@@ -8,6 +8,8 @@ use Rattle.std.proofs.lemmas.Bool.{ltb-false}
 use Rattle.std.proofs.lemmas.List.Elements.{filter-append}
 use Rattle.std.proofs.lemmas.Map.Made.{is_some-lookup}
 use Rattle.std.proofs.lemmas.Slice.Eq.{bytes_eq-Decides}
+use Rattle.coin_book.proofs.WeightSteps.{or_none}
+use Rattle.fund_base.proofs.Lists.{filter_le}
 use Rattle.fund_base.specs.declared.outpoint.OutPoint.{OutPoint}
 use Rattle.tx_codec.specs.Transaction.{Transaction}
 use Rattle.tx_codec.specs.Txid.{txid_of}
@@ -113,7 +115,7 @@ twice p q r both less (t ∷ ts) = by (q t) refl (twice p q r both less ts)
 
 -- ---- entries
 
-same_head : (a b : OutPoint) (xs ys : List OutPoint) → a ∷ xs ≡ b ∷ ys → (a ≡ b) × (xs ≡ ys)
+pub same_head : (a b : OutPoint) (xs ys : List OutPoint) → a ∷ xs ≡ b ∷ ys → (a ≡ b) × (xs ≡ ys)
 same_head a b xs ys e = (cc, cc)
 
 stay_made : (g : List ℕ → Bool) (es : List (OutPoint × Held)) → keys_of es ≡ points (map made_at es) → map made_at (kept g es) ≡ passed g (map made_at es)
@@ -206,10 +208,6 @@ none_is : (o : Option ℕ) → is_some o ≡ false → o ≡ None
 none_is None e = refl
 none_is (Some x) e = absurd (true≢false e)
 
-no_more : (o : Option ℕ) → option_or o None ≡ o
-no_more None = refl
-no_more (Some x) = refl
-
 pub left_is : (h : History) (b : ChainBlock) (weigh : List ℕ → Option ℕ) (more : Ledger) (es : List (OutPoint × Held)) (txids : List (List ℕ)) (left : ℕ) → HoldsChain weigh h.confirmed (confirmed_in b) more → HoldsCoins (pending_made h) es → txids ≡ map txid_of h.pending
     → left ≡ cond (shares txids more.heights.entries) (length (filter (stays more.heights.entries) (keys_of es))) (length es) → left ≡ length (pending_made (with_block h b))
 left_is h b weigh more es txids left holds w are is = is ∙ by (shares txids more.heights.entries) refl
@@ -224,7 +222,7 @@ left_is h b weigh more es txids left holds w are is = is ∙ by (shares txids mo
     open_still free t is =
         let none = none_is (lookup (bytes_eq (txid_of t)) more.heights.entries)
         (is_some-lookup (bytes_eq (txid_of t)) more.heights.entries ∙ not_among (txid_of t) txids (keys_of more.heights.entries) free (ap (list_any (bytes_eq (txid_of t))) are ∙ is)) in
-        sym (ap (λ (o : Option ℕ). is_none o) (holds.heights (txid_of t) ∙ ap (option_or (height_of h.confirmed (txid_of t))) none ∙ no_more (height_of h.confirmed (txid_of t))))
+        sym (ap (λ (o : Option ℕ). is_none o) (holds.heights (txid_of t) ∙ ap (option_or (height_of h.confirmed (txid_of t))) none ∙ or_none (height_of h.confirmed (txid_of t))))
 
     by : (x : Bool) → shares txids more.heights.entries ≡ x → cond x (length (filter (stays more.heights.entries) (keys_of es))) (length es) ≡ length (pending_made (with_block h b))
     by true e = counted
@@ -233,14 +231,6 @@ left_is h b weigh more es txids left holds w are is = is ∙ by (shares txids mo
         ∙ ap (λ (ts : List Transaction). length (flat_map (made_in (weight_for h.scripts) None) ts)) (agree_in (is_open h.confirmed) (is_open (h.confirmed ++ confirmed_in b)) h.pending (open_still e))
 
 -- ---- what is left
-
-filter_le : {X : Type 0} (p : X → Bool) (xs : List X) → length (filter p xs) ≤ length xs
-filter_le p [] = omega arith
-filter_le {X = X} p (x ∷ xs) = by (p x) (filter_le p xs)
-  where
-    by : (b : Bool) → length (filter p xs) ≤ length xs → length (cond b (x ∷ filter p xs) (filter p xs)) ≤ length (x ∷ xs)
-    by true le = omega arith
-    by false le = omega arith
 
 filter_full : {X : Type 0} (p : X → Bool) (xs : List X) → length xs ≤ length (filter p xs) → filter p xs ≡ xs
 filter_full p [] le = refl

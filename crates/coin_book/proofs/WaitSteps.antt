@@ -4,7 +4,7 @@ use Rattle.std.specs.Prelude.{◌==◌, bytes_eq, is_some, nat_le, nat_lt, optio
 use Rattle.std.specs.List.{flat_map, list_any}
 use Rattle.std.specs.Map.{keys_of, lookup}
 use Rattle.std.specs.Option.{option_or, option_to_list}
-use Rattle.std.proofs.lemmas.Bool.{ltb-false, ltb-true, ne_eqb}
+use Rattle.std.proofs.lemmas.Bool.{ltb-false, ltb-true, ne_eqb, and_right}
 use Rattle.std.proofs.lemmas.List.{append-nil, length-append, map-append}
 use Rattle.std.proofs.lemmas.List.Elements.{All-head, All-tail}
 use Rattle.std.proofs.lemmas.List.Folds.{list_any-append}
@@ -67,13 +67,9 @@ spots_more weigh height t n =
     map-append (λ (m : Made). m.coin.coin) front (option_to_list (coin_at weigh height t n))
     ∙ ap (λ (os : List OutPoint). points front ++ os) (at_spot weigh height t n)
 
-and_false : (a b : Bool) → b ≡ false → (a && b) ≡ false
-and_false true b e = e
-and_false false b e = refl
-
 other_index : (b : Bool) (t : Transaction) (k n : ℕ) → n < k → list_any (same_outpoint (place_of (txid_of t) k)) (spot b t n) ≡ false
 other_index false t k n lt = refl
-other_index true t k n lt = ap (λ (b : Bool). b || false) (and_false (bytes_eq (txid_of t) (txid_of t)) (k == n) (ne_eqb k n (omega arith)))
+other_index true t k n lt = ap (λ (b : Bool). b || false) (and_right (bytes_eq (txid_of t) (txid_of t)) (k == n) (ne_eqb k n (omega arith)))
 
 other_txid : (b : Bool) (id : List ℕ) (t : Transaction) (k n : ℕ) → bytes_eq id (txid_of t) ≡ false → list_any (same_outpoint (place_of id k)) (spot b t n) ≡ false
 other_txid false id t k n e = refl

@@ -48,7 +48,7 @@ or_some : (o p : Option ℕ) → is_some o ≡ true → option_or o p ≡ o
 or_some None p e = absurd (true≢false (sym e))
 or_some (Some n) p e = refl
 
-or_none : (o : Option ℕ) → option_or o None ≡ o
+pub or_none : (o : Option ℕ) → option_or o None ≡ o
 or_none None = refl
 or_none (Some n) = refl
 

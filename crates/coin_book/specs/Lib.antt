@@ -4,5 +4,7 @@ pub mod Events
 pub mod Faults
 pub mod History
 pub mod Kept
+pub mod Outputs
+pub mod Repeats
 pub mod Spends
 pub mod Steps

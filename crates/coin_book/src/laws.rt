@@ -1,15 +1,17 @@
 //! Laws of the history that a book is made from.
 
-ghost use Rattle.std.specs.Prelude.{◌≡◌, ◌≢◌, ◌<◌, ◌≤◌, ◌↔◌, [], List, Contains, Some, None, length};
+ghost use Rattle.std.specs.Prelude.{◌≡◌, ◌≢◌, ◌<◌, ◌≤◌, ◌↔◌, ℕ, [], List, Contains, Option, Some, None, length, take};
 ghost use Rattle.std.specs.List.{AllPairs};
 ghost use Rattle.fund_base.specs.declared.outpoint.OutPoint.{OutPoint};
 ghost use Rattle.tx_codec.specs.Transaction.{Transaction};
 ghost use Rattle.block_feed.specs.Block.{ChainBlock};
 ghost use Rattle.wallet_text.specs.PlainWallet.{PlainWallet};
 ghost use Rattle.coin_book.specs.Events.{ComesTo, Event};
-ghost use Rattle.coin_book.specs.Coins.{coins_of, confirmed_made};
+ghost use Rattle.coin_book.specs.Coins.{Made, coins_of, confirmed_made, made_in};
 ghost use Rattle.coin_book.specs.Faults.{fault_of, points};
 ghost use Rattle.coin_book.specs.History.{Confirmed, History, with_block, with_pending};
+ghost use Rattle.coin_book.specs.Outputs.{IsCoinOf};
+ghost use Rattle.coin_book.specs.Repeats.{AreApart, IsFirstRepeat};
 ghost use Rattle.coin_book.specs.Spends.{IsSpendOf, spends_of};
 ghost use Rattle.coin_book.specs.declared.coin.Spend.{Spend};
 ghost use Rattle.coin_book.specs.declared.fault.BookFault.{BookFault};
@@ -40,4 +42,20 @@ pub fn no_fault_without_repeats()
 pub fn spends_by_inputs()
     ensures told { (chain : List Confirmed) (o : OutPoint) (s : Spend) → Contains (spends_of chain o) s ↔ IsSpendOf chain o s }
     ensures order { (chain : List Confirmed) (o : OutPoint) → AllPairs (λ (a b : Spend). a.place < b.place) (spends_of chain o) }
+{}
+
+/// The coins of a transaction: each output that pays a listed script, at an index of at most 4,294,967,295, and nothing
+/// else; by rising indices, so each once. The transaction's height is told, and the listed scripts with their weights.
+pub fn coins_by_outputs()
+    ensures told { (weigh : List ℕ → Option ℕ) (height : Option ℕ) (t : Transaction) (m : Made) → Contains (made_in weigh height t) m ↔ IsCoinOf weigh height t m }
+    ensures order { (weigh : List ℕ → Option ℕ) (height : Option ℕ) (t : Transaction) → AllPairs (λ (a b : Made). a.coin.coin.index < b.coin.coin.index) (made_in weigh height t) }
+{}
+
+/// Which fault a history has: RepeatCoin exactly where an outpoint is a confirmed coin for the second time, the first such in
+/// chain order, and at most 100,000 stand before it; Full exactly where there are more than 100,000 coins, and none of the
+/// first 100,001 confirmed ones comes again. Want of memory is never one.
+pub fn tells_first_fault()
+    ensures repeat { (h : History) (o : OutPoint) → (fault_of h ≡ Some (BookFault.RepeatCoin o)) ↔ IsFirstRepeat (points (confirmed_made h)) o }
+    ensures full { (h : History) → (fault_of h ≡ Some BookFault.Full) ↔ ((100_000 < length (coins_of h)) × AreApart (take 100_001 (points (confirmed_made h)))) }
+    ensures never { (h : History) → fault_of h ≢ Some BookFault.Memory }
 {}

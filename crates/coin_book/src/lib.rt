@@ -18,4 +18,7 @@ mod waiting;
 pub use book::Book;
 pub use coin::{Coin, Spend};
 pub use fault::BookFault;
-pub use laws::{first_fault_stays, no_fault_without_repeats, order_of_calls, spends_by_inputs};
+pub use laws::{
+    coins_by_outputs, first_fault_stays, no_fault_without_repeats, order_of_calls,
+    spends_by_inputs, tells_first_fault,
+};
