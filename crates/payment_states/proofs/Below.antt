@@ -1,7 +1,8 @@
 -- The numbers below a number.
-use Rattle.std.proofs.Common.{◌≡◌, ◌∙◌, ◌⊎◌, inl, inr, ℕ, zero, suc, ◌+◌, ◌<◌, ◌≤◌, ◌==◌, Bool, true, false, cond, List, [], ◌∷◌, ◌++◌, length, map, filter, get_or, refl, sym, ap, subst, arith, Contains}
+use Rattle.std.proofs.Common.{◌≡◌, ◌∙◌, ◌⊎◌, inl, inr, ℕ, zero, suc, ◌+◌, ◌<◌, ◌≤◌, ◌==◌, cond, List, [], ◌∷◌, ◌++◌, length, map, filter, get_or, refl, sym, ap, subst, arith, Contains}
 use Rattle.std.proofs.lemmas.Bool.{eq-eqb, ne_eqb, cases_eq, cases_lt}
 use Rattle.std.proofs.lemmas.List.{length-append, length-map, map-append, get_or_append_left, get_or_push, same_lists}
+use Rattle.std.proofs.lemmas.List.Elements.{filter-append}
 use Rattle.payment_states.specs.Graph.{below}
 
 pub length-below : (n : ℕ) → length (below n) ≡ n
@@ -37,26 +38,18 @@ get_or_map f (x ∷ xs) (suc i) d e lt = get_or_map f xs i d e (omega arith)
 pub get_or-map_below : {X : Type 0} (f : ℕ → X) (n i : ℕ) (d : X) → i < n → get_or (map f (below n)) i d ≡ f i
 get_or-map_below f n i d lt = get_or_map f (below n) i d 0 (subst (λ k. i < k) (sym (length-below n)) lt) ∙ ap f (get_or-below n i 0 lt)
 
-pub filter_append : {X : Type 0} (p : X → Bool) (xs ys : List X) → filter p (xs ++ ys) ≡ filter p xs ++ filter p ys
-filter_append p [] ys = refl
-filter_append {X = X} p (x ∷ xs) ys = by (p x) (filter_append p xs ys)
-  where
-    by : (b : Bool) → filter p (xs ++ ys) ≡ filter p xs ++ filter p ys → cond b (x ∷ filter p (xs ++ ys)) (filter p (xs ++ ys)) ≡ cond b (x ∷ filter p xs) (filter p xs) ++ filter p ys
-    by true e = ap (λ (l : List X). x ∷ l) e
-    by false e = e
-
 filter_no : (n i : ℕ) → n ≤ i → filter (λ j. i == j) (below n) ≡ []
 unfolding below
 filter_no zero i le = refl
 filter_no (suc n) i le =
-    filter_append (λ j. i == j) (below n) (n ∷ [])
+    filter-append (λ j. i == j) (below n) (n ∷ [])
     ∙ (λ k. filter_no n i (omega arith) k ++ cond (ne_eqb i n (λ e. absurd (omega arith)) k) (n ∷ []) [])
 
 -- the only one that is i
 pub filter_one : (n i : ℕ) → i < n → filter (λ j. i == j) (below n) ≡ i ∷ []
 unfolding below
 filter_one zero i lt = absurd (omega arith)
-filter_one (suc n) i lt = filter_append (λ j. i == j) (below n) (n ∷ []) ∙ by (filter_one n i) (cases_eq i n)
+filter_one (suc n) i lt = filter-append (λ j. i == j) (below n) (n ∷ []) ∙ by (filter_one n i) (cases_eq i n)
   where
     by : (i < n → filter (λ j. i == j) (below n) ≡ i ∷ []) → (i ≡ n) ⊎ (i ≡ n → ⊥) → filter (λ j. i == j) (below n) ++ cond (i == n) (n ∷ []) [] ≡ i ∷ []
     by r (inl e) = (λ k. filter_no n i (omega arith) k ++ cond (eq-eqb i n e k) (n ∷ []) []) ∙ ap (λ m. m ∷ []) (sym e)

@@ -1,16 +1,16 @@
 -- What it comes to that a payment is Pending.
-use Rattle.std.proofs.Common.{◌≡◌, ◌≢◌, ◌∙◌, ◌⊎◌, inl, inr, ℕ, ◌<◌, ◌≤◌, ◌&&◌, ◌||◌, Bool, true, false, cond, List, [], ◌∷◌, length, map, filter, get_or, Option, Some, None, All, Contains, refl, sym, ap, subst, arith, slice_get}
+use Rattle.std.proofs.Common.{◌≡◌, ◌≢◌, ◌∙◌, ◌⊎◌, inl, inr, ℕ, ◌<◌, ◌≤◌, ◌&&◌, ◌||◌, Bool, true, false, cond, List, [], ◌∷◌, length, filter, get_or, Option, Some, None, All, Contains, refl, sym, ap, arith, slice_get}
 use Rattle.std.specs.Prelude.{◌==◌, find, is_none, is_some, nat_lt, not, option_and_then, option_map}
 use Rattle.std.specs.List.{list_any}
 use Rattle.std.proofs.lemmas.Bool.Decides.{Decides-eqb}
-use Rattle.std.proofs.lemmas.Bool.{cases_order, false_from_ne_true, lt-ltb, true≢false}
+use Rattle.std.proofs.lemmas.Bool.{cases_order, false_from_ne_true, lt-ltb, true≢false, or_right}
 use Rattle.std.proofs.lemmas.List.{length-map}
 use Rattle.std.proofs.lemmas.List.Folds.{list_any_at, list_any_none}
 use Rattle.std.proofs.lemmas.Option.{none-some, same_Some, slice_get_cases}
+use Rattle.fund_base.proofs.Lists.{any_found, and_second}
 use Rattle.fund_base.specs.Outpoints.{same_outpoint}
 use Rattle.fund_base.proofs.OutpointLaws.{same_outpoint-Decides}
 use Rattle.fund_base.specs.declared.outpoint.OutPoint.{OutPoint}
-use Rattle.tx_codec.specs.Transaction.{Transaction}
 use Rattle.tx_codec.specs.Txid.{txid_of}
 use Rattle.tx_codec.specs.declared.tx.TxIn.{TxIn}
 use Rattle.wallet_text.specs.WalletRules.{AreDistinct, ParentsComeFirst}
@@ -27,7 +27,7 @@ use Rattle.payment_states.proofs.FirstSteps.{find_below}
 use Rattle.payment_states.proofs.FitSteps.{some_find}
 use Rattle.payment_states.proofs.Order.{order_from_rule}
 use Rattle.payment_states.proofs.ParentSteps.{parents_is}
-use Rattle.payment_states.proofs.Paths.{any_found, any_has, within_step}
+use Rattle.payment_states.proofs.Paths.{any_has, within_step}
 
 -- ---- tests that nothing passes
 
@@ -55,17 +55,13 @@ at_none p n h =
     let in_range : k < n = omega arith in
     ap p (get_or-below n k d in_range) ∙ h k in_range)
 
-any_filter : {X : Type 0} (p q : X → Bool) (xs : List X) → list_any p (filter q xs) ≡ list_any (λ x. q x && p x) xs
+pub any_filter : {X : Type 0} (p q : X → Bool) (xs : List X) → list_any p (filter q xs) ≡ list_any (λ x. q x && p x) xs
 any_filter p q [] = refl
 any_filter {X = X} p q (x ∷ xs) = by (q x) (any_filter p q xs)
   where
     by : (b : Bool) → list_any p (filter q xs) ≡ list_any (λ x. q x && p x) xs → list_any p (cond b (x ∷ filter q xs) (filter q xs)) ≡ ((b && p x) || list_any (λ x. q x && p x) xs)
     by true e = ap (λ (b : Bool). p x || b) e
     by false e = e
-
-and_false : (a b : Bool) → (a && b) ≡ false → a ≡ true → b ≡ false
-and_false true b e t = e
-and_false false b e t = absurd (true≢false (sym t))
 
 false_and : (a b : Bool) → (a ≡ true → b ≡ false) → (a && b) ≡ false
 false_and true b h = h refl
@@ -77,21 +73,17 @@ IsQuiet g i p = (j : ℕ) → j < length g → within g (length g) i j ≡ true 
 
 quiet : (g : List (List ℕ)) (i : ℕ) (p : ℕ → Bool) → list_any p (kin g i) ≡ false → IsQuiet g i p
 quiet g i p e = λ j lt in_range.
-    and_false (within g (length g) i j) (p j) (none_at (λ k. within g (length g) i k && p k) (length g) j (sym (any_filter p (within g (length g) i) (below (length g))) ∙ e) lt) in_range
+    and_second (within g (length g) i j) (p j) (none_at (λ k. within g (length g) i k && p k) (length g) j (sym (any_filter p (within g (length g) i) (below (length g))) ∙ e) lt) in_range
 
 unquiet : (g : List (List ℕ)) (i : ℕ) (p : ℕ → Bool) → IsQuiet g i p → list_any p (kin g i) ≡ false
 unquiet g i p h =
     any_filter p (within g (length g) i) (below (length g))
     ∙ at_none (λ k. within g (length g) i k && p k) (length g) (λ k lt. false_and (within g (length g) i k) (p k) (h k lt))
 
-either_right : (a b : Bool) → b ≡ true → (a || b) ≡ true
-either_right true b e = refl
-either_right false b e = e
-
 -- what a parent reaches is reached
 by_parent : (g : List (List ℕ)) (i p j : ℕ) → IsInOrder g → i < length g → Contains (steps g i) p → within g (length g) p j ≡ true → within g (length g) i j ≡ true
 by_parent g i p j order lt c h =
-    within_step g i j order lt ∙ either_right (i == j) (list_any (λ q. within g (length g) q j) (steps g i)) (any_has (λ q. within g (length g) q j) (steps g i) p c h)
+    within_step g i j order lt ∙ or_right (i == j) (list_any (λ q. within g (length g) q j) (steps g i)) (any_has (λ q. within g (length g) q j) (steps g i) p c h)
 
 -- so what none of its kin passes, none of a parent's does
 parent_quiet : (g : List (List ℕ)) (i p : ℕ) (test : ℕ → Bool) → IsInOrder g → i < length g → Contains (steps g i) p → list_any test (kin g i) ≡ false → list_any test (kin g p) ≡ false

@@ -5,10 +5,10 @@ use Rattle.std.specs.List.{list_any}
 use Rattle.std.specs.Option.{option_or}
 use Rattle.std.proofs.lemmas.List.Folds.{find-append}
 use Rattle.std.proofs.lemmas.Option.{none-some, same_Some}
+use Rattle.std.proofs.lemmas.List.Elements.{filter-append}
 use Rattle.payment_states.specs.Graph.{below}
 use Rattle.payment_states.specs.Least.{least_by, lesser}
 use Rattle.payment_states.specs.Steps.{place_if}
-use Rattle.payment_states.proofs.Below.{filter_append}
 use Rattle.payment_states.proofs.LeastSteps.{least_append, lesser_either, lesser_none}
 
 -- one number more
@@ -69,7 +69,7 @@ unfolding below
 found_below p q zero m e = absurd (none-some m e)
 found_below p q (suc n) m e =
     by (find q (filter p (below n))) (p n) (λ e. found_below p q n m e)
-    (sym (find-append q (filter p (below n)) (cond (p n) (n ∷ []) [])) ∙ ap (find q) (sym (filter_append p (below n) (n ∷ []))) ∙ e)
+    (sym (find-append q (filter p (below n)) (cond (p n) (n ∷ []) [])) ∙ ap (find q) (sym (filter-append p (below n) (n ∷ []))) ∙ e)
   where
     last : (b : Bool) → place_if b n ≡ Some m → m < suc n
     last true e = let s : n ≡ m = same_Some n m e in omega arith
@@ -85,11 +85,11 @@ pub first_is_least : (p q : ℕ → Bool) (n : ℕ) → find q (filter p (below 
 unfolding below
 first_is_least p q zero = refl
 first_is_least p q (suc n) =
-    ap (find q) (filter_append p (below n) (n ∷ []))
+    ap (find q) (filter-append p (below n) (n ∷ []))
     ∙ find-append q (filter p (below n)) (cond (p n) (n ∷ []) [])
     ∙ ap (λ r. option_or r (find q (cond (p n) (n ∷ []) []))) (first_is_least p q n)
     ∙ by (least_by (λ j. place_if (q j) j) (filter p (below n))) (p n) (λ m e. found_below p q n m (first_is_least p q n ∙ e))
-    ∙ sym (ap (least_by (λ j. place_if (q j) j)) (filter_append p (below n) (n ∷ [])) ∙ least_append (λ j. place_if (q j) j) (filter p (below n)) (cond (p n) (n ∷ []) []))
+    ∙ sym (ap (least_by (λ j. place_if (q j) j)) (filter-append p (below n) (n ∷ [])) ∙ least_append (λ j. place_if (q j) j) (filter p (below n)) (cond (p n) (n ∷ []) []))
   where
     one : (r : Option ℕ) (b : Bool) → ((m : ℕ) → r ≡ Some m → m < n) → option_or r (place_if b n) ≡ lesser r (place_if b n)
     one None b h = refl

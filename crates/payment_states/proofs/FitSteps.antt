@@ -5,7 +5,7 @@ use Rattle.std.specs.List.{flat_map, list_any}
 use Rattle.std.specs.Option.{option_or, option_to_list}
 use Rattle.std.proofs.lemmas.Bool.{ltb-false, or_parts, true≢false}
 use Rattle.std.proofs.lemmas.List.{length-map, map-append}
-use Rattle.std.proofs.lemmas.List.Elements.{All-append, All-cons, All-contains, All-head, All-map, All-nil, All-tail, All-weaker}
+use Rattle.std.proofs.lemmas.List.Elements.{All-append, All-cons, All-contains, All-head, All-map, All-nil, All-tail, All-weaker, filter_passes}
 use Rattle.std.proofs.lemmas.List.Folds.{list_any-append}
 use Rattle.std.proofs.lemmas.List.Kept.{AllPairs-cons, AllPairs-filter}
 use Rattle.std.proofs.lemmas.List.Sums.{get_or-le-sum_by}
@@ -37,6 +37,7 @@ use Rattle.payment_states.specs.BookOf.{IsBookOf}
 use Rattle.payment_states.specs.Candidates.{candidate_at, candidate_of, candidates_of, is_candidate}
 use Rattle.payment_states.specs.World.{place_in}
 use Rattle.std.proofs.lemmas.Simd.{map-map}
+use Rattle.fund_base.proofs.Lists.{filter_le}
 use Rattle.payment_states.proofs.Below.{get_or_map}
 use Rattle.payment_states.proofs.Paths.{any_has}
 
@@ -54,14 +55,6 @@ all_kept {X = X} P p (x ∷ xs) h = by (p x) (all_kept P p xs (All-tail P x xs h
     by true rest = All-cons P x (filter p xs) (All-head P x xs h) rest
     by false rest = rest
 
-all_pass : {X : Type 0} (p : X → Bool) (xs : List X) → All (λ x. p x ≡ true) (filter p xs)
-all_pass p [] = All-nil (λ x. p x ≡ true)
-all_pass {X = X} p (x ∷ xs) = by (p x) refl (all_pass p xs)
-  where
-    by : (b : Bool) → p x ≡ b → All (λ y. p y ≡ true) (filter p xs) → All (λ y. p y ≡ true) (cond b (x ∷ filter p xs) (filter p xs))
-    by true e rest = All-cons (λ y. p y ≡ true) x (filter p xs) e rest
-    by false e rest = rest
-
 find_holds : {X : Type 0} (P : X → Type 0) (p : X → Bool) (xs : List X) (x : X) → All P xs → find p xs ≡ Some x → P x
 find_holds P p [] x h e = absurd (none-some x e)
 find_holds {X = X} P p (y ∷ xs) x h e = by (p y) e (λ e. find_holds P p xs x (All-tail P y xs h) e)
@@ -77,14 +70,6 @@ some_find {X = X} p (x ∷ xs) = by (p x) (some_find p xs)
     by : (b : Bool) → is_some (find p xs) ≡ list_any p xs → is_some (cond b (Some x) (find p xs)) ≡ (b || list_any p xs)
     by true e = refl
     by false e = e
-
-kept_length : {X : Type 0} (p : X → Bool) (xs : List X) → length (filter p xs) ≤ length xs
-kept_length p [] = omega arith
-kept_length {X = X} p (x ∷ xs) = by (p x) (kept_length p xs)
-  where
-    by : (b : Bool) → length (filter p xs) ≤ length xs → length (cond b (x ∷ filter p xs) (filter p xs)) ≤ suc (length xs)
-    by true h = omega arith
-    by false h = omega arith
 
 -- no two are the same
 abbrev Apart : List OutPoint → Type 0
@@ -292,7 +277,7 @@ module _ (w : PlainWallet) (h : History) (rules : IsWallet w) (book : IsBookOf w
   pending_not : All (λ m. is_none (height_of h.confirmed m.coin.coin.txid) ≡ true) (pending_made h)
   pending_not = all_flat (λ m. is_none (height_of h.confirmed m.coin.coin.txid) ≡ true) (made_in (weight_for h.scripts) None) (filter (is_open h.confirmed) h.pending)
       (λ t in'. all_made (λ m. is_none (height_of h.confirmed m.coin.coin.txid) ≡ true) (weight_for h.scripts) None t
-      (λ i m f. ap (λ txid. is_none (height_of h.confirmed txid)) f.txid ∙ All-contains (λ t. is_open h.confirmed t ≡ true) (filter (is_open h.confirmed) h.pending) t (all_pass (is_open h.confirmed) h.pending) in'))
+      (λ i m f. ap (λ txid. is_none (height_of h.confirmed txid)) f.txid ∙ All-contains (λ t. is_open h.confirmed t ≡ true) (filter (is_open h.confirmed) h.pending) t (filter_passes (is_open h.confirmed) h.pending) in'))
 
   both : {X : Type 0} (r : Option X) → is_some r ≡ true → is_none r ≡ true → ⊥
   both None a b = true≢false (sym a)
@@ -343,7 +328,7 @@ module _ (w : PlainWallet) (h : History) (rules : IsWallet w) (book : IsBookOf w
     fit = record {
       each = All-map IsCandidate (candidate_of w h tip) (filter (is_candidate w h tip) (coins_of h)) (all_kept (λ c. IsCandidate (candidate_of w h tip c)) (is_candidate w h tip) (coins_of h)
           (All-map (λ c. IsCandidate (candidate_of w h tip c)) (λ (m : Made). m.coin) (made_of h) (All-weaker IsGood (λ m. IsCandidate (candidate_of w h tip m.coin)) (λ m g. is_fit m.coin g) (made_of h) (good w h rules book sound))));
-      count = let a = kept_length (is_candidate w h tip) (coins_of h) in
+      count = let a = filter_le (is_candidate w h tip) (coins_of h) in
           let b = length-map (filter (is_candidate w h tip) (coins_of h)) (candidate_of w h tip) in
           let d = length-map (made_of h) (λ (m : Made). m.coin) in
           let e = few h sound in omega arith;

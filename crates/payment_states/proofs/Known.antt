@@ -2,9 +2,10 @@
 use Rattle.std.proofs.Common.{◌≡◌, ◌∙◌, ◌⊎◌, inl, inr, ℕ, ◌+◌, ◌<◌, ◌≤◌, ◌==◌, ◌||◌, ◌&&◌, Bool, true, false, List, length, refl, sym, subst, arith, Contains}
 use Rattle.std.specs.List.{list_any}
 use Rattle.std.proofs.lemmas.Bool.{and_from, and_parts, cases_lt, eq-eqb, eqb-true, or_cases, or_left, or_right, true≢false}
+use Rattle.fund_base.proofs.Lists.{any_found}
 use Rattle.payment_states.specs.Graph.{IsInOrder, Reaches, steps, within}
 use Rattle.payment_states.specs.Graph.Reaches.{itself, through}
-use Rattle.payment_states.proofs.Paths.{any_found, any_has, decides, last_step, no_later, parent_before, then_step}
+use Rattle.payment_states.proofs.Paths.{any_has, decides, last_step, no_later, parent_before, then_step}
 
 -- j is i, or a parent of a place from s on that i reaches
 abbrev pub Known : List (List ℕ) → ℕ → ℕ → ℕ → Type 0

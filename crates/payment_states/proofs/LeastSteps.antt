@@ -5,6 +5,7 @@ use Rattle.std.specs.List.{list_any}
 use Rattle.std.proofs.lemmas.List.{take_more}
 use Rattle.std.proofs.lemmas.Bool.{cases_lt}
 use Rattle.std.proofs.lemmas.Option.{same_Some}
+use Rattle.fund_base.proofs.Lists.{none_pass}
 use Rattle.payment_states.specs.Graph.{IsInOrder, below, kin, steps, within}
 use Rattle.payment_states.specs.Least.{least_by, lesser, value_at}
 use Rattle.payment_states.proofs.Below.{filter_one, get_or-map_below}
@@ -81,10 +82,6 @@ least_or {X = X} f p q (x ∷ xs) = by (p x) (q x) (filter (λ x. p x || q x) xs
     by false true both left right e =
         ap (lesser (f x)) (e ∙ lesser_comm (least_by f left) (least_by f right)) ∙ sym (lesser_assoc (f x) (least_by f right) (least_by f left)) ∙ lesser_comm (lesser (f x) (least_by f right)) (least_by f left)
     by false false both left right e = e
-
-none_pass : {X : Type 0} (xs : List X) → filter (λ (x : X). false) xs ≡ []
-none_pass [] = refl
-none_pass (x ∷ xs) = none_pass xs
 
 -- of those that pass some test
 pub least_any : {X Y : Type 0} (f : X → Option ℕ) (w : Y → X → Bool) (ys : List Y) (xs : List X) → least_by f (filter (λ x. list_any (λ y. w y x) ys) xs) ≡ least_by (λ y. least_by f (filter (w y) xs)) ys

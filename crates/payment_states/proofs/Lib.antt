@@ -1,5 +1,6 @@
 pub mod BackSteps
 pub mod Below
+pub mod CauseSteps
 pub mod ChoiceSteps
 pub mod ClashSteps
 pub mod ClearSteps
@@ -10,10 +11,13 @@ pub mod FitSteps
 pub mod GivenSteps
 pub mod GraphSteps
 pub mod Joined
+pub mod KinSteps
 pub mod Known
 pub mod LeastSteps
 pub mod LookSteps
 pub mod Mine
+pub mod NumberSteps
+pub mod OfferSteps
 pub mod Order
 pub mod ParentSteps
 pub mod Paths

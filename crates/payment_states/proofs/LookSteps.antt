@@ -7,6 +7,7 @@ use Rattle.std.proofs.lemmas.List.{get_or_default}
 use Rattle.std.proofs.lemmas.List.Elements.{All-weaker}
 use Rattle.std.proofs.lemmas.List.Folds.{list_any_none}
 use Rattle.std.proofs.lemmas.Slice.Eq.{bytes_eq-Decides}
+use Rattle.fund_base.proofs.Lists.{found_some}
 use Rattle.tx_codec.specs.Transaction.{Transaction}
 use Rattle.tx_codec.specs.Txid.{txid_of}
 use Rattle.wallet_text.specs.WalletRules.{AreDistinct}
@@ -27,14 +28,6 @@ only_one {X = X} p f (x ∷ xs) y h some = by (p x) refl some (λ s. only_one p 
     by : (b : Bool) → p x ≡ b → (b || list_any p xs) ≡ true → (list_any p xs ≡ true → option_map f (find p xs) ≡ Some y) → option_map f (cond b (Some x) (find p xs)) ≡ Some y
     by true e s r = ap Some (h x (0, omega arith, refl) e)
     by false e s r = r s
-
-found_some : {X Y : Type 0} (p : X → Bool) (f : X → Y) (xs : List X) → is_some (option_map f (find p xs)) ≡ list_any p xs
-found_some p f [] = refl
-found_some {X = X} p f (x ∷ xs) = by (p x) (found_some p f xs)
-  where
-    by : (b : Bool) → is_some (option_map f (find p xs)) ≡ list_any p xs → is_some (option_map f (cond b (Some x) (find p xs))) ≡ (b || list_any p xs)
-    by true e = refl
-    by false e = e
 
 -- a payment has the txid exactly where a transaction has
 named : (w : World) (txid : List ℕ) → list_any (λ (p : Payment). bytes_eq txid p.txid) (payments_in w) ≡ list_any (λ (t : Transaction). bytes_eq txid (txid_of t)) w.pending

@@ -59,7 +59,7 @@ unfolding open_place
 is_open_place chain pending txid p h e = ap (λ (r : Option ℕ). cond (is_some r) None (place_in pending txid)) h ∙ e
 
 -- a transaction is found at its place
-own_place : (w : World) (p : ℕ) (txid : List ℕ) → AreDistinct w.pending → p < length w.pending → txid ≡ txid_of (tx_at w p) → place_in w.pending txid ≡ Some p
+pub own_place : (w : World) (p : ℕ) (txid : List ℕ) → AreDistinct w.pending → p < length w.pending → txid ≡ txid_of (tx_at w p) → place_in w.pending txid ≡ Some p
 own_place w p txid apart lt e = by (place_in w.pending txid) refl
   where
     there : list_any (λ (t : Transaction). bytes_eq txid (txid_of t)) w.pending ≡ true

@@ -3,6 +3,7 @@ use Rattle.std.proofs.Common.{◌≡◌, ◌∙◌, ℕ, ◌<◌, ◌==◌, ◌|
 use Rattle.std.specs.List.{list_all, list_any}
 use Rattle.std.proofs.lemmas.List.{length-map}
 use Rattle.std.proofs.lemmas.Simd.{map-map}
+use Rattle.fund_base.proofs.Lists.{none_pass}
 use Rattle.tx_codec.specs.Transaction.{Transaction}
 use Rattle.tx_codec.specs.Txid.{txid_of}
 use Rattle.wallet_text.specs.WalletRules.{ParentsComeFirst}
@@ -40,10 +41,6 @@ all_or {X = X} f p q (x ∷ xs) = by (p x) (q x) (filter (λ x. p x || q x) xs) 
     by true false both left other e = ap (λ b. f x && b) e ∙ one (f x) (list_all f left) (list_all f other)
     by false true both left other e = ap (λ b. f x && b) e ∙ right (f x) (list_all f left) (list_all f other)
     by false false both left other e = e
-
-none_pass : {X : Type 0} (xs : List X) → filter (λ (x : X). false) xs ≡ []
-none_pass [] = refl
-none_pass (x ∷ xs) = none_pass xs
 
 all_any : {X Y : Type 0} (f : X → Bool) (w : Y → X → Bool) (ys : List Y) (xs : List X) → list_all f (filter (λ x. list_any (λ y. w y x) ys) xs) ≡ list_all (λ y. list_all f (filter (w y) xs)) ys
 all_any f w [] xs = ap (list_all f) (none_pass xs)

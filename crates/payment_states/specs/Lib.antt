@@ -1,8 +1,10 @@
 pub mod BookOf
 pub mod Candidates
+pub mod Causes
 pub mod Counts
 pub mod Graph
 pub mod Least
+pub mod Offered
 pub mod Payments
 pub mod Steps
 pub mod World

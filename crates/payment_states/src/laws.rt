@@ -1,18 +1,23 @@
 //! What the definitions of states come to.
 
-ghost use Rattle.std.specs.Prelude.{◌≡◌, ◌<◌, ◌↔◌, ◌≢◌, ◌&&◌, [], true, not, IsTrue, List, ℕ, length, All, Any, Contains, Some, None};
-ghost use Rattle.std.specs.List.{list_all};
+ghost use Rattle.std.specs.Prelude.{◌≡◌, ◌<◌, ◌↔◌, ◌≢◌, ◌&&◌, [], true, not, min, IsTrue, List, ℕ, length, All, Any, Contains, Some, None, slice_get};
+ghost use Rattle.std.specs.List.{AllPairs, list_all};
 ghost use Rattle.tx_codec.specs.Transaction.{Transaction};
 ghost use Rattle.tx_codec.specs.Txid.{txid_of};
 ghost use Rattle.tx_codec.specs.declared.tx.TxIn.{TxIn};
+ghost use Rattle.wallet_text.specs.PlainWallet.{PlainWallet};
 ghost use Rattle.wallet_text.specs.WalletRules.{AreDistinct, ParentsComeFirst};
+ghost use Rattle.coin_book.specs.History.{History};
 ghost use Rattle.coin_book.specs.Spends.{has_input, height_of, spends_of};
 ghost use Rattle.fund_base.specs.declared.outpoint.OutPoint.{OutPoint};
 ghost use Rattle.coin_book.specs.declared.coin.Coin.{Coin};
-ghost use Rattle.payment_states.specs.Candidates.{is_mine, is_pending, is_safe, pending_graph, replaces};
+ghost use Rattle.payment_states.specs.Candidates.{ancestors, descendants, is_candidate, is_mine, is_pending, is_safe, pending_graph, replaces};
+ghost use Rattle.payment_states.specs.Causes.{HasCause, IsKin};
 ghost use Rattle.payment_states.specs.Graph.{IsInOrder, Reaches, steps, within};
-ghost use Rattle.payment_states.specs.Payments.{payments_in, state_at, state_of};
-ghost use Rattle.payment_states.specs.World.{World, graph, tx_at};
+ghost use Rattle.payment_states.specs.Offered.{MayBeSpent};
+ghost use Rattle.payment_states.specs.Payments.{payments_in, payments_of, state_at, state_of};
+ghost use Rattle.payment_states.specs.World.{World, graph, tx_at, world_of};
+ghost use Rattle.payment_states.specs.declared.state.State.{State};
 
 /// The law of ancestry: where parents stand before their children, as many steps as there are transactions reach all
 /// that can be reached.
@@ -44,4 +49,23 @@ pub fn pending_stands_clear()
     ensures inputs { (w : World) (i : ℕ) → ParentsComeFirst w.pending → i < length w.pending → is_pending w i ≡ true → All (λ (x : TxIn). spends_of w.chain x.prev ≡ []) (tx_at w i).inputs }
     ensures parents { (w : World) (i : ℕ) → AreDistinct w.pending → ParentsComeFirst w.pending → i < length w.pending → is_pending w i ≡ true → (p : ℕ) → Contains (steps (graph w) i) p → is_pending w p ≡ true }
     ensures apart { (w : World) (o : OutPoint) (i k : ℕ) → ParentsComeFirst w.pending → i < length w.pending → k < length w.pending → is_pending w i ≡ true → is_pending w k ≡ true → has_input o (tx_at w i).inputs ≡ true → has_input o (tx_at w k).inputs ≡ true → i ≡ k }
+{}
+
+/// The law of states: there is a payment for each transaction of the pending list, and it has a state exactly where that
+/// state's cause is there. The causes speak of inputs, of the chain and of ways from child to parent.
+pub fn states_by_causes()
+    ensures count { (w : PlainWallet) (h : History) → length (payments_of w h) ≡ length w.pending }
+    ensures exact { (w : PlainWallet) (h : History) (i : ℕ) (s : State) → AreDistinct w.pending → ParentsComeFirst w.pending → i < length w.pending → (slice_get (payments_of w h) i ≡ Some (record { txid = txid_of (tx_at (world_of w h) i); state = s })) ↔ HasCause (world_of w h) i s }
+{}
+
+/// The law of the numbers: they are those of the Pending ones among a payment and its ancestors, and among those of which
+/// it is one, each counted once.
+pub fn counts_by_ways()
+    ensures ancestors { (w : World) (i : ℕ) (places : List ℕ) → AreDistinct w.pending → ParentsComeFirst w.pending → i < length w.pending → AllPairs (λ (a b : ℕ). a < b) places → ((j : ℕ) → Contains places j ↔ (IsKin w i j × HasCause w j State.Pending)) → ancestors w i ≡ min 4294967295 (length places) }
+    ensures descendants { (w : World) (i : ℕ) (places : List ℕ) → AreDistinct w.pending → ParentsComeFirst w.pending → i < length w.pending → AllPairs (λ (a b : ℕ). a < b) places → ((j : ℕ) → Contains places j ↔ ((j < length w.pending) × IsKin w j i × HasCause w j State.Pending)) → descendants w i ≡ min 4294967295 (length places) }
+{}
+
+/// The law of candidates: a coin may be spent exactly where each of the rules holds.
+pub fn candidates_by_rules()
+    ensures { (w : PlainWallet) (h : History) (tip : ℕ) (c : Coin) → AreDistinct w.pending → ParentsComeFirst w.pending → (is_candidate w h tip c ≡ true) ↔ MayBeSpent w h tip c }
 {}

@@ -23,7 +23,8 @@ mod vectors;
 
 pub use choice::candidates;
 pub use laws::{
-    finds_states, parents_by_inputs, pending_stands_clear, reaches_by_steps, safe_by_parents,
+    candidates_by_rules, counts_by_ways, finds_states, parents_by_inputs, pending_stands_clear,
+    reaches_by_steps, safe_by_parents, states_by_causes,
 };
 pub use state::{Payment, State};
 pub use states::{States, all_states};

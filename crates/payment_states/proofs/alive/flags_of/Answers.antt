@@ -1,7 +1,7 @@
 use Rattle.std.proofs.Common.{◌∙◌, ℕ, List, [], ◌∷◌, ◌++◌, Option, sym, ap, arith}
+use Rattle.std.proofs.lemmas.List.{map_more}
 use Rattle.payment_states.specs.Steps.{place_if}
 use Rattle.payment_states.specs.World.{is_listed}
-use Rattle.payment_states.proofs.GraphSteps.{map_more}
 use Rattle.payment_states.proofs.alive.flags_of.Goals as goal
 
 pub loop-txid-preserved : goal.loop-txid-preserved

@@ -3,8 +3,8 @@ use Rattle.std.specs.List.{list_any}
 use Rattle.std.proofs.lemmas.Bool.{false_from_ne_true, eqb-true, or_cases, true≢false}
 use Rattle.std.proofs.lemmas.List.{get_or_default}
 use Rattle.std.proofs.lemmas.List.Elements.{All-contains}
+use Rattle.fund_base.proofs.Lists.{any_found}
 use Rattle.payment_states.specs.Graph.{steps}
-use Rattle.payment_states.proofs.Paths.{any_found}
 use Rattle.payment_states.proofs.counts.mark_parents.Goals as goal
 
 pub mark_places-requires : goal.mark_places-requires

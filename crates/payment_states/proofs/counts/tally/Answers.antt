@@ -1,15 +1,11 @@
-use Rattle.std.proofs.Common.{◌≡◌, ◌∙◌, ◌⊎◌, inl, inr, ℕ, ◌+◌, ◌<◌, ◌&&◌, Bool, true, false, cond, List, length, set, get_or, min, refl, sym, ap, arith}
+use Rattle.std.proofs.Common.{◌≡◌, ◌∙◌, ◌⊎◌, inl, inr, ℕ, ◌+◌, ◌<◌, ◌&&◌, Bool, false, cond, List, length, set, get_or, min, refl, sym, ap, arith}
 use Rattle.std.specs.Prelude.{count_by}
-use Rattle.std.proofs.lemmas.Bool.{cases_eq}
+use Rattle.std.proofs.lemmas.Bool.{cases_eq, and_right}
 use Rattle.std.proofs.lemmas.List.{get_or-set_same, get_or-set_other}
 use Rattle.payment_states.specs.Counts.{is_counted}
 use Rattle.payment_states.specs.Graph.{below}
 use Rattle.payment_states.proofs.CountSteps.{count_more, count_none, count_to, more_is}
 use Rattle.payment_states.proofs.counts.tally.Goals as goal
-
-and_false : (a b : Bool) → b ≡ false → (a && b) ≡ false
-and_false true b e = e
-and_false false b e = refl
 
 told : (downs : List ℕ) (p j n : ℕ) (P : ℕ → ℕ) → p < length downs → n ≡ P p → ((j : ℕ) → j < p → get_or downs j 0 ≡ P j) → j < p + 1 → (j ≡ p) ⊎ (j ≡ p → ⊥) → get_or (set downs p n) j 0 ≡ P j
 told downs p j n P within is before lt (inl e) = ap (λ k. get_or (set downs p n) k 0) e ∙ get_or-set_same downs p n 0 within ∙ is ∙ ap P (sym e)
@@ -22,7 +18,7 @@ cleared marks p j within before lt (inr ne) = get_or-set_other marks p j false f
 pub loop-place-init : goal.loop-place-init
 loop-place-init c =
     let p : ℕ → Bool = λ j. is_counted c.args.counted.now j && get_or c.args.marks.now j false in
-    let none : count_by p (below c.args.low) ≡ 0 = count_none p c.args.low (λ j lt. and_false (is_counted c.args.counted.now j) (get_or c.args.marks.now j false) (c.requires.below j lt)) in
+    let none : count_by p (below c.args.low) ≡ 0 = count_none p c.args.low (λ j lt. and_right (is_counted c.args.counted.now j) (get_or c.args.marks.now j false) (c.requires.below j lt)) in
     let zero : min 4294967295 0 ≡ 0 = omega arith in (
       sym (ap (λ n. min 4294967295 n) none ∙ zero),
       λ j lt. sym (ap (λ b. cond b (min 4294967295 (get_or c.args.downs.now j 0 + 1)) (get_or c.args.downs.now j 0)) (c.requires.below j lt)),
@@ -55,4 +51,4 @@ pub returns-clause-count : goal.returns-clause-count
 returns-clause-count c =
     let f : ℕ → Bool = λ j. is_counted c.args.counted.now j && get_or c.args.marks.now j false in
     c.loop-place.invariant.0
-    ∙ ap (λ n. min 4294967295 n) (sym (count_to f c.loop-place.place (length c.args.marks.now) (omega arith) (λ j le. and_false (is_counted c.args.counted.now j) (get_or c.args.marks.now j false) (c.requires.above j (omega arith)))))
+    ∙ ap (λ n. min 4294967295 n) (sym (count_to f c.loop-place.place (length c.args.marks.now) (omega arith) (λ j le. and_right (is_counted c.args.counted.now j) (get_or c.args.marks.now j false) (c.requires.above j (omega arith)))))

@@ -1,6 +1,6 @@
 use Rattle.std.proofs.Common.{◌∙◌, [], ◌∷◌, ◌++◌, sym, ap, arith}
+use Rattle.std.proofs.lemmas.List.{map_more}
 use Rattle.tx_codec.specs.Txid.{txid_of}
-use Rattle.payment_states.proofs.GraphSteps.{map_more}
 use Rattle.payment_states.proofs.graph.txids_of.Goals as goal
 
 pub loop-tx-preserved : goal.loop-tx-preserved
