@@ -1,30 +1,31 @@
 -- The groups that a row keeps are the same ones, in whatever order they were formed.
-use Rattle.std.specs.Prelude.{◌≡◌, ℕ, zero, suc, ◌+◌, ◌<◌, ◌≤◌, ◌&&◌, ◌⊎◌, Bool, true, false, not, List, [], ◌∷◌, map, filter, count_by, sum_by, All, length}
+use Rattle.std.specs.Prelude.{◌≡◌, ℕ, zero, suc, ◌+◌, ◌<◌, ◌≤◌, ◌&&◌, Bool, true, false, not, List, [], ◌∷◌, map, filter, count_by, sum_by, All, length}
 use Rattle.std.proofs.Common.{refl, sym, subst, cond, ap, ◌∙◌, arith, inl, inr}
 use Rattle.std.proofs.lemmas.List.Elements.{All-filter, All-head, All-weaker}
 use Rattle.std.proofs.lemmas.List.Filters.{sum_by-filter_both}
 use Rattle.std.proofs.lemmas.List.Folds.{fold-map}
 use Rattle.std.proofs.lemmas.List.Sums.{count_by-le-length, length-filter, sum_by-cons}
+use Rattle.std.proofs.lemmas.Bool.{cases_Bool}
 use Rattle.fund_base.specs.declared.candidate.Candidate.{Candidate}
 use Rattle.output_groups.specs.Forming.{AreParts, IsGrouping, starts_with}
 use Rattle.output_groups.specs.Pool.{AreKept, CountsKept, keeps}
 use Rattle.output_groups.specs.declared.part.Part.{Part}
 use Rattle.output_groups.specs.declared.rows.Row.{Row}
 use Rattle.output_groups.proofs.GroupLaws.{first_script, starts_first}
-use Rattle.output_groups.proofs.PartLaws.{either, filter_all}
+use Rattle.output_groups.proofs.PartLaws.{filter_all}
 
 -- each test passes as many elements of the one list as of the other
 pub record AreSame {X : Type 0} (xs ys : List X) : Type 0 where
   pub counts : (p : X → Bool) → count_by p xs ≡ count_by p ys
 
--- two filters may be taken in either order
+-- two filters may be taken in cases_Bool order
 swapped : {X : Type 0} (p q : X → Bool) (xs : List X) → filter p (filter q xs) ≡ filter q (filter p xs)
 swapped p q [] = refl
 swapped {X} p q (x ∷ xs) =
     let rest = swapped p q xs in
-    elim (either (p x)) [
-      | inl holds ↦ elim (either (q x)) [ inl also ↦ simp (holds, also) (ap (λ (ys : List X). x ∷ ys) rest) | inr lacks ↦ simp (holds, lacks) rest ]
-      | inr not_p ↦ elim (either (q x)) [ inl also ↦ simp (not_p, also) rest | inr lacks ↦ simp (not_p, lacks) rest ]
+    elim (cases_Bool (p x)) [
+      | inl holds ↦ elim (cases_Bool (q x)) [ inl also ↦ simp (holds, also) (ap (λ (ys : List X). x ∷ ys) rest) | inr lacks ↦ simp (holds, lacks) rest ]
+      | inr not_p ↦ elim (cases_Bool (q x)) [ inl also ↦ simp (not_p, also) rest | inr lacks ↦ simp (not_p, lacks) rest ]
     ]
 
 -- what fails a test that the head passes is less than the list
@@ -68,7 +69,7 @@ counted_filter {X} q p (x ∷ xs) =
     let rest = counted_filter q p xs in
     let f : X → ℕ = λ y. cond (p y) 1 0 in
     let g : X → ℕ = λ y. cond (q y && p y) 1 0 in
-    elim (either (q x)) [
+    elim (cases_Bool (q x)) [
       | inl holds ↦
           let head : g x ≡ f x = rw holds refl in
           let kept : filter q (x ∷ xs) ≡ x ∷ filter q xs = rw holds refl in

@@ -9,6 +9,7 @@ use Rattle.std.proofs.lemmas.List.{length-take, length-drop, take_all}
 use Rattle.std.proofs.lemmas.List.Elements.{All-append, All-nil, All-weaker, filter-append}
 use Rattle.std.proofs.lemmas.List.Sorted.{sorted_far}
 use Rattle.std.proofs.lemmas.Slice.Eq.{bytes_eq-Decides}
+use Rattle.std.proofs.lemmas.Bool.{false_from_ne_true}
 use Rattle.fund_base.specs.declared.candidate.Candidate.{Candidate}
 use Rattle.output_groups.specs.Forming.{IsGrouping, of_script, parts_of, pays_to, starts_with}
 use Rattle.output_groups.specs.Runs.{IsRun, script_of}
@@ -30,10 +31,6 @@ taken cs start end up =
     let whole : start + (end - start) ≡ end = omega arith in
     ap (λ n. take n cs) (sym whole) ∙ take-add start (end - start) cs
 
-untrue : (b : Bool) → (b ≡ true → ⊥) → b ≡ false
-untrue true h = absurd (h refl)
-untrue false h = refl
-
 -- what holds of the coins at each place from start up to end holds of the run
 run_all : (P : Candidate → Type 0) (cs : List Candidate) (start end : ℕ) → end ≤ length cs → ((k : ℕ) (d : Candidate) → start ≤ k → k < end → P (get_or cs k d)) → All P (run_of cs start end)
 run_all P cs start end within at k d below =
@@ -49,7 +46,7 @@ fresh_at cs start end up run d within =
     filter_none (pays_to new) (take end cs) (λ k e below.
     let early : k < end = omega (arith, below, length-take end cs) in
     let here : get_or (take end cs) k e ≡ get_or cs k d = grind (arith, common_steps, run.within) in
-    untrue (pays_to new (get_or (take end cs) k e)) (λ paid.
+    false_from_ne_true (pays_to new (get_or (take end cs) k e)) (λ paid.
     let same : script_of (get_or cs k d) ≡ new = sym ((bytes_eq-Decides new (script_of (get_or (take end cs) k e))).0 paid ∙ ap script_of here) in
     let far : script_lt (get_or cs (end - 1) d) (get_or cs k d) ≡ false = sorted_far script_lt script_order cs up k (end - 1) d (omega arith) (omega (arith, run.within)) in
     let far_new : is_lt (slice_cmp nat_cmp before new) ≡ false = rw same at far in

@@ -6,24 +6,25 @@ use Rattle.std.proofs.lemmas.List.{append-nil, length-map}
 use Rattle.std.proofs.lemmas.List.Elements.{filter-append}
 use Rattle.std.proofs.lemmas.List.Elements.{All-append, All-nil, All-weaker, filter_passes}
 use Rattle.std.proofs.lemmas.Slice.Eq.{bytes_eq-Decides}
+use Rattle.std.proofs.lemmas.Bool.{cases_Bool}
 use Rattle.fund_base.specs.declared.candidate.Candidate.{Candidate}
 use Rattle.output_groups.specs.Counting.{kept_count, parts_in, scripts_of}
-use Rattle.output_groups.specs.Forming.{AreParts, IsGrouping, alone, of_script, parts_of, pays_to, starts_with}
+use Rattle.output_groups.specs.Forming.{AreParts, of_script, parts_of, pays_to, starts_with}
 use Rattle.output_groups.specs.Measures.{is_useful}
 use Rattle.output_groups.specs.Pool.{CountsKept, keeps}
 use Rattle.output_groups.specs.declared.part.Part.{Part}
 use Rattle.output_groups.specs.declared.rows.Row.{Row}
 use Rattle.output_groups.proofs.CutLaws.{parts_filled}
-use Rattle.output_groups.proofs.PartLaws.{IsFull, either, filter_all, filter_none, parts_full, parts_of_none, starts_full}
+use Rattle.output_groups.proofs.PartLaws.{IsFull, filter_all, filter_none, parts_full, parts_of_none, starts_full}
 
 -- a test that passes only what another passes may leave that one out
 filter_within : {X : Type 0} (p q : X → Bool) (xs : List X) → ((x : X) → p x ≡ true → q x ≡ true) → filter p (filter q xs) ≡ filter p xs
 filter_within p q [] within = refl
 filter_within {X} p q (x ∷ xs) within =
     let rest = filter_within p q xs within in
-    elim (either (p x)) [
+    elim (cases_Bool (p x)) [
       | inl holds ↦ simp (holds, within x holds) (ap (λ (ys : List X). x ∷ ys) rest)
-      | inr fails ↦ elim (either (q x)) [ inl also ↦ simp (fails, also) rest | inr lacks ↦ simp (fails, lacks) rest ]
+      | inr fails ↦ elim (cases_Bool (q x)) [ inl also ↦ simp (fails, also) rest | inr lacks ↦ simp (fails, lacks) rest ]
     ]
 
 -- what one test passes and another fails, both pass nowhere
@@ -31,8 +32,8 @@ filter_apart : {X : Type 0} (p q : X → Bool) (xs : List X) → ((x : X) → p 
 filter_apart p q [] apart = refl
 filter_apart {X} p q (x ∷ xs) apart =
     let rest = filter_apart p q xs apart in
-    elim (either (q x)) [
-      | inl holds ↦ elim (either (p x)) [ inl also ↦ (let bad : true ≡ false = sym holds ∙ apart x also in absurd cc) | inr lacks ↦ simp (holds, lacks) rest ]
+    elim (cases_Bool (q x)) [
+      | inl holds ↦ elim (cases_Bool (p x)) [ inl also ↦ (let bad : true ≡ false = sym holds ∙ apart x also in absurd cc) | inr lacks ↦ simp (holds, lacks) rest ]
       | inr fails ↦ simp (fails) rest
     ]
 
@@ -57,7 +58,7 @@ of_one script cs (s ∷ ss) =
     let rest : filter starts (flat_map formed ss) ≡ flat_map formed (filter (bytes_eq script) ss) = of_one script cs ss in
     let apart : filter starts (flat_map formed (s ∷ ss)) ≡ filter starts (formed s) ++ filter starts (flat_map formed ss) = filter-append starts (formed s) (flat_map formed ss) in
     let started : All (λ (p : Part). starts p ≡ bytes_eq script s) (formed s) = one_starts script s cs in
-    elim (either (bytes_eq script s)) [
+    elim (cases_Bool (bytes_eq script s)) [
       | inl same ↦
           let all : filter starts (formed s) ≡ formed s = filter_all starts (formed s) (subst (λ (b : Bool). All (λ (p : Part). starts p ≡ b) (formed s)) same started) in
           rw same (apart ∙ ap (λ (ps : List Part). ps ++ filter starts (flat_map formed ss)) all ∙ ap (λ (ps : List Part). formed s ++ ps) rest)
@@ -72,7 +73,7 @@ script_once script [] = inr (refl, refl)
 script_once script (c ∷ cs) =
     let others : List ℕ → Bool = λ t. not (bytes_eq t c.script) in
     let is : (t : List ℕ) → bytes_eq script t ≡ true → script ≡ t = λ t. (bytes_eq-Decides script t).0 in
-    elim (either (bytes_eq script c.script)) [
+    elim (cases_Bool (bytes_eq script c.script)) [
       | inl same ↦
           let none : filter (bytes_eq script) (filter others (scripts_of cs)) ≡ [] =
           filter_apart (bytes_eq script) others (scripts_of cs) (λ t one. ap not (subst (λ (x : List ℕ). bytes_eq x c.script ≡ true) (is t one) same)) in

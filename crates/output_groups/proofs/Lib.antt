@@ -2,7 +2,9 @@ pub mod CountLaws
 pub mod CutLaws
 pub mod FormedLaws
 pub mod GroupLaws
+pub mod HundredLaws
 pub mod ItemLaws
+pub mod LeastLaws
 pub mod MeetLaws
 pub mod Members
 pub mod OnceLaws
@@ -11,5 +13,6 @@ pub mod PartLaws
 pub mod PlaceLaws
 pub mod PoolLaws
 pub mod ScriptLaws
+pub mod TakenLaws
 pub mod UniqueLaws
 pub mod ValueLaws

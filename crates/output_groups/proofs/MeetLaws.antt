@@ -1,7 +1,7 @@
 -- Each coin of a group that meets a row meets it.
-use Rattle.std.specs.Prelude.{◌≡◌, ℕ, ◌≤◌, ◌⊎◌, ◌&&◌, ◌||◌, Bool, true, false, List, [], ◌∷◌, min, max, fold, All, get_or, nat_le, if◌then◌else◌, IsTrue}
+use Rattle.std.specs.Prelude.{◌≡◌, ℕ, ◌≤◌, ◌⊎◌, ◌||◌, Bool, true, false, List, [], ◌∷◌, min, max, fold, All, get_or, nat_le, if◌then◌else◌, IsTrue}
 use Rattle.std.proofs.Common.{refl, arith, inl, inr}
-use Rattle.std.proofs.lemmas.Bool.{leb-true}
+use Rattle.std.proofs.lemmas.Bool.{leb-true, and_parts}
 use Rattle.std.proofs.lemmas.List.Elements.{All-cons, All-nil}
 use Rattle.std.proofs.lemmas.List.Sums.{AllPass-from_list_all, get_or-le-sum_by}
 use Rattle.fund_base.specs.declared.candidate.Candidate.{Candidate}
@@ -10,10 +10,6 @@ use Rattle.output_groups.specs.Measures.{ancestors_of, depth_of, descendants_of,
 use Rattle.output_groups.specs.Pool.{group_meets}
 use Rattle.output_groups.specs.declared.rows.Row.{Row}
 
-pub both : (a b : Bool) → (a && b) ≡ true → (a ≡ true) × (b ≡ true)
-both true b h = (refl, h)
-both false b h = absurd cc
-
 -- a least depth is no greater than where it begins, nor than any depth
 least_below : (a : ℕ) (cs : List Candidate) → (fold (λ m (c : Candidate). min m c.depth) a cs ≤ a) × All (λ (c : Candidate). fold (λ m (x : Candidate). min m x.depth) a cs ≤ c.depth) cs
 least_below a [] = (omega arith, All-nil _)
@@ -21,13 +17,13 @@ least_below a (c ∷ cs) =
     let rest = least_below (min a c.depth) cs in
     (omega (arith, rest.0), All-cons (λ (x : Candidate). fold (λ m (y : Candidate). min m y.depth) (min a c.depth) cs ≤ x.depth) c cs (omega (arith, rest.0)) rest.1)
 
-most_above : (a : ℕ) (cs : List Candidate) → (a ≤ fold (λ m (c : Candidate). max m c.descendants) a cs) × All (λ (c : Candidate). c.descendants ≤ fold (λ m (x : Candidate). max m x.descendants) a cs) cs
+pub most_above : (a : ℕ) (cs : List Candidate) → (a ≤ fold (λ m (c : Candidate). max m c.descendants) a cs) × All (λ (c : Candidate). c.descendants ≤ fold (λ m (x : Candidate). max m x.descendants) a cs) cs
 most_above a [] = (omega arith, All-nil _)
 most_above a (c ∷ cs) =
     let rest = most_above (max a c.descendants) cs in
     (omega (arith, rest.0), All-cons (λ (x : Candidate). x.descendants ≤ fold (λ m (y : Candidate). max m y.descendants) (max a c.descendants) cs) c cs (omega (arith, rest.0)) rest.1)
 
-depth_below : (g : List Candidate) → All (λ (c : Candidate). depth_of g ≤ c.depth) g
+pub depth_below : (g : List Candidate) → All (λ (c : Candidate). depth_of g ≤ c.depth) g
 depth_below [] = All-nil _
 depth_below (c ∷ cs) =
     let rest = least_below c.depth cs in
@@ -45,9 +41,9 @@ safe_enough false safe unsafe_too each h = inr h
 pub group_each : (row : Row) (g : List Candidate) → row.own ≤ row.foreign → group_meets row g ≡ true → All (Meets row) g
 group_each row g fair meets k d below =
     let c = get_or g k d in
-    let d_part = both _ (is_safe g || row.unsafe_too) meets in
-    let c_part = both _ (nat_le (descendants_of g) row.descendants) d_part.0 in
-    let b_part = both (nat_le (if is_mine g then row.own else row.foreign) (depth_of g)) (nat_le (ancestors_of g) row.ancestors) c_part.0 in
+    let d_part = and_parts _ (is_safe g || row.unsafe_too) meets in
+    let c_part = and_parts _ (nat_le (descendants_of g) row.descendants) d_part.0 in
+    let b_part = and_parts (nat_le (if is_mine g then row.own else row.foreign) (depth_of g)) (nat_le (ancestors_of g) row.ancestors) c_part.0 in
     let deep : (if is_mine g then row.own else row.foreign) ≤ depth_of g = leb-true _ _ b_part.0 in
     let ancestors : ancestors_of g ≤ row.ancestors = leb-true _ _ b_part.1 in
     let descendants : descendants_of g ≤ row.descendants = leb-true _ _ c_part.1 in

@@ -1,26 +1,20 @@
 -- The order of groups, and lists that it sorts.
-use Rattle.std.specs.Prelude.{◌≡◌, ℕ, suc, ◌+◌, Bool, true, false, List, [], ◌∷◌, count_by, Contains, length, get_or, IsSortedBy, bytes_eq}
+use Rattle.std.specs.Prelude.{◌≡◌, ℕ, suc, ◌+◌, Bool, true, false, List, [], ◌∷◌, count_by, Contains, length, get_or, IsSortedBy}
 use Rattle.std.specs.Cmp.{IsStrictWeakOrder, IsTotalOrder}
-use Rattle.std.specs.Cmp.Lexicographic.{slice_cmp}
-use Rattle.std.specs.Ordering.{int_cmp, is_eq, is_lt, nat_cmp, ordering_reverse, ordering_then}
+use Rattle.std.specs.Ordering.{int_cmp, is_lt, nat_cmp, ordering_reverse}
 use Rattle.std.specs.declared.cmp.Ordering.{Ordering}
 use Rattle.std.specs.declared.cmp.Ordering.TheVariants.{Less, Equal, Greater}
 use Rattle.std.proofs.Common.{refl, sym, subst, cond, ap, ◌∙◌, arith}
-use Rattle.std.proofs.lemmas.Cmp.{back_total, int_cmp_total, nat_cmp_total, nat_list_cmp_total, on_total, ranked, then_total}
+use Rattle.std.proofs.lemmas.Cmp.{back_total, int_cmp_total, nat_cmp_total, on_total, then_total}
 use Rattle.std.proofs.lemmas.List.Sorted.{ranks_by, sorted_far}
 use Rattle.std.proofs.lemmas.List.Sums.{length-filter, sum_by-cons}
-use Rattle.std.proofs.lemmas.Map.Text.{is_eq-slice_cmp}
-use Rattle.std.proofs.lemmas.Slice.Eq.{bytes_eq-Decides}
-use Rattle.fund_base.specs.Outpoints.{outpoint_cmp}
+use Rattle.fund_base.proofs.OutpointLaws.{outpoint_total, then_equal, outpoint_equal}
+use Rattle.fund_base.proofs.Lists.{in_tail}
 use Rattle.fund_base.specs.declared.candidate.Candidate.{Candidate}
-use Rattle.fund_base.specs.declared.outpoint.OutPoint.{OutPoint}
 use Rattle.output_groups.specs.Measures.{cost_of, least_of, value_of, weight_of}
 use Rattle.output_groups.specs.Pool.{group_cmp}
-use Rattle.output_groups.proofs.Members.{head_in, tail_in}
+use Rattle.output_groups.proofs.Members.{head_in}
 use Rattle.output_groups.proofs.PartLaws.{filter_none}
-
-outpoint_total : IsTotalOrder outpoint_cmp
-outpoint_total = then_total (on_total (λ (p : OutPoint). p.txid) nat_list_cmp_total) (on_total (λ (p : OutPoint). p.index) nat_cmp_total)
 
 pub group_total : (rate long_term : ℕ) → IsTotalOrder (group_cmp rate long_term)
 group_total rate long_term =
@@ -38,33 +32,13 @@ tied Greater Less e h k = absurd cc
 tied Greater Equal e h k = absurd cc
 tied Greater Greater e h k = absurd cc
 
-then_equal : (r s : Ordering) → ordering_then r s ≡ Equal → (r ≡ Equal) × (s ≡ Equal)
-then_equal Less s h = absurd cc
-then_equal Equal s h = (refl, h)
-then_equal Greater s h = absurd cc
-
-abbrev point : List ℕ → ℕ → OutPoint
-point t i = record { txid = t; index = i }
-
-same_point : (t u : List ℕ) (i j : ℕ) → t ≡ u → i ≡ j → point t i ≡ point u j
-same_point t u i j p q = ap (λ (x : List ℕ). point x i) p ∙ ap (λ (n : ℕ). point u n) q
-
-nat_same : (i j : ℕ) → nat_cmp i j ≡ Equal → i ≡ j
-nat_same i j h = rw h at (ranked i j (nat_cmp i j) refl)
-
-outpoint_same : (a b : OutPoint) → outpoint_cmp a b ≡ Equal → a ≡ b
-outpoint_same a b h =
-    let parts = then_equal (slice_cmp nat_cmp a.txid b.txid) (nat_cmp a.index b.index) h in
-    let txids : bytes_eq a.txid b.txid ≡ true = sym (is_eq-slice_cmp a.txid b.txid) ∙ ap is_eq parts.0 in
-    same_point a.txid b.txid a.index b.index ((bytes_eq-Decides a.txid b.txid).0 txids) (nat_same a.index b.index parts.1)
-
 -- groups that the order doesn't tell apart have one least outpoint
 pub tie_least : (rate long_term : ℕ) (a b : List Candidate) → group_cmp rate long_term a b ≡ Equal → least_of a ≡ least_of b
 tie_least rate long_term a b h =
     let by_value = then_equal (nat_cmp (value_of rate b) (value_of rate a)) _ h in
     let by_weight = then_equal (nat_cmp (weight_of a) (weight_of b)) _ by_value.1 in
     let by_cost = then_equal (int_cmp (cost_of rate long_term a) (cost_of rate long_term b)) _ by_weight.1 in
-    outpoint_same (least_of a) (least_of b) by_cost.1
+    outpoint_equal (least_of a) (least_of b) by_cost.1
 
 -- no element of a sorted list is below the first
 none_below : {X : Type 0} (lt : X → X → Bool) (order : IsStrictWeakOrder lt) (x : X) (xs : List X) → IsSortedBy lt (x ∷ xs) → count_by (λ y. lt y x) (x ∷ xs) ≡ 0
@@ -112,5 +86,5 @@ sorted_unique {X} lt order (x ∷ xs) (y ∷ ys) up up_too same ties =
     let e : x ≡ y = ties x y (head_in x xs) (head_in y ys) not_below not_above in
     let rest : xs ≡ ys =
     sorted_unique lt order xs ys (sorted_tail lt x xs up) (sorted_tail lt y ys up_too) (λ p. tails_same p x y xs ys e (same p))
-    (λ a b held held_too. ties a b (tail_in x xs a held) (tail_in y ys b held_too)) in
+    (λ a b held held_too. ties a b (in_tail x xs a held) (in_tail y ys b held_too)) in
     ap (λ (z : X). z ∷ xs) e ∙ ap (λ (zs : List X). y ∷ zs) rest

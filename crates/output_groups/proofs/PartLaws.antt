@@ -1,18 +1,14 @@
 -- The hundreds of a list of coins.
-use Rattle.std.specs.Prelude.{◌≡◌, ◌⊎◌, ℕ, ◌*◌, ◌<◌, ◌≤◌, Bool, true, false, List, [], ◌∷◌, map, filter, All, drop, length}
+use Rattle.std.specs.Prelude.{◌≡◌, ℕ, ◌*◌, ◌<◌, ◌≤◌, Bool, true, false, List, [], ◌∷◌, map, filter, All, drop, length}
 use Rattle.std.specs.List.{range_with_len}
 use Rattle.std.specs.Int.{div_ceil}
-use Rattle.std.proofs.Common.{refl, sym, subst, ap, inl, inr, arith}
+use Rattle.std.proofs.Common.{refl, sym, subst, ap, arith}
 use Rattle.std.proofs.lemmas.List.{length-take, length-drop}
 use Rattle.std.proofs.lemmas.List.Elements.{All-drop, All-head, All-tail, All-take}
 use Rattle.std.proofs.lemmas.List.FromFn.{get_or-map-range_with_len, length-map-range_with_len}
 use Rattle.fund_base.specs.declared.candidate.Candidate.{Candidate}
 use Rattle.output_groups.specs.Forming.{hundred, part_at, parts_of, pays_to, starts_with}
 use Rattle.output_groups.specs.declared.part.Part.{Part}
-
-pub either : (b : Bool) → (b ≡ true) ⊎ (b ≡ false)
-either true = inl refl
-either false = inr refl
 
 pub filter_all : {X : Type 0} (p : X → Bool) (xs : List X) → All (λ x. p x ≡ true) xs → filter p xs ≡ xs
 filter_all p [] all = refl
@@ -40,7 +36,7 @@ all_places Q f n at k d below =
     let within : k < n = omega (arith, below, length-map-range_with_len f 0 n) in
     subst Q (sym (get_or-map-range_with_len f 0 n k k d within (omega arith))) (at k within)
 
-place_within : (n k : ℕ) → k < div_ceil n 100 → 100 * k < n
+pub place_within : (n k : ℕ) → k < div_ceil n 100 → 100 * k < n
 place_within n k below = grind (arith)
 
 hundred_full : (P : Candidate → Type 0) (cs : List Candidate) (k : ℕ) → All P cs → 100 * k < length cs → IsFull P (hundred cs k)

@@ -8,11 +8,12 @@ use Rattle.std.proofs.lemmas.Grind.{common_steps}
 use Rattle.std.proofs.lemmas.List.{length-take, length-drop}
 use Rattle.std.proofs.lemmas.List.Elements.{All-contains}
 use Rattle.std.proofs.lemmas.Slice.Eq.{bytes_eq-Decides}
+use Rattle.fund_base.proofs.Lists.{cons_cases}
 use Rattle.fund_base.specs.declared.candidate.Candidate.{Candidate}
 use Rattle.output_groups.specs.Forming.{IsGrouping, alone, hundred, of_script, part_at, parts_of, pays_to, starts_with}
 use Rattle.output_groups.specs.declared.part.Part.{Part}
 use Rattle.output_groups.proofs.GroupLaws.{first_script, part_placed, starts_first}
-use Rattle.output_groups.proofs.Members.{cases_in, from_filter, from_map, none_in}
+use Rattle.output_groups.proofs.Members.{from_filter, from_map, none_in}
 
 abbrev pub AreApart : List Candidate → Type 0
 AreApart cs = AllPairs (λ (a b : Candidate). a.coin ≢ b.coin) cs
@@ -71,7 +72,7 @@ place_of cs p held =
 
 -- the one coin of a list
 pub only : (x a : Candidate) → Contains (x ∷ []) a → x ≡ a
-only x a held = elim (cases_in x [] a held) [ inl e ↦ e | inr none ↦ absurd (none_in a none) ]
+only x a held = elim (cons_cases x [] a held) [ inl e ↦ e | inr none ↦ absurd (none_in a none) ]
 
 -- what a group by itself is
 pub single_of : (cs : List Candidate) (p : Part) (a : Candidate) → Contains (map alone cs) p → Contains p.coins a → Contains cs a × (p.coins ≡ a ∷ [])

@@ -5,6 +5,7 @@ use Rattle.std.proofs.Common.{refl, sym, ap, ◌∙◌, arith}
 use Rattle.std.proofs.lemmas.List.{get_or-map, length-map}
 use Rattle.std.proofs.lemmas.List.Elements.{All-filter, All-head, All-map, All-tail, All-weaker, filter_passes}
 use Rattle.std.proofs.lemmas.List.Sorted.{All-permutation, IsPermutation-map}
+use Rattle.std.proofs.lemmas.Bool.{and_parts}
 use Rattle.fund_base.specs.Candidates.{IsCandidate}
 use Rattle.fund_base.specs.declared.candidate.Candidate.{Candidate}
 use Rattle.fund_base.specs.declared.outpoint.OutPoint.{OutPoint}
@@ -20,7 +21,7 @@ use Rattle.output_groups.specs.declared.kept.Kept.{Kept}
 use Rattle.output_groups.specs.declared.rows.Row.{Row}
 use Rattle.output_groups.proofs.GroupLaws.{parts_fine}
 use Rattle.output_groups.proofs.ItemLaws.{item_cmp, item_in, kept_lt}
-use Rattle.output_groups.proofs.MeetLaws.{both, group_each}
+use Rattle.output_groups.proofs.MeetLaws.{group_each}
 
 lt_along : (rate long_term : ℕ) (a b : Kept) → IsMeasured rate long_term a → IsMeasured rate long_term b → kept_lt a b ≡ false → is_lt (group_cmp rate long_term a.group b.group) ≡ false
 lt_along rate long_term a b first second h =
@@ -80,4 +81,4 @@ pool_meets group row rate long_term cs pool fair is =
     let parts = is.are_kept.parts in
     let passes = filter_passes (keeps row) parts in
     kept_all (λ g. All (Meets row) g) group row rate long_term cs pool is
-    (All-weaker (λ p. keeps row p ≡ true) (λ (p : Part). All (Meets row) p.coins) (λ p kept. group_each row p.coins fair (both _ (group_meets row p.coins) kept).1) (filter (keeps row) parts) passes)
+    (All-weaker (λ p. keeps row p ≡ true) (λ (p : Part). All (Meets row) p.coins) (λ p kept. group_each row p.coins fair (and_parts _ (group_meets row p.coins) kept).1) (filter (keeps row) parts) passes)

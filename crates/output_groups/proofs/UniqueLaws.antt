@@ -6,6 +6,7 @@ use Rattle.std.proofs.Common.{refl, sym, subst, cond, ap, ◌∙◌, arith, inl,
 use Rattle.std.proofs.lemmas.List.Kept.{AllPairs-filter}
 use Rattle.std.proofs.lemmas.List.Sorted.{sum_by-IsPermutation, Contains-permutation, IsPermutation-sym}
 use Rattle.std.proofs.lemmas.List.Elements.{All-contains}
+use Rattle.fund_base.proofs.Lists.{in_tail}
 use Rattle.fund_base.specs.Outpoints.{outpoint_cmp}
 use Rattle.fund_base.specs.Candidates.{AreCandidates}
 use Rattle.fund_base.specs.declared.candidate.Candidate.{Candidate}
@@ -19,7 +20,7 @@ use Rattle.output_groups.specs.declared.part.Part.{Part}
 use Rattle.output_groups.specs.declared.rows.Row.{Row}
 use Rattle.output_groups.proofs.CountLaws.{same_kept}
 use Rattle.output_groups.proofs.GroupLaws.{parts_fine}
-use Rattle.output_groups.proofs.Members.{from_filter, from_map, head_in, tail_in}
+use Rattle.output_groups.proofs.Members.{from_filter, from_map, head_in}
 use Rattle.output_groups.proofs.PlaceLaws.{AreApart, hundred_of, one_coin, one_hundred, single_of}
 use Rattle.output_groups.proofs.OrderLaws.{group_order, group_total, sorted_unique, tie_least, tied}
 
@@ -36,7 +37,7 @@ least_from a (c ∷ cs) =
     let next = lesser a c.coin in
     elim (least_from next cs) [
       | inl e ↦ elim (lesser_cases a c.coin) [ inl old ↦ inl (e ∙ old) | inr new ↦ inr (c, head_in c cs, sym (e ∙ new)) ]
-      | inr found ↦ inr (found.0, tail_in c cs found.0 found.1, found.2)
+      | inr found ↦ inr (found.0, in_tail c cs found.0 found.1, found.2)
     ]
 
 -- the least outpoint is that of a coin
@@ -45,7 +46,7 @@ least_in [] some = absurd (omega (arith, some))
 least_in (c ∷ cs) some =
     elim (least_from c.coin cs) [
       | inl e ↦ (c, head_in c cs, sym e)
-      | inr found ↦ (found.0, tail_in c cs found.0 found.1, found.2)
+      | inr found ↦ (found.0, in_tail c cs found.0 found.1, found.2)
     ]
 
 -- groups that share an outpoint are one

@@ -62,3 +62,18 @@ pub record Meets (row : Row) (c : Candidate) : Type 0 where
   pub few_ancestors : c.ancestors ≤ row.ancestors
   pub few_descendants : c.descendants ≤ row.descendants
   pub safe_enough : IsTrue c.safe ⊎ IsTrue row.unsafe_too
+
+-- the second row takes what the first one takes, and may take more
+pub record IsLaxer (a b : Row) : Type 0 where
+  pub own : b.own ≤ a.own
+  pub foreign : b.foreign ≤ a.foreign
+  pub ancestors : a.ancestors ≤ b.ancestors
+  pub descendants : a.descendants ≤ b.descendants
+  pub partial : IsTrue a.partial → IsTrue b.partial
+  pub unsafe_too : IsTrue a.unsafe_too → IsTrue b.unsafe_too
+
+-- each row is laxer than the one before it
+abbrev pub GrowLaxer : List Row → Type 0
+GrowLaxer [] = Unit {0}
+GrowLaxer (a ∷ []) = Unit {0}
+GrowLaxer (a ∷ b ∷ rest) = IsLaxer a b × GrowLaxer (b ∷ rest)

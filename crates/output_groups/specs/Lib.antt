@@ -1,8 +1,10 @@
 pub mod Counting
 pub mod Forming
+pub mod Hundreds
 pub mod Kept
 pub mod Ladder
 pub mod Measures
 pub mod PlainPool
 pub mod Pool
 pub mod Runs
+pub mod Taken

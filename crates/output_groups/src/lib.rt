@@ -15,6 +15,9 @@ mod tests;
 
 pub use fault::PoolFault;
 pub use group::Group;
-pub use laws::{counts_kept, one_pool, values_are_effective};
+pub use laws::{
+    counts_kept, least_stands_first, one_pool, rows_grow_laxer, rows_take_groups,
+    scripts_stand_in_hundreds, values_are_effective,
+};
 pub use row_pool::{RowPool, pool};
 pub use rows::{Row, ladder, meets};

@@ -3,7 +3,10 @@
 ghost use Rattle.std.specs.Prelude.{◌≤◌, IfOk, length};
 ghost use Rattle.fund_base.specs.Candidates.{AreCandidates};
 
-use crate::{Group, PoolFault, RowPool, ladder, meets, one_pool, pool, values_are_effective};
+use crate::{
+    Group, PoolFault, RowPool, counts_kept, ladder, least_stands_first, meets, one_pool, pool,
+    rows_grow_laxer, rows_take_groups, scripts_stand_in_hundreds, values_are_effective,
+};
 use fund_base::{Candidate, MAX_MONEY, Memory, OutPoint, Script, Txid};
 use pick_problem::Item;
 use std::alloc::Global;
@@ -117,6 +120,11 @@ fn rows(rt: HostRuntime) -> Result<(), Fail> {
     }
     one_pool();
     values_are_effective();
+    scripts_stand_in_hundreds();
+    rows_grow_laxer();
+    rows_take_groups();
+    least_stands_first();
+    counts_kept();
     Ok(())
 }
 
