@@ -3,11 +3,12 @@ use Rattle.std.specs.Prelude.{◌≡◌, ℕ, ◌+◌, ◌-◌, ◌*◌, ◌<◌
 use Rattle.std.specs.List.{list_all}
 use Rattle.std.specs.Ordering.{int_eq}
 use Rattle.std.proofs.Common.{arith, refl, sym, ap, subst, inl, inr, ◌∙◌}
-use Rattle.std.proofs.lemmas.Bool.{cases_lt}
+use Rattle.std.proofs.lemmas.Bool.{cases_lt, and_parts, or_cases, or_parts}
 use Rattle.std.proofs.lemmas.Bool.Decides.{Decides-int_eq}
 use Rattle.std.proofs.lemmas.Int.{ints}
 use Rattle.std.proofs.Math.Nat.{mul-le-mul_left, mul-le-mul_right}
 use Rattle.std.proofs.lemmas.List.Elements.{All-cons, All-nil}
+use Rattle.fund_base.proofs.Lists.{same_bytes, and_second, int_le_true}
 use Rattle.pick_problem.specs.declared.item.Item.{Item}
 use Rattle.pick_problem.specs.declared.item.Kind.{Kind}
 use Rattle.pick_problem.specs.declared.item.Kind.TheVariants.{Changeless, Lean}
@@ -20,7 +21,7 @@ use Rattle.pick_problem.specs.Score.{IsBelow, score_by, score_of}
 use Rattle.pick_problem.specs.Later.{later_value, least_weight, NoNegative}
 use Rattle.pick_problem.specs.Steps.{Closes, IsAbove, IsNoBetterThan, needed}
 use Rattle.pick_problem.specs.Walk.{Way, Ready, Rule, IsShort, IsOver, IsHeavy, IsWorse, IsHit, IsFar, GoesOn, upward, shift, cut_or_shift, is_over, no_negative, is_worse, worse_way, is_far, score_below, better, rule, way_of, best_of}
-use Rattle.pick_problem.proofs.Deciding.{if_cases, lt_yes, lt_no, le_yes, le_no, zle_yes, zlt_yes, zlt_no, cases_z, both_true, second_false, either_true, neither_true, equal_test, other_test}
+use Rattle.pick_problem.proofs.Deciding.{if_cases, lt_yes, lt_no, le_yes, le_no, zlt_yes, zlt_no, cases_z, other_test}
 use Rattle.pick_problem.proofs.BestLaws.{below_irreflexive, below_transitive, same_below}
 use Rattle.pick_problem.proofs.SumLaws.{item_is}
 use Rattle.pick_problem.proofs.RisingLaws.{needed-le, value-falls, Rising-push}
@@ -58,22 +59,22 @@ needed_more n v v' some less =
 
 score_yes : (x y : Score) → score_below x y ≡ true → IsBelow x y
 score_yes x y e =
-    elim (either_true (int_lt x.first y.first) (int_eq x.first y.first && nat_lt x.second y.second) e) [
+    elim (or_cases (int_lt x.first y.first) (int_eq x.first y.first && nat_lt x.second y.second) e) [
       | inl l ↦ inl (zlt_yes x.first y.first l)
       | inr k ↦
-          let both = both_true (int_eq x.first y.first) (nat_lt x.second y.second) k in
+          let both = and_parts (int_eq x.first y.first) (nat_lt x.second y.second) k in
           inr ((Decides-int_eq x.first y.first).0 both.0, lt_yes x.second y.second both.1)
     ]
 
 score_no : (x y : Score) → score_below x y ≡ false → IsAtMost y x
 score_no x y e =
-    let parts = neither_true (int_lt x.first y.first) (int_eq x.first y.first && nat_lt x.second y.second) e in
+    let parts = or_parts (int_lt x.first y.first) (int_eq x.first y.first && nat_lt x.second y.second) e in
     elim (cases_z y.first x.first) [
       | inl l ↦ inl (inl l)
       | inr k ↦
           elim k [
             | inl same ↦
-                let second : y.second ≤ x.second = lt_no x.second y.second (second_false (int_eq x.first y.first) (nat_lt x.second y.second) parts.1 ((Decides-int_eq x.first y.first).1 (sym same))) in
+                let second : y.second ≤ x.second = lt_no x.second y.second (and_second (int_eq x.first y.first) (nat_lt x.second y.second) parts.1 ((Decides-int_eq x.first y.first).1 (sym same))) in
                 elim (cases_lt y.second x.second) [
                   | inl l ↦ inl (inr (same, l))
                   | inr g ↦ inr (same, omega arith)
@@ -88,8 +89,8 @@ no_negative_is p e = each p.items e
     each : (xs : List Item) → list_all (λ x. int_le (pos 0) x.cost) xs ≡ true → All (λ x. pos 0 ≤ℤ x.cost) xs
     each [] h = All-nil (λ (x : Item). pos 0 ≤ℤ x.cost)
     each (x ∷ xs) h =
-        let both = both_true (int_le (pos 0) x.cost) (list_all (λ (z : Item). int_le (pos 0) z.cost) xs) h in
-        All-cons (λ (z : Item). pos 0 ≤ℤ z.cost) x xs (zle_yes (pos 0) x.cost both.0) (each xs both.1)
+        let both = and_parts (int_le (pos 0) x.cost) (list_all (λ (z : Item). int_le (pos 0) z.cost) xs) h in
+        All-cons (λ (z : Item). pos 0 ≤ℤ z.cost) x xs (int_le_true (pos 0) x.cost both.0) (each xs both.1)
 
 -- the answers for which the steps of a walk with this best were allowed, each with whether it is met
 abbrev pub Backs : PlainProblem → Option (List ℕ) → Option (List ℕ) → Bool → Type 0
@@ -191,7 +192,7 @@ module _ (p : PlainProblem) (is : IsProblem p) (stack : List ℕ) (t : ℕ) (rea
             record {
               met = false;
               backs = old d (subst (IsAdmissible p) (sym e.0) adm) (subst (λ (r : List ℕ). IsAtMost (score_of p r) (score_of p (upward (t ∷ stack)))) (sym e.0) (inr (refl, refl)));
-              follows = hit_for d false m' reached (inl (sym e.0)) (equal_test (upward (t ∷ stack)) d (sym e.0) ∙ sym e.1);
+              follows = hit_for d false m' reached (inl (sym e.0)) (same_bytes (upward (t ∷ stack)) d (sym e.0) ∙ sym e.1);
             }
         | inr e ↦
             record {
@@ -245,8 +246,8 @@ module _ (p : PlainProblem) (is : IsProblem p) (stack : List ℕ) (t : ℕ) (rea
   worse_follows k None c m kind e backs = absurd (cc)
   worse_follows Changeless (Some b) c m kind e backs =
       let q = upward (t ∷ stack) in
-      let both = both_true (no_negative p) (int_le (score_by Changeless p b).first (cost_of p q +ℤ pos (value_of p q - p.lo))) e in
-      closes_with p c m m stack t Worse (shift p stack t) (worse_closes p b c m q (t + 1) kind (no_negative_is p both.0) (zle_yes (score_by Changeless p b).first (cost_of p q +ℤ pos (value_of p q - p.lo)) both.1) backs) refl (shifts c m)
+      let both = and_parts (no_negative p) (int_le (score_by Changeless p b).first (cost_of p q +ℤ pos (value_of p q - p.lo))) e in
+      closes_with p c m m stack t Worse (shift p stack t) (worse_closes p b c m q (t + 1) kind (no_negative_is p both.0) (int_le_true (score_by Changeless p b).first (cost_of p q +ℤ pos (value_of p q - p.lo)) both.1) backs) refl (shifts c m)
   worse_follows Lean (Some b) c m kind e backs =
       let q = upward (t ∷ stack) in
       let heavier : weight_of p b < weight_of p q = lt_yes (weight_of p b) (weight_of p q) e in

@@ -1,6 +1,7 @@
 -- What a walk does at most: its tokens, its tries, and where it may stand.
 use Rattle.std.specs.Prelude.{◌≡◌, ℕ, zero, suc, ◌+◌, ◌-◌, ◌*◌, ◌^◌, ◌<◌, ◌≤◌, Bool, true, false, List, [], ◌∷◌, ◌++◌, length, if◌then◌else◌, nat_lt}
 use Rattle.std.proofs.Common.{arith, refl, sym, ap, subst, length-append}
+use Rattle.std.proofs.lemmas.Bool.{true_from_ne_false}
 use Rattle.pick_problem.specs.declared.item.Kind.{Kind}
 use Rattle.pick_problem.specs.declared.item.Kind.TheVariants.{Changeless, Lean}
 use Rattle.pick_problem.specs.declared.token.Reason.{Reason}
@@ -10,7 +11,7 @@ use Rattle.pick_problem.specs.declared.token.Token.TheVariants.{Enter, Pass, Clo
 use Rattle.pick_problem.specs.Problem.{PlainProblem, IsProblem, value_of}
 use Rattle.pick_problem.specs.Later.{total_value, later_value, behind_twins}
 use Rattle.pick_problem.specs.Walk.{Way, Walk, Rule, IsShort, IsOver, IsHeavy, IsWorse, IsHit, IsFar, GoesOn, Ready, IsPosition, upward, at, over, writes, passing, shift, leave, cut, is_lightest, cut_or_shift, worse_way, way_of, rule, try_once, after_tries, start, walk, entered, enters}
-use Rattle.pick_problem.proofs.Deciding.{if_cases, by_true, lt_no}
+use Rattle.pick_problem.proofs.Deciding.{if_cases, lt_no}
 use Rattle.pick_problem.proofs.TryStepLaws.{all_made}
 use Rattle.pick_problem.proofs.KeptLaws.{try_fit, try_ready, start_ready, short_start, open_start}
 
@@ -235,7 +236,7 @@ few_tries_made p n is = omega (arith, (tries_left p is n).most, full-power (leng
 
 -- so many tries are enough for all
 pub walk_ends : (p : PlainProblem) (n : ℕ) → IsProblem p → 2 ^ length p.items ≤ n + 1 → (walk p n).done ≡ true
-walk_ends p n is enough = by_true (walk p n).done (λ e.
+walk_ends p n is enough = true_from_ne_false (walk p n).done (λ e.
     let v = walk p n in
     let position : IsPosition p v = tries_position p (start p) n is (start_position p is) in
     let ready : Ready p v.stack v.next = position.ready e in

@@ -5,6 +5,8 @@ use Rattle.std.proofs.lemmas.Int.{ints}
 use Rattle.std.proofs.lemmas.List.{append-nil}
 use Rattle.std.proofs.lemmas.List.Elements.{All-contains}
 use Rattle.std.proofs.Math.Nat.{mul-le-mul_right}
+use Rattle.std.proofs.lemmas.Bool.{or_left, or_right}
+use Rattle.fund_base.proofs.Lists.{same_bytes}
 use Rattle.pick_problem.specs.declared.item.Kind.{Kind}
 use Rattle.pick_problem.specs.declared.item.Kind.TheVariants.{Changeless, Lean}
 use Rattle.pick_problem.specs.declared.token.Reason.{Reason}
@@ -17,7 +19,7 @@ use Rattle.pick_problem.specs.Best.{comes_before}
 use Rattle.pick_problem.specs.Later.{later_value, least_weight, NoNegative}
 use Rattle.pick_problem.specs.Steps.{Closes, IsAbove, IsNoBetterThan, met_behind, needed}
 use Rattle.pick_problem.specs.SoFar.{ComesAfter, IsBeaten}
-use Rattle.pick_problem.proofs.Deciding.{cases_z, first_or, second_or, equal_test}
+use Rattle.pick_problem.proofs.Deciding.{cases_z}
 use Rattle.pick_problem.proofs.OrderLaws.{member_behind}
 use Rattle.pick_problem.proofs.SumLaws.{value-append, weight-append, cost-append, item_is}
 use Rattle.pick_problem.proofs.RisingLaws.{Rising-value, Rising-weight, Rising-most, Rising-some, Rising-front, least_weight-le, needed-le, cost-nonneg}
@@ -87,13 +89,13 @@ module _ (p : PlainProblem) (is : IsProblem p) (chosen : List ℕ) (t : ℕ) (q 
       elim worse [
         | inl e ↦
             let is_it : q ≡ best = same ∙ e in
-            inr (second_or met (bytes_eq chosen best) (equal_test chosen best e), subst (λ (r : List ℕ). IsSame (score_by k p r) (score_by k p q)) is_it (refl, refl), inl is_it)
+            inr (or_right met (bytes_eq chosen best) (same_bytes chosen best e), subst (λ (r : List ℕ). IsSame (score_by k p r) (score_by k p q)) is_it (refl, refl), inl is_it)
         | inr l ↦
             elim l [
               | inl below ↦ inl (subst (λ (r : List ℕ). IsBelow (score_by k p best) (score_by k p r)) (sym same) (subst (λ (z : Kind). IsBelow (score_by z p best) (score_by z p chosen)) kind below))
               | inr e ↦
                   inr (
-                    first_or met (bytes_eq chosen best) e.1,
+                    or_left met (bytes_eq chosen best) e.1,
                     subst (λ (r : List ℕ). IsSame (score_by k p best) (score_by k p r)) (sym same) (subst (λ (z : Kind). IsSame (score_by z p best) (score_by z p chosen)) kind e.0),
                     inr (after e.1),
                   )

@@ -2,7 +2,7 @@
 use Rattle.std.specs.Prelude.{◌≡◌, ◌≢◌, ℕ, zero, suc, ◌+◌, ◌-◌, ◌<◌, ◌≤◌, ◌==◌, Bool, true, false, List, [], ◌∷◌, length, get_or, drop, All, Option, if◌then◌else◌, nat_lt, nat_le}
 use Rattle.std.specs.List.{prefix_len}
 use Rattle.std.proofs.Common.{arith, refl, sym, ap, subst, inl, inr, ◌∙◌}
-use Rattle.std.proofs.lemmas.Bool.{cases_lt}
+use Rattle.std.proofs.lemmas.Bool.{cases_lt, or_cases}
 use Rattle.std.proofs.lemmas.List.{get_or-drop}
 use Rattle.std.proofs.lemmas.List.Sums.{prefix_len_passes}
 use Rattle.pick_problem.specs.declared.item.Item.{Item}
@@ -17,7 +17,7 @@ use Rattle.pick_problem.specs.Problem.{PlainProblem, Rising, value_of, weight_of
 use Rattle.pick_problem.specs.Later.{later_value, least_weight, is_twin, behind_twins, total_value}
 use Rattle.pick_problem.specs.Steps.{State, left, after, after_all, Closes, IsAllowed, AreAllowed, met_behind}
 use Rattle.pick_problem.specs.Walk.{Way, Ready, upward, at, over, writes, passing, shift, leave, cut, is_lightest, cut_or_shift, is_over, way_of, IsShort, IsOver, IsHeavy, GoesOn}
-use Rattle.pick_problem.proofs.Deciding.{if_cases, lt_yes, lt_no, le_yes, eq_yes, either_true}
+use Rattle.pick_problem.proofs.Deciding.{if_cases, lt_yes, lt_no, le_yes, eq_yes}
 use Rattle.pick_problem.proofs.SumLaws.{value-append, weight-append}
 use Rattle.pick_problem.proofs.RisingLaws.{Rising-avoids, Rising-push, Rising-until, Rising-wider, twins_within}
 use Rattle.pick_problem.proofs.TreeSteps.{open_at, left_push}
@@ -120,7 +120,7 @@ module _ (p : PlainProblem) where
 
   lightest_means : (stack : List ℕ) (t : ℕ) → is_lightest p t ≡ true → t + 1 < length p.items → (item_at p.items t).weight ≤ least_weight p (t + 1)
   lightest_means stack t e below =
-      elim (either_true (t + 1 == length p.items) (nat_le (item_at p.items t).weight (least_weight p (t + 1))) e) [
+      elim (or_cases (t + 1 == length p.items) (nat_le (item_at p.items t).weight (least_weight p (t + 1))) e) [
         | inl same ↦ absurd (omega (arith, eq_yes (t + 1) (length p.items) same))
         | inr light ↦ le_yes (item_at p.items t).weight (least_weight p (t + 1)) light
       ]

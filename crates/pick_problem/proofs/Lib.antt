@@ -10,8 +10,10 @@ pub mod OpenLaws
 pub mod OrderLaws
 pub mod PartLaws
 pub mod RisingLaws
+pub mod ScoreLaws
 pub mod SoundLaws
 pub mod SumLaws
+pub mod TellLaws
 pub mod TreeSteps
 pub mod TryLaws
 pub mod TryStepLaws

@@ -1,6 +1,8 @@
 -- Each allowed step keeps what is known of the closed part, so a closed tree proves the best.
 use Rattle.std.specs.Prelude.{◌≡◌, ℕ, ◌+◌, ◌<◌, ◌≤◌, ◌⊎◌, Bool, true, List, [], ◌∷◌, ◌++◌, length, Option, Some, None, bytes_eq}
 use Rattle.std.proofs.Common.{arith, refl, sym, ap, subst, inl, inr}
+use Rattle.std.proofs.lemmas.Bool.{or_cases, or_left}
+use Rattle.fund_base.proofs.Lists.{equal_bytes}
 use Rattle.pick_problem.specs.declared.item.Kind.{Kind}
 use Rattle.pick_problem.specs.declared.token.Reason.{Reason}
 use Rattle.pick_problem.specs.declared.token.Reason.TheVariants.{Hit}
@@ -14,7 +16,6 @@ use Rattle.pick_problem.specs.Later.{behind_twins}
 use Rattle.pick_problem.specs.Steps.{State, root, left, closed, after, after_all, Closes, IsAllowedAt, IsAllowed, AreAllowed, met_behind}
 use Rattle.pick_problem.specs.ClosingTree.{IsAccepted, IsAnswered}
 use Rattle.pick_problem.specs.SoFar.{ComesAfter, IsBeaten, IsOpen, SoFar, Stands}
-use Rattle.pick_problem.proofs.Deciding.{either_true, first_or, equal_means}
 use Rattle.pick_problem.proofs.OrderLaws.{before_by_test}
 use Rattle.pick_problem.proofs.RisingLaws.{Rising-push, Rising-until, Rising-wider, twins_within}
 use Rattle.pick_problem.proofs.OpenLaws.{opens_enter, opens_all, opens_close, opens_pass, opens_behind}
@@ -40,15 +41,15 @@ ends (x ∷ xs) = push_front x xs (ends xs)
 met_before : (a : Option (List ℕ)) (met : Bool) (chosen : List ℕ) (reason : Reason) → met_behind a met chosen reason ≡ true → (met ≡ true) ⊎ (a ≡ Some chosen)
 met_before None met chosen Hit e = inl e
 met_before (Some best) met chosen Hit e =
-    elim (either_true met (bytes_eq chosen best) e) [
+    elim (or_cases met (bytes_eq chosen best) e) [
       | inl m ↦ inl m
-      | inr s ↦ let same : chosen ≡ best = equal_means chosen best s in inr (ap (λ (r : List ℕ). Some r) (sym same))
+      | inr s ↦ let same : chosen ≡ best = equal_bytes chosen best s in inr (ap (λ (r : List ℕ). Some r) (sym same))
     ]
 met_before a met chosen _ e = inl e
 
 met_stays : (a : Option (List ℕ)) (met : Bool) (chosen : List ℕ) (reason : Reason) → met ≡ true → met_behind a met chosen reason ≡ true
 met_stays None met chosen Hit e = e
-met_stays (Some best) met chosen Hit e = first_or met (bytes_eq chosen best) e
+met_stays (Some best) met chosen Hit e = or_left met (bytes_eq chosen best) e
 met_stays a met chosen _ e = e
 
 beaten_stays : (k : Kind) (p : PlainProblem) (a : Option (List ℕ)) (met met' : Bool) (q : List ℕ) → (met ≡ true → met' ≡ true) → IsBeaten k p a met q → IsBeaten k p a met' q

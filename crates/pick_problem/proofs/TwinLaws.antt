@@ -4,7 +4,7 @@ use Rattle.std.specs.Prelude.{◌≡◌, ℕ, ◌+◌, ◌-◌, ◌<◌, ◌≤�
 use Rattle.std.specs.List.{prefix_len}
 use Rattle.std.specs.Ordering.{int_eq}
 use Rattle.std.proofs.Common.{arith, refl, ap, subst, inl, inr, ◌∙◌}
-use Rattle.std.proofs.lemmas.Bool.{cases_lt}
+use Rattle.std.proofs.lemmas.Bool.{cases_lt, and_parts}
 use Rattle.std.proofs.lemmas.Bool.Decides.{Decides-int_eq}
 use Rattle.std.proofs.lemmas.Int.{ints}
 use Rattle.std.proofs.lemmas.List.{get_or-drop}
@@ -22,20 +22,20 @@ use Rattle.pick_problem.specs.Score.{IsBelow, IsSame, score_by}
 use Rattle.pick_problem.specs.Later.{is_twin, behind_twins}
 use Rattle.pick_problem.specs.Steps.{IsAllowedAt}
 use Rattle.pick_problem.specs.SoFar.{ComesAfter, IsBeaten, IsOpen}
-use Rattle.pick_problem.proofs.Deciding.{eq_yes, both_true}
+use Rattle.pick_problem.proofs.Deciding.{eq_yes}
 use Rattle.pick_problem.proofs.BestLaws.{below_transitive, below_same, same_below, same_transitive}
 use Rattle.pick_problem.proofs.SumLaws.{value-append, weight-append, cost-append}
 use Rattle.pick_problem.proofs.RisingLaws.{All-back, All-front, IsLighter, lighter_first, Rising-short, Rising-join, Rising-earlier}
 use Rattle.pick_problem.proofs.OpenLaws.{Passed, opens_not}
 
 twin_value : (k : Kind) (x y : Item) → is_twin k x y ≡ true → x.value ≡ y.value
-twin_value Changeless x y e = eq_yes x.value y.value (both_true (x.value == y.value) ((x.weight == y.weight) && int_eq x.cost y.cost) e).0
+twin_value Changeless x y e = eq_yes x.value y.value (and_parts (x.value == y.value) ((x.weight == y.weight) && int_eq x.cost y.cost) e).0
 twin_value Lean x y e = eq_yes x.value y.value e
 
 twin_cost : (x y : Item) → is_twin Changeless x y ≡ true → x.cost ≡ y.cost
 twin_cost x y e =
-    let numbers = both_true (x.value == y.value) ((x.weight == y.weight) && int_eq x.cost y.cost) e in
-    (Decides-int_eq x.cost y.cost).0 (both_true (x.weight == y.weight) (int_eq x.cost y.cost) numbers.1).1
+    let numbers = and_parts (x.value == y.value) ((x.weight == y.weight) && int_eq x.cost y.cost) e in
+    (Decides-int_eq x.cost y.cost).0 (and_parts (x.weight == y.weight) (int_eq x.cost y.cost) numbers.1).1
 
 -- a score is no greater than another
 abbrev pub IsAtMost : Score → Score → Type 0

@@ -1,10 +1,13 @@
 //! Laws of selections. A call of any of them does nothing.
 
-ghost use Rattle.std.specs.Prelude.{◌≡◌, ◌<◌, ◌⊎◌, ℕ, List, Option, length};
-ghost use Rattle.pick_problem.specs.Admissible.{IsAdmissible, IsPart};
+ghost use Rattle.std.specs.Prelude.{◌≡◌, ◌+◌, ◌*◌, ◌<◌, ◌≤◌, ◌⊎◌, ◌↔◌, ◌<ℤ◌, ℕ, List, Option, length};
+ghost use Rattle.pick_problem.specs.Admissible.{IsAdmissible, IsPart, NeedsEach};
 ghost use Rattle.pick_problem.specs.Best.{ComesBefore, IsBest};
-ghost use Rattle.pick_problem.specs.Problem.{PlainProblem, Rising, value_of};
-ghost use Rattle.pick_problem.specs.declared.item.Kind.TheVariants.{Changeless};
+ghost use Rattle.pick_problem.specs.Digest.{problem_bytes};
+ghost use Rattle.pick_problem.specs.Problem.{IsProblem, PlainProblem, Rising, value_of, weight_of};
+ghost use Rattle.pick_problem.specs.Score.{IsBelow, score_of};
+ghost use Rattle.pick_problem.specs.Waste.{changeless_waste};
+ghost use Rattle.pick_problem.specs.declared.item.Kind.TheVariants.{Changeless, Lean};
 
 /// Coming before is a strict total order of rising lists: none comes before itself, what comes before what comes
 /// before a list comes before it, and of two that differ one comes before the other.
@@ -21,9 +24,27 @@ pub fn one_best()
     ensures { (p : PlainProblem) (a b : Option (List ℕ)) → IsBest p a → IsBest p b → a ≡ b }
 {}
 
-/// A part of an admissible selection without change, with some of its places left out, doesn't reach `lo`.
-#[tactic(auto, using(crate::proofs::PartLaws::part_short))]
+/// A part of an admissible selection without change, with some of its places left out, doesn't reach `lo`. Each item of
+/// a list of places is needed exactly where no such part of it reaches `lo`.
 pub fn parts_fall_short()
-    ensures { (p : PlainProblem) (q part : List ℕ) →
+    ensures admissible { (p : PlainProblem) (q part : List ℕ) →
         p.kind ≡ Changeless → IsAdmissible p q → IsPart part q → length part < length q → value_of p part < p.lo }
+    ensures needed { (p : PlainProblem) (q : List ℕ) →
+        (NeedsEach p q ↔ ((part : List ℕ) → IsPart part q → length part < length q → value_of p part < p.lo)) }
+{}
+
+/// A lower score is what is looked for: without change less waste, as [`crate::waste`] reckons it of the cost and of what
+/// the value is above `lo`; with change less weight, or the same weight and less value.
+pub fn lower_scores_are_better()
+    ensures changeless { (p : PlainProblem) (q r : List ℕ) → p.kind ≡ Changeless → p.lo ≤ value_of p q → p.lo ≤ value_of p r →
+        (IsBelow (score_of p q) (score_of p r) ↔ (changeless_waste p q <ℤ changeless_waste p r)) }
+    ensures lean { (p : PlainProblem) (q r : List ℕ) → p.kind ≡ Lean →
+        (IsBelow (score_of p q) (score_of p r) ↔ ((weight_of p q < weight_of p r) ⊎ ((weight_of p q ≡ weight_of p r) × (value_of p q < value_of p r)))) }
+{}
+
+/// The bytes of which a digest is taken tell the problem: no two problems have the same. They are 29 bytes and 24 for
+/// each item.
+pub fn digest_bytes_tell_problems()
+    ensures tell { (p q : PlainProblem) → IsProblem p → IsProblem q → problem_bytes p ≡ problem_bytes q → p ≡ q }
+    ensures length { (p : PlainProblem) → length (problem_bytes p) ≡ 29 + 24 * length p.items }
 {}

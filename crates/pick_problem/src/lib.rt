@@ -24,7 +24,10 @@ pub use closing::{
 };
 pub use ending::{Ending, waste};
 pub use item::{Item, Kind, are_items};
-pub use laws::{before_is_an_order, one_best, parts_fall_short};
+pub use laws::{
+    before_is_an_order, digest_bytes_tell_problems, lower_scores_are_better, one_best,
+    parts_fall_short,
+};
 pub use order::before;
 pub use position::{Position, Progress, RestoreFault};
 pub use problem::Problem;

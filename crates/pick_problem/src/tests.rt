@@ -6,9 +6,10 @@ ghost use Rattle.pick_problem.specs.Problem.{AreBounds};
 
 use crate::{
     Ending, Item, Kind, Position, Problem, Progress, Reason, RestoreFault, Score, Token,
-    accepted_is_best, are_items, before, before_is_an_order, best_by_trying, finished_is_accepted,
-    law_of_steps, one_best, parts_fall_short, positions_stay, steps_keep_what_is_known,
-    tries_add_up, walks_are_bounded, waste, worked_walks,
+    accepted_is_best, are_items, before, before_is_an_order, best_by_trying,
+    digest_bytes_tell_problems, finished_is_accepted, law_of_steps, lower_scores_are_better,
+    one_best, parts_fall_short, positions_stay, steps_keep_what_is_known, tries_add_up,
+    walks_are_bounded, waste, worked_walks,
 };
 use fund_base::{Memory, Places};
 use std::alloc::Global;
@@ -168,6 +169,8 @@ fn laws() {
     before_is_an_order();
     one_best();
     parts_fall_short();
+    lower_scores_are_better();
+    digest_bytes_tell_problems();
     law_of_steps();
     accepted_is_best();
     steps_keep_what_is_known();
