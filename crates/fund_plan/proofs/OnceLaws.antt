@@ -1,11 +1,13 @@
 -- A plan has one outcome.
-use Rattle.std.specs.Prelude.{ℕ, zero, suc, ◌≡◌, ◌≢◌, ◌≤◌, ◌+◌, ◌⊎◌, List, [], ◌∷◌, AllPairs, Contains, Option, Some, None}
+use Rattle.std.specs.Prelude.{ℕ, suc, ◌≡◌, ◌≢◌, ◌≤◌, ◌+◌, ◌⊎◌, ◌↔◌, List, [], ◌∷◌, AllPairs, Contains, Option, Some, None}
 use Rattle.std.specs.Ordering.{ordering_reverse}
 use Rattle.std.specs.declared.cmp.Ordering.TheVariants.{Less}
 use Rattle.std.proofs.Common.{refl, sym, ap, subst, ◌∙◌, inl, inr, arith, get_or}
 use Rattle.std.proofs.lemmas.Bool.{cases_order}
 use Rattle.std.proofs.lemmas.List.{get_or_default}
 use Rattle.std.proofs.lemmas.List.Elements.{All-contains}
+use Rattle.fund_base.proofs.OutpointLaws.{outpoint_total}
+use Rattle.fund_base.proofs.Lists.{in_tail, cons_cases}
 use Rattle.fund_base.specs.Outpoints.{outpoint_cmp}
 use Rattle.fund_base.specs.declared.candidate.Candidate.{Candidate}
 use Rattle.fund_base.specs.declared.outpoint.OutPoint.{OutPoint}
@@ -14,28 +16,21 @@ use Rattle.fee_rates.specs.Fee.{fee_of, vsize_of}
 use Rattle.fee_rates.specs.Terms.{base_of, change_fee_of, change_least_of}
 use Rattle.request_text.specs.PlainRequest.{paid_to}
 use Rattle.fund_plan.specs.Amounts.{AreWithin, fees_of, value_of}
-use Rattle.fund_plan.specs.Answer.{Answers, AreListed, PaysAlone, is_preset, presets_in}
+use Rattle.fund_plan.specs.Answer.{Answers, AreListed, PaysAlone, answer_of, is_preset, presets_in}
 use Rattle.fund_plan.specs.Pays.{raised_of}
 use Rattle.fund_plan.specs.Plan.{IsEligible, IsPlan, PlainPlan}
 use Rattle.fund_plan.specs.Selection.{AreSorted}
 use Rattle.fund_plan.specs.Terms.{load_of, rates_of}
 use Rattle.fund_plan.specs.declared.outcome.Outcome.{Outcome}
 use Rattle.fund_plan.specs.declared.outcome.Outcome.TheVariants.{Funded, NoSelection}
-use Rattle.fund_plan.proofs.AnswerLaws.{presets_listed}
+use Rattle.fund_plan.proofs.AnswerLaws.{answer_means, presets_listed}
 use Rattle.fund_plan.proofs.PaysLaws.{sum_plain, sum_change}
-use Rattle.fund_plan.proofs.SelectionLaws.{outpoint_total, taken_within}
+use Rattle.fund_plan.proofs.SelectionLaws.{taken_within}
 
 -- ---- two lists in order with the same coins are one
 
 one_way : (a b : OutPoint) → outpoint_cmp a b ≡ Less → outpoint_cmp b a ≡ Less → ⊥
 one_way a b up down = let e = sym up ∙ outpoint_total.antisymm a b ∙ ap ordering_reverse down in absurd (cc)
-
-cons_cases : {X : Type 0} (x : X) (xs : List X) (y : X) → Contains (x ∷ xs) y → (x ≡ y) ⊎ Contains xs y
-cons_cases x xs y (zero, lt, e) = inl e
-cons_cases x xs y (suc k, lt, e) = inr (k, omega (arith, lt), e)
-
-in_tail : {X : Type 0} (x : X) (xs : List X) (y : X) → Contains xs y → Contains (x ∷ xs) y
-in_tail x xs y (k, lt, e) = (suc k, omega (arith, lt), e)
 
 sorted_rest : (c : Candidate) (cs : List Candidate) → AreSorted (c ∷ cs) → AreSorted cs
 sorted_rest c cs h = λ i j d lt in'. h (suc i) (suc j) d (omega arith) (omega arith)
@@ -138,3 +133,10 @@ one_outcome p (Funded f) (Funded g) h x y =
     let coins = one_listed p f.coins g.coins h x.0 y.0 in
     let change = one_change p g.coins f.change g.change _ _ (with_coins p f.coins g.coins f.change _ coins x.1) y.1 in
     ap (λ (cs : List Candidate). Funded (record { coins = cs; change = f.change })) coins ∙ ap (λ (o : Option ℕ). Funded (record { coins = g.coins; change = o })) change
+
+-- what is reckoned is the outcome
+pub outcome_where : (p : PlainPlan) (o : Outcome) → IsPlan p → (Answers p o ↔ (o ≡ answer_of p))
+outcome_where p o h = (
+  λ a. one_outcome p o (answer_of p) h a (answer_means p h.eligible),
+  λ e. subst (Answers p) (sym e) (answer_means p h.eligible),
+)

@@ -85,7 +85,7 @@ listed_input r c h (k, lt, is) =
     let point = h.coins k c.coin lt in
     input_fits r.replaceable c (subst (λ (q : OutPoint). length q.txid ≡ 32) is point.txid.len) (subst (λ (q : OutPoint). IsBytes q.txid) is point.txid.bytes) (subst (λ (q : OutPoint). q.index < 2 ^ 32) is point.index)
 
-inputs_fit : (p : PlainPlan) (coins : List Candidate) → IsRequest p.request → AreListed p coins → All InputFits (map (unsigned_input p.request.replaceable) coins)
+pub inputs_fit : (p : PlainPlan) (coins : List Candidate) → IsRequest p.request → AreListed p coins → All InputFits (map (unsigned_input p.request.replaceable) coins)
 inputs_fit p coins h listed = All-map InputFits (unsigned_input p.request.replaceable) coins (λ k d lt. listed_input p.request (get_or coins k d) h (listed.only k d lt))
 
 -- there are no more of them than they weigh
@@ -93,7 +93,7 @@ few_recipients : (rs : List Recipient) → length rs ≤ sum_by (λ (q : Recipie
 few_recipients [] = omega arith
 few_recipients (q ∷ rs) = omega (arith, few_recipients rs, sum_by-cons (λ (p : Recipient). output_size_of p.script) q rs)
 
-recipients_few : (r : PlainRequest) (w : Watch) (coins : List Candidate) (amount : Option ℕ) → payment_weight (load_of r w coins) coins amount ≤ 400_000 → length r.recipients ≤ 100_000
+pub recipients_few : (r : PlainRequest) (w : Watch) (coins : List Candidate) (amount : Option ℕ) → payment_weight (load_of r w coins) coins amount ≤ 400_000 → length r.recipients ≤ 100_000
 unfolding load_of
 recipients_few r w coins None h = omega (arith, h, few_recipients r.recipients)
 recipients_few r w coins (Some amount) h = omega (arith, h, few_recipients r.recipients)

@@ -1,12 +1,12 @@
 -- What pays: sums over one coin, and whether it does.
 use Rattle.std.specs.Prelude.{ℕ, ℤ, pos, ◌≡◌, ◌+◌, ◌-◌, ◌*◌, ◌≤◌, ◌<◌, ◌-ℤ◌, ◌+ℤ◌, ◌≤ℤ◌, ◌&&◌, List, [], ◌∷◌, ◌++◌, length, map, sum_by, Bool, true, false, cond, T, Option, Some, None, IfSome, int_le, nat_le, not, ◌==◌, unsigned_abs, if◌then◌else◌}
 use Rattle.std.specs.Int.{int_max}
-use Rattle.std.specs.Int.Signed.{le_z_yes, pos-nat_abs, yes_non_neg}
+use Rattle.std.specs.Int.Signed.{pos-nat_abs, yes_non_neg}
 use Rattle.std.proofs.Common.{arith, refl, sym, ap, subst, get_or, ◌∙◌}
 use Rattle.std.proofs.lemmas.Bool.{and_parts, and_from, leb-true, le-leb, eqb-true, not-false, both_ways}
-use Rattle.std.proofs.lemmas.Float.{T_from_true}
 use Rattle.std.proofs.lemmas.Int.{ints, int_max_is}
 use Rattle.std.proofs.lemmas.List.Sums.{sum_by-cons, sum_by-append, get_or-le-sum_by}
+use Rattle.fund_base.proofs.Lists.{int_le_true}
 use Rattle.fund_base.specs.declared.candidate.Candidate.{Candidate}
 use Rattle.tx_codec.specs.declared.tx.TxOut.{TxOut}
 use Rattle.tx_codec.specs.Transaction.{Transaction}
@@ -33,10 +33,6 @@ sum_one f x = omega (arith, sum_by-cons f x [])
 -- each amount is within the sum
 pub amount_within : (rs : List Recipient) (i : ℕ) (q : Recipient) (most : ℕ) → q ≡ get_or rs i q → i < length rs → sum_by (λ (p : Recipient). p.amount) rs ≤ most → q.amount ≤ most
 amount_within rs i q most is lt h = let e = ap (λ (p : Recipient). p.amount) is in omega (arith, get_or-le-sum_by (λ (p : Recipient). p.amount) rs i q lt)
-
--- the tests of the order of ℤ
-le_true : (x y : ℤ) → int_le x y ≡ true → x ≤ℤ y
-le_true x y e = le_z_yes (T_from_true (int_le x y) e)
 
 true_from_T : (b : Bool) → T b → b ≡ true
 true_from_T true t = refl
@@ -141,7 +137,7 @@ plain_facts : (target hi : ℤ) (weight : ℕ) → (int_le target (pos 0) && int
 plain_facts target hi weight e =
     let all = and_parts (int_le target (pos 0) && int_le (pos 0) hi) (nat_le weight 400_000) e in
     let two = and_parts (int_le target (pos 0)) (int_le (pos 0) hi) all.0 in
-    (le_true target (pos 0) two.0, le_true (pos 0) hi two.1, leb-true weight 400_000 all.1)
+    (int_le_true target (pos 0) two.0, int_le_true (pos 0) hi two.1, leb-true weight 400_000 all.1)
 
 plain_test : (target hi : ℤ) (weight : ℕ) → target ≤ℤ pos 0 → pos 0 ≤ℤ hi → weight ≤ 400_000 → (int_le target (pos 0) && int_le (pos 0) hi && nat_le weight 400_000) ≡ true
 plain_test target hi weight a b h =
@@ -152,7 +148,7 @@ plain_test target hi weight a b h =
 change_facts : (small : ℤ) (weight : ℕ) → (int_le small (pos 0) && nat_le weight 400_000) ≡ true → (small ≤ℤ pos 0) × (weight ≤ 400_000)
 change_facts small weight e =
     let all = and_parts (int_le small (pos 0)) (nat_le weight 400_000) e in
-    (le_true small (pos 0) all.0, leb-true weight 400_000 all.1)
+    (int_le_true small (pos 0) all.0, leb-true weight 400_000 all.1)
 
 change_test : (small : ℤ) (weight : ℕ) → small ≤ℤ pos 0 → weight ≤ 400_000 → (int_le small (pos 0) && nat_le weight 400_000) ≡ true
 change_test small weight a h = and_from (int_le small (pos 0)) (nat_le weight 400_000) (le_test small (pos 0) a) (le-leb weight 400_000 h)

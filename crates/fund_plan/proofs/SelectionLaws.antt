@@ -1,22 +1,20 @@
 -- The coins that are listed, in the order of their outpoints.
 use Rattle.std.specs.Prelude.{ℕ, ◌≡◌, ◌≤◌, ◌+◌, ◌⊎◌, ◌||◌, List, [], ◌∷◌, ◌++◌, length, filter, map, fold, sum_by, All, Bool, true, false}
 use Rattle.std.specs.List.{list_any}
-use Rattle.std.specs.Ordering.{match_ordering, ordering_reverse, ordering_then}
+use Rattle.std.specs.Ordering.{match_ordering, ordering_reverse}
 use Rattle.std.specs.List.Sorted.{IsStrictlySortedBy}
-use Rattle.std.specs.Cmp.{IsTotalOrder}
 use Rattle.std.specs.Map.{keys_of, values_of}
 use Rattle.std.specs.BTreeMap.{insert_entry}
 use Rattle.std.specs.declared.cmp.Ordering.{Ordering}
 use Rattle.std.specs.declared.cmp.Ordering.TheVariants.{Less, Equal, Greater}
 use Rattle.std.proofs.Common.{cond, refl, sym, ap, subst, ◌∙◌, inl, inr, arith, get_or}
 use Rattle.std.proofs.lemmas.Bool.{cond_both, both_ways, or_left, or_right, or_cases}
-use Rattle.std.proofs.lemmas.Cmp.{on_total, then_total, nat_cmp_total, nat_list_cmp_total}
 use Rattle.std.proofs.lemmas.List.{append-nil, length-map, get_or-map}
 use Rattle.std.proofs.lemmas.List.Elements.{All-nil, All-cons, All-head, All-tail, All-filter, All-from_recursion, recursion_from_All, All-weaker, filter-append}
 use Rattle.std.proofs.lemmas.List.Sums.{fold_push, sum_by-cons}
 use Rattle.std.proofs.lemmas.Map.Keys.{Less-from_sorted}
-use Rattle.std.proofs.lemmas.Map.Lookups.{exact_bytes, exact_unsigned}
 use Rattle.std.proofs.lemmas.Map.Views.{All-keys-insert_entry, All-values-insert_entry}
+use Rattle.fund_base.proofs.OutpointLaws.{outpoint_total, outpoint_equal}
 use Rattle.fund_base.specs.Outpoints.{outpoint_cmp, same_outpoint}
 use Rattle.fund_base.specs.declared.outpoint.OutPoint.{OutPoint}
 use Rattle.fund_base.specs.Candidates.{AreCandidates, IsCandidate}
@@ -25,21 +23,6 @@ use Rattle.fund_plan.specs.Amounts.{AreWithin, value_of}
 use Rattle.fund_plan.specs.Selection.{AreSorted, by_outpoint, in_order}
 
 -- ---- the order of outpoints
-
-pub outpoint_total : IsTotalOrder outpoint_cmp
-outpoint_total = then_total (on_total (λ (p : OutPoint). p.txid) nat_list_cmp_total) (on_total (λ (p : OutPoint). p.index) nat_cmp_total)
-
-then_equal : (a b : Ordering) → ordering_then a b ≡ Equal → (a ≡ Equal) × (b ≡ Equal)
-then_equal Less b e = absurd (cc)
-then_equal Equal b e = (refl, e)
-then_equal Greater b e = absurd (cc)
-
-pub outpoint_equal : (a b : OutPoint) → outpoint_cmp a b ≡ Equal → a ≡ b
-outpoint_equal a b e =
-    let p = then_equal _ _ e in
-    let t : a.txid ≡ b.txid = exact_bytes a.txid b.txid p.0 in
-    let i : a.index ≡ b.index = exact_unsigned a.index b.index p.1 in
-    ap (λ (x : List ℕ). record { txid = x; index = a.index }) t ∙ ap (λ (n : ℕ). record { txid = b.txid; index = n }) i
 
 -- ---- one more entry
 

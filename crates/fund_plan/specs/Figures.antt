@@ -1,13 +1,14 @@
 -- Weight, fee and waste of a payment.
-use Rattle.std.specs.Prelude.{ℕ, ℤ, pos, ◌+◌, ◌-◌, ◌+ℤ◌, ◌-ℤ◌, List, Option, Some, None}
+use Rattle.std.specs.Prelude.{ℕ, ℤ, pos, ◌≡◌, ◌≤◌, ◌+◌, ◌-◌, ◌*◌, ◌+ℤ◌, ◌-ℤ◌, List, sum_by, Option, Some, None}
 use Rattle.fund_base.specs.declared.candidate.Candidate.{Candidate}
-use Rattle.fee_rates.specs.Fee.{vsize_of}
-use Rattle.fee_rates.specs.Terms.{change_fee_of, change_spend_of}
+use Rattle.tx_codec.specs.declared.tx.TxOut.{TxOut}
+use Rattle.fee_rates.specs.Fee.{fee_of, vsize_of}
+use Rattle.fee_rates.specs.Terms.{base_of, change_fee_of, change_spend_of}
 use Rattle.fee_rates.specs.declared.terms.Load.{Load}
 use Rattle.request_text.specs.PlainRequest.{PlainRequest, paid_to}
 use Rattle.wallet_text.specs.declared.wallet.Watch.{Watch}
 use Rattle.fund_plan.specs.Amounts.{fees_of, value_of}
-use Rattle.fund_plan.specs.Pays.{due_of, outputs_of, payment_weight}
+use Rattle.fund_plan.specs.Pays.{due_of, outputs_of, payment_of, payment_weight}
 use Rattle.fund_plan.specs.Selection.{Selection}
 use Rattle.fund_plan.specs.Terms.{load_of, rates_of}
 use Rattle.fund_plan.specs.declared.figures.Figures.{Figures}
@@ -34,3 +35,18 @@ figures_of r change f = record {
   fee = value_of f.coins - outputs_of r f.change;
   waste = waste_of r (load_of r change f.coins) f.coins f.change;
 }
+
+-- what the spending of the change costs later, where there is any
+abbrev pub spending_of : PlainRequest → Load → Option ℕ → ℕ
+spending_of r l None = 0
+spending_of r l (Some amount) = change_spend_of (rates_of r) l
+
+-- How the figures of a payment stand to its money. What the coins are worth goes to the outputs and the fee. The fee is no
+-- less than that of the virtual size at the rate, and that size is a quarter of the weight, rounded up. The waste is what
+-- the fee is above the fee of the base and of the same inputs at the long-term rate, and what the change's spending costs.
+pub record AddUp (r : PlainRequest) (change : Watch) (f : Selection) (g : Figures) : Type 0 where
+  pub money : value_of f.coins ≡ sum_by (λ (o : TxOut). o.value) (payment_of r change f).outputs + g.fee
+  pub rate : fee_of r.rate g.vsize ≤ g.fee
+  pub size : (g.weight ≤ 4 * g.vsize) × (4 * g.vsize ≤ g.weight + 3)
+  pub light : g.weight ≤ 400_000
+  pub waste : g.waste +ℤ pos (fee_of r.rate (vsize_of (base_of (load_of r change f.coins))) + fees_of r.long_term f.coins) ≡ pos (g.fee + spending_of r (load_of r change f.coins) f.change)

@@ -7,3 +7,4 @@ pub mod Plan
 pub mod Presets
 pub mod Selection
 pub mod Terms
+pub mod Weighed

@@ -19,7 +19,10 @@ mod tests;
 
 pub use fault::PlanFault;
 pub use figures::Figures;
-pub use laws::{answers_once, pays_in_text};
+pub use laws::{
+    answers_once, figures_add_up, pays_in_text, reckons_the_outcome, signed_pays_the_rate,
+    weighs_as_declared,
+};
 pub use outcome::{Funded, Outcome};
 pub use payment::unsigned;
 pub use plan::Plan;

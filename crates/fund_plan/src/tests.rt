@@ -3,7 +3,10 @@
 ghost use Rattle.std.specs.Prelude.{◌≡◌, ◌≢◌, ◌≤◌, IfOk};
 ghost use Rattle.fund_base.specs.Candidates.{AreCandidates, IsCandidate};
 
-use crate::{Figures, Outcome, Plan, PlanFault, unsigned};
+use crate::{
+    Figures, Outcome, Plan, PlanFault, answers_once, figures_add_up, pays_in_text,
+    reckons_the_outcome, signed_pays_the_rate, unsigned, weighs_as_declared,
+};
 use fund_base::{Candidate, MAX_MONEY, Memory, OutPoint, Script, Txid};
 use request_text::{Method, Request, read_request};
 use std::alloc::Global;
@@ -270,4 +273,14 @@ fn faults(rt: HostRuntime) -> Result<(), Fail> {
         "total 2100000000000001"
     );
     Ok(())
+}
+
+#[test]
+fn laws() {
+    answers_once();
+    reckons_the_outcome();
+    figures_add_up();
+    weighs_as_declared();
+    signed_pays_the_rate();
+    pays_in_text();
 }
