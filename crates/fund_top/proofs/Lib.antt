@@ -1,5 +1,6 @@
 pub mod BookSteps
 pub mod Concluded
+pub mod DueLaws
 pub mod EndsLaws
 pub mod FeedSteps
 pub mod Finished

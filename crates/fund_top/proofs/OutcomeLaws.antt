@@ -44,9 +44,9 @@ chain_refused files s w cause h (inl b) =
     ∙ ap (λ (x : Cause). Err x) (sym b.2)
 chain_refused files s w cause h (inr b) =
     chain_read files s w h
-    ∙ ap (λ (r : Result (List ChainBlock) FeedFault). by_blocks w r) b.2
-    ∙ ap (λ (o : Option BookFault). by_book (held_of w b.0) o) b.3
-    ∙ ap (λ (x : Cause). Err x) (sym b.4)
+    ∙ ap (λ (r : Result (List ChainBlock) FeedFault). by_blocks w r) (blocks_only (files s.blocks) w.hash w.height b.0 b.2 b.3)
+    ∙ ap (λ (o : Option BookFault). by_book (held_of w b.0) o) b.4
+    ∙ ap (λ (x : Cause). Err x) (sym b.5)
 
 chain_held : (files : List ℕ → List ℕ) (s : Sources) (w : PlainWallet) (blocks : List ChainBlock) → HasChain files s w blocks → chain_of (files s.wallet) (files s.blocks) ≡ Ok (held_of w blocks)
 chain_held files s w blocks h =

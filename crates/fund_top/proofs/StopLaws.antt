@@ -1,5 +1,5 @@
 -- A stop at one file is a stop of the command.
-use Rattle.std.proofs.Common.{◌≡◌, ◌∙◌, ℕ, Bool, true, false, cond, List, [], Some, None, Result, Ok, Err, inl, inr, refl, sym, ap, subst}
+use Rattle.std.proofs.Common.{◌≡◌, ◌∙◌, ℕ, ◌≤◌, cond, List, [], length, Option, Some, None, Result, Ok, Err, inl, inr, refl, sym, ap, subst}
 use Rattle.std.specs.Prelude.{is_some}
 use Rattle.std.proofs.lemmas.Option.{same_Some}
 use Rattle.fund_base.specs.Causes.{ShelfView, Rose, NeverFall}
@@ -8,11 +8,12 @@ use Rattle.block_feed.specs.Block.{ChainBlock}
 use Rattle.block_feed.specs.Blocks.{blocks_of}
 use Rattle.block_feed.specs.declared.fault.FeedFault.{FeedFault}
 use Rattle.block_feed.specs.declared.fault.FeedFault.TheVariants as faults
-use Rattle.block_feed.proofs.FileLaws.{blocks_only}
+use Rattle.block_feed.proofs.Limits.{blocks_limit}
 use Rattle.coin_book.specs.Faults.{fault_of}
 use Rattle.coin_book.specs.History.{History}
 use Rattle.coin_book.specs.declared.fault.BookFault.{BookFault}
 use Rattle.coin_book.specs.declared.fault.BookFault.TheVariants as books
+use Rattle.coin_book.proofs.ToldSteps.{never_memory}
 use Rattle.request_text.specs.PlainRequest.{PlainRequest}
 use Rattle.request_text.specs.RequestText.{request_of}
 use Rattle.request_text.specs.declared.fault.Refusal as requests
@@ -29,8 +30,8 @@ use Rattle.fund_top.specs.Cause.{Cause, BumpNotYet, cause_of}
 use Rattle.fund_top.specs.Chain.{confirmed_history, history_of}
 use Rattle.fund_top.specs.Held.{IsBehind, IsBlocksCause, stop_of}
 use Rattle.fund_top.specs.InputStop.{StopsAt, IsAskedCause, IsWalletCause, IsRequestCause}
-use Rattle.fund_top.specs.Outcome.{book_cause, feed_cause, is_manual}
-use Rattle.fund_top.specs.Stop.{HasChain, HasWallet, IsDue, IsMeant, IsUnread, Reaches, StopsFor}
+use Rattle.fund_top.specs.Outcome.{book_cause, feed_cause}
+use Rattle.fund_top.specs.Stop.{HasChain, HasFault, HasNoBook, HasWallet, IsMeant, IsUnread, Reaches, StopsFor}
 use Rattle.fund_top.specs.Words.{Command, Fund, Payment, Sources, sources_of}
 use Rattle.fund_top.proofs.BookSteps.{waiting}
 use Rattle.fund_top.proofs.OutcomeLaws.{wallet_refused, blocks_refused, request_refused}
@@ -44,45 +45,53 @@ reached : (files : List ℕ → List ℕ) (c : Command) (file named : File) → 
 reached files c file named is reaches = subst (λ (f : File). Reaches files c f) (sym is) reaches
 
 wallet_meant : (files : List ℕ → List ℕ) (c : Command) (cause : Cause) → IsWalletCause (files (sources_of c).wallet) cause → IsMeant files c cause
-wallet_meant files c cause (inl h) = subst (λ (x : Cause). IsMeant files c x) (sym h.0) tt
-wallet_meant files c cause (inr h) = subst (λ (x : Cause). IsMeant files c x) (sym h.3) h.2
+wallet_meant files c cause (inl h) = subst (λ (x : Cause). IsMeant files c x) (sym h.0) h.1
+wallet_meant files c cause (inr h) = subst (λ (x : Cause). IsMeant files c x) (sym h.3) (h.0, h.2)
+
+-- the block file behind this wallet has this fault first
+has_fault : (files : List ℕ → List ℕ) (s : Sources) (w : PlainWallet) (fault : FeedFault) → HasWallet files s w → blocks_of (files s.blocks) w.hash w.height ≡ Err fault → HasFault files s fault
+has_fault files s w fault has first = record { wallet = w; holds = has; first = first }
 
 -- a fault of the blocks means what its name says
-fault_meant : (files : List ℕ → List ℕ) (c : Command) (fault : FeedFault) → IsMeant files c (feed_cause fault)
-fault_meant files c (faults.Magic place) = tt
-fault_meant files c (faults.Length place) = tt
-fault_meant files c (faults.Tx height fault) = tt
-fault_meant files c (faults.Merkle height) = tt
-fault_meant files c (faults.Mutated height) = tt
-fault_meant files c (faults.NotLinked kept found) = tt
-fault_meant files c (faults.Trailing height) = tt
-fault_meant files c (faults.Empty height) = tt
-fault_meant files c faults.Read = tt
-fault_meant files c faults.Limit = tt
-fault_meant files c faults.Memory = tt
+fault_meant : (files : List ℕ → List ℕ) (c : Command) (w : PlainWallet) (fault : FeedFault) → HasWallet files (sources_of c) w → blocks_of (files (sources_of c).blocks) w.hash w.height ≡ Err fault → IsMeant files c (feed_cause fault)
+fault_meant files c w (faults.Magic place) has first = (has_fault files (sources_of c) w (faults.Magic place) has first, λ e. absurd cc)
+fault_meant files c w (faults.Length place) has first = (has_fault files (sources_of c) w (faults.Length place) has first, λ e. absurd cc)
+fault_meant files c w (faults.Tx height fault) has first = (has_fault files (sources_of c) w (faults.Tx height fault) has first, λ e. absurd cc)
+fault_meant files c w (faults.Merkle height) has first = (has_fault files (sources_of c) w (faults.Merkle height) has first, λ e. absurd cc)
+fault_meant files c w (faults.Mutated height) has first = (has_fault files (sources_of c) w (faults.Mutated height) has first, λ e. absurd cc)
+fault_meant files c w (faults.NotLinked kept found) has first = (has_fault files (sources_of c) w (faults.NotLinked kept found) has first, λ e. absurd cc)
+fault_meant files c w (faults.Trailing height) has first = (has_fault files (sources_of c) w (faults.Trailing height) has first, λ e. absurd cc)
+fault_meant files c w (faults.Empty height) has first = (has_fault files (sources_of c) w (faults.Empty height) has first, λ e. absurd cc)
+fault_meant files c w faults.Read has first = (has_fault files (sources_of c) w faults.Read has first, λ e. absurd cc)
+fault_meant files c w faults.Limit has first = (has_fault files (sources_of c) w faults.Limit has first, blocks_limit (files (sources_of c).blocks) w.hash w.height first)
+fault_meant files c w faults.Memory has first = (has_fault files (sources_of c) w faults.Memory has first, λ e. absurd cc)
 
 -- so does one of the book
-book_meant : (files : List ℕ → List ℕ) (c : Command) (fault : BookFault) → IsMeant files c (book_cause fault)
-book_meant files c (books.RepeatCoin coin) = tt
-book_meant files c books.Full = tt
-book_meant files c books.Memory = tt
+book_meant : (files : List ℕ → List ℕ) (c : Command) (fault : BookFault) → HasNoBook files (sources_of c) fault → IsMeant files c (book_cause fault)
+book_meant files c (books.RepeatCoin coin) h = h
+book_meant files c books.Full h = h
+book_meant files c books.Memory h = absurd (never_memory (history_of h.wallet h.blocks) h.broken)
 
-blocks_meant : (files : List ℕ → List ℕ) (c : Command) (w : PlainWallet) (file : List ℕ) (cause : Cause) → IsBlocksCause w file cause → IsMeant files c cause
-blocks_meant files c w file cause (inl h) = subst (λ (x : Cause). IsMeant files c x) (sym h.2) (fault_meant files c h.0)
-blocks_meant files c w file cause (inr h) = subst (λ (x : Cause). IsMeant files c x) (sym h.4) (book_meant files c h.1)
+blocks_meant : (files : List ℕ → List ℕ) (c : Command) (w : PlainWallet) (cause : Cause) → HasWallet files (sources_of c) w → IsBlocksCause w (files (sources_of c).blocks) cause → IsMeant files c cause
+blocks_meant files c w cause has (inl h) = subst (λ (x : Cause). IsMeant files c x) (sym h.2) (fault_meant files c w h.0 has h.1)
+blocks_meant files c w cause has (inr h) =
+    subst (λ (x : Cause). IsMeant files c x) (sym h.5) (book_meant files c h.1 (record { wallet = w; blocks = h.0; holds = has; fits = h.3; form = h.2; broken = h.4 }))
 
 -- so does one of a request that isn't taken
-option_meant : (files : List ℕ → List ℕ) (c : Command) (cause : Cause) (bump : Bool) → cond bump (Some BumpNotYet) None ≡ Some cause → IsMeant files c cause
-option_meant files c cause true e = subst (λ (x : Cause). IsMeant files c x) (same_Some BumpNotYet cause e) tt
-option_meant files c cause false e = absurd cc
+option_meant : (files : List ℕ → List ℕ) (s : Sources) (p : Payment) (w : PlainWallet) (blocks : List ChainBlock) (r : PlainRequest) (cause : Cause) (bump : Option (List ℕ)) → HasChain files s w blocks → length (files p.request) ≤ 1048576 → request_of (files p.request) ≡ Ok r → r.bump ≡ bump
+    → cond (is_some bump) (Some BumpNotYet) None ≡ Some cause → IsMeant files (Fund s p) cause
+option_meant files s p w blocks r cause (Some txid) has fits is own e =
+    subst (λ (x : Cause). IsMeant files (Fund s p) x) (same_Some BumpNotYet cause e) (w, blocks, r, txid, has, fits, is, own)
+option_meant files s p w blocks r cause None has fits is own e = absurd cc
 
-asked_meant : (files : List ℕ → List ℕ) (s : Sources) (p : Payment) (cause : Cause) (r : Result PlainRequest requests.Refusal) → request_of (files p.request) ≡ r → IsAskedCause r cause → IsMeant files (Fund s p) cause
-asked_meant files s p cause (Err fault) is h = subst (λ (x : Cause). IsMeant files (Fund s p) x) (sym h) is
-asked_meant files s p cause (Ok r) is h = option_meant files (Fund s p) cause (is_some r.bump) h
+asked_meant : (files : List ℕ → List ℕ) (s : Sources) (p : Payment) (w : PlainWallet) (blocks : List ChainBlock) (cause : Cause) (r : Result PlainRequest requests.Refusal) → HasChain files s w blocks → length (files p.request) ≤ 1048576 → request_of (files p.request) ≡ r → IsAskedCause r cause
+    → IsMeant files (Fund s p) cause
+asked_meant files s p w blocks cause (Err fault) has fits is h = subst (λ (x : Cause). IsMeant files (Fund s p) x) (sym h) (w, blocks, has, fits, is)
+asked_meant files s p w blocks cause (Ok r) has fits is h = option_meant files s p w blocks r cause r.bump has fits is refl h
 
-request_meant : (files : List ℕ → List ℕ) (s : Sources) (p : Payment) (cause : Cause) → IsRequestCause (files p.request) cause → IsMeant files (Fund s p) cause
-request_meant files s p cause (inl h) = subst (λ (x : Cause). IsMeant files (Fund s p) x) (sym h.0) tt
-request_meant files s p cause (inr h) = asked_meant files s p cause (request_of (files p.request)) refl h.1
+request_meant : (files : List ℕ → List ℕ) (s : Sources) (p : Payment) (w : PlainWallet) (blocks : List ChainBlock) (cause : Cause) → HasChain files s w blocks → IsRequestCause (files p.request) cause → IsMeant files (Fund s p) cause
+request_meant files s p w blocks cause has (inl h) = subst (λ (x : Cause). IsMeant files (Fund s p) x) (sym h.0) (w, blocks, has, h.1)
+request_meant files s p w blocks cause has (inr h) = asked_meant files s p w blocks cause (request_of (files p.request)) has h.0 refl h.1
 
 -- ---- the stops
 
@@ -101,7 +110,7 @@ at_blocks told s c w old middle new (stops.Read named) own up same held h =
     (read_of c old new Blocks named h.0 (rw own (rose_earlier _ _ _ (up s.blocks) h.1)), λ t. reached old.files c Blocks named h.0 (w, rw own (held t)))
 at_blocks told s c w old middle new (stops.Refused refusal) own up same held h = λ t.
     let due : IsBlocksCause w (old.files (sources_of c).blocks) (cause_of refusal) = rw own (subst (λ (files : List ℕ → List ℕ). IsBlocksCause w (files s.blocks) (cause_of refusal)) (same t) (h t)) in
-    (blocks_refused old.files c w (cause_of refusal) (rw own (held t)) due, blocks_meant old.files c w (old.files (sources_of c).blocks) (cause_of refusal) due)
+    (blocks_refused old.files c w (cause_of refusal) (rw own (held t)) due, blocks_meant old.files c w (cause_of refusal) (rw own (held t)) due)
 at_blocks told s c w old middle new stops.Memory own up same held h = tt
 
 -- at the request
@@ -111,7 +120,7 @@ at_request told s p w blocks old middle new (stops.Read named) up same held h =
     (read_of (Fund s p) old new Request named h.0 (rose_earlier _ _ _ (up p.request) h.1), λ t. reached old.files (Fund s p) Request named h.0 (w, blocks, held t))
 at_request told s p w blocks old middle new (stops.Refused refusal) up same held h = λ t.
     let due : IsRequestCause (old.files p.request) (cause_of refusal) = subst (λ (files : List ℕ → List ℕ). IsRequestCause (files p.request) (cause_of refusal)) (same t) (h t) in
-    (request_refused old.files s p w blocks (cause_of refusal) (held t) due, request_meant old.files s p (cause_of refusal) due)
+    (request_refused old.files s p w blocks (cause_of refusal) (held t) due, request_meant old.files s p w blocks (cause_of refusal) (held t) due)
 at_request told s p w blocks old middle new stops.Memory up same held h = tt
 
 -- ---- why the reading of the blocks stops
@@ -137,7 +146,8 @@ book_broken told file w tip booked pending fault cause r own broken is = λ t.
     inr (
       r.blocks,
       fault,
-      blocks_only file w.hash w.height r.blocks (r.read.whole t) (r.read.within t),
+      r.read.whole t,
+      r.read.within t,
       subst (λ (ts : List Transaction). fault_of (waiting (confirmed_history w r.blocks) ts) ≡ Some fault) own (broken (confirmed_history w r.blocks) refl r.booked_is),
       is,
     )

@@ -1,6 +1,7 @@
 -- What was read of the files of a command, one by one.
-use Rattle.std.specs.Prelude.{ℕ, ◌≡◌, ◌⊎◌, List, Some, None, Ok, Err}
+use Rattle.std.specs.Prelude.{ℕ, ◌≡◌, ◌≤◌, ◌⊎◌, List, length, Some, None, Err}
 use Rattle.block_feed.specs.Block.{ChainBlock}
+use Rattle.block_feed.specs.BlockFile.{IsBlockFile}
 use Rattle.block_feed.specs.Blocks.{blocks_of}
 use Rattle.block_feed.specs.declared.fault.FeedFault.{FeedFault}
 use Rattle.block_feed.specs.declared.fault.FeedFault.TheVariants as feeds
@@ -33,7 +34,7 @@ stop_of fault = stops.Refused (BadBlocks fault)
 abbrev pub IsBlocksCause : PlainWallet → List ℕ → Cause → Type 0
 IsBlocksCause w file cause =
     ((fault : FeedFault) × (blocks_of file w.hash w.height ≡ Err fault) × (cause ≡ feed_cause fault))
-    ⊎ ((blocks : List ChainBlock) × (fault : BookFault) × (blocks_of file w.hash w.height ≡ Ok blocks) × (fault_of (history_of w blocks) ≡ Some fault) × (cause ≡ book_cause fault))
+    ⊎ ((blocks : List ChainBlock) × (fault : BookFault) × IsBlockFile w.hash w.height blocks file × (length file ≤ 1073741824) × (fault_of (history_of w blocks) ≡ Some fault) × (cause ≡ book_cause fault))
 
 -- a wallet, its book and its tip, of the wallet and the blocks that files hold where they are told
 pub record AreHeld (told : Type 0) (files : List ℕ → List ℕ) (s : Sources) (k : Held) : Type 0 where

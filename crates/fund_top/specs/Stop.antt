@@ -1,9 +1,14 @@
 -- Why a command stops before it writes or prints.
-use Rattle.std.specs.Prelude.{ℕ, ◌≡◌, ◌≢◌, ◌≤◌, List, [], length, None, Ok, Err}
+use Rattle.std.specs.Prelude.{ℕ, ◌≡◌, ◌≢◌, ◌<◌, ◌≤◌, List, [], length, Some, None, Ok, Err}
 use Rattle.fund_base.specs.Causes.{ShelfView, Rose}
 use Rattle.block_feed.specs.Block.{ChainBlock}
 use Rattle.block_feed.specs.BlockFile.{IsBlockFile}
+use Rattle.block_feed.specs.Blocks.{blocks_of}
+use Rattle.block_feed.specs.declared.fault.FeedFault.{FeedFault}
+use Rattle.block_feed.specs.declared.fault.FeedFault.TheVariants as feeds
 use Rattle.coin_book.specs.Faults.{fault_of}
+use Rattle.coin_book.specs.declared.fault.BookFault.{BookFault}
+use Rattle.coin_book.specs.declared.fault.BookFault.TheVariants as books
 use Rattle.fund_plan.specs.Plan.{IsFault, IsPlan}
 use Rattle.fund_plan.specs.declared.fault.PlanFault.{PlanFault}
 use Rattle.fund_plan.specs.declared.fault.PlanFault.TheVariants as plans
@@ -83,22 +88,52 @@ abbrev pub IsUnchosen : (List ℕ → List ℕ) → Command → Type 0
 IsUnchosen files (Fund s p) = (w : PlainWallet) × (blocks : List ChainBlock) × (r : PlainRequest) × AreInputs files s p w blocks r × IsPlan (plan_of (held_of w blocks) r) × (r.method ≢ Manual)
 IsUnchosen files (Coins s) = ⊥
 
--- the request file has this fault first
+-- the wallet file is in order, and the block file has this fault first, behind the wallet's block
+pub record HasFault (files : List ℕ → List ℕ) (s : Sources) (fault : FeedFault) : Type 0 where
+  pub wallet : PlainWallet
+  pub holds : HasWallet files s wallet
+  pub first : blocks_of (files s.blocks) wallet.hash wallet.height ≡ Err fault
+
+-- both files are in order, and this is what keeps their coins from a book
+pub record HasNoBook (files : List ℕ → List ℕ) (s : Sources) (fault : BookFault) : Type 0 where
+  pub wallet : PlainWallet
+  pub blocks : List ChainBlock
+  pub holds : HasWallet files s wallet
+  pub fits : length (files s.blocks) ≤ 1073741824
+  pub form : IsBlockFile wallet.hash wallet.height blocks (files s.blocks)
+  pub broken : fault_of (history_of wallet blocks) ≡ Some fault
+
+-- The files before the request are in order, and the request file is longer than its limit.
+abbrev pub IsAskedLong : (List ℕ → List ℕ) → Command → Type 0
+IsAskedLong files (Fund s p) = (w : PlainWallet) × (blocks : List ChainBlock) × HasChain files s w blocks × (1048576 < length (files p.request))
+IsAskedLong files (Coins s) = ⊥
+
+-- They are, and the request file has this fault first.
 abbrev pub IsAskedWrong : (List ℕ → List ℕ) → Command → requests.Refusal → Type 0
-IsAskedWrong files (Fund s p) fault = request_of (files p.request) ≡ Err fault
+IsAskedWrong files (Fund s p) fault = (w : PlainWallet) × (blocks : List ChainBlock) × HasChain files s w blocks × (length (files p.request) ≤ 1048576) × (request_of (files p.request) ≡ Err fault)
 IsAskedWrong files (Coins s) fault = ⊥
 
--- What a cause means by itself: the fault is the first that the wallet file has, or the request file; the candidates are
--- worth more than 21,000,000 bitcoin; this is the first listed coin at which no candidate is that may be listed; a row of
--- the ladder keeps more than 10,000 groups; none of these is so, and the coins are to be chosen.
+-- They are, and the request replaces the payment of some txid.
+abbrev pub IsBumping : (List ℕ → List ℕ) → Command → Type 0
+IsBumping files (Fund s p) =
+    (w : PlainWallet) × (blocks : List ChainBlock) × (r : PlainRequest) × (txid : List ℕ) × HasChain files s w blocks × (length (files p.request) ≤ 1048576) × (request_of (files p.request) ≡ Ok r) × (r.bump ≡ Some txid)
+IsBumping files (Coins s) = ⊥
+
+-- What a cause means by itself, the files before the one that is refused being in order: the file is longer than its
+-- limit; the fault is the first that the wallet file has, or the block file, or the request file; what the wallet and the
+-- blocks make is no book; the request replaces a payment; the candidates are worth more than 21,000,000 bitcoin; this is
+-- the first listed coin at which no candidate is that may be listed; a row of the ladder keeps more than 10,000 groups;
+-- none of these is so, and the coins are to be chosen.
 abbrev pub IsMeant : (List ℕ → List ℕ) → Command → Cause → Type 0
-IsMeant files c (TooLong file) = Unit {0}
-IsMeant files c (BadWallet fault) = wallet_of (files (sources_of c).wallet) ≡ Err fault
-IsMeant files c (BadBlocks fault) = Unit {0}
-IsMeant files c (RepeatCoin coin) = Unit {0}
-IsMeant files c ManyCoins = Unit {0}
+IsMeant files c (TooLong Wallet) = 16777216 < length (files (sources_of c).wallet)
+IsMeant files c (TooLong Blocks) = HasFault files (sources_of c) feeds.Limit × (1073741824 < length (files (sources_of c).blocks))
+IsMeant files c (TooLong Request) = IsAskedLong files c
+IsMeant files c (BadWallet fault) = (length (files (sources_of c).wallet) ≤ 16777216) × (wallet_of (files (sources_of c).wallet) ≡ Err fault)
+IsMeant files c (BadBlocks fault) = HasFault files (sources_of c) fault × (fault ≢ feeds.Limit)
+IsMeant files c (RepeatCoin coin) = HasNoBook files (sources_of c) (books.RepeatCoin coin)
+IsMeant files c ManyCoins = HasNoBook files (sources_of c) books.Full
 IsMeant files c (BadRequest fault) = IsAskedWrong files c fault
-IsMeant files c BumpNotYet = Unit {0}
+IsMeant files c BumpNotYet = IsBumping files c
 IsMeant files c PlanNotYet = IsUnchosen files c
 IsMeant files c (NotEligible coin) = IsPlanned files c (plans.NotEligible coin)
 IsMeant files c (Total sum) = IsPlanned files c (plans.Total sum)

@@ -6,6 +6,7 @@ mod blocks;
 mod booking;
 mod ending;
 mod files;
+mod laws;
 mod listing;
 mod output;
 mod refusal;
@@ -16,6 +17,7 @@ mod text;
 mod top;
 mod words;
 
+pub use laws::outcomes_are_due;
 pub use status::Status;
 pub use sure::run_in_memory;
 pub use top::run;
