@@ -26,6 +26,18 @@ Rose before now = one_more before ≤ now
 abbrev pub NeverFall : (List ℕ → ℕ) → (List ℕ → ℕ) → Type 0
 NeverFall before now = (name : List ℕ) → before name ≤ now name
 
+-- Between two moments of a shelf nothing was written: its files are as before, where it tells them; no name's count of
+-- failed reads fell; and no count of failed writes changed.
+pub record OnlyReads (told : Type 0) (before now : ShelfView) : Type 0 where
+  pub same : told → now.files ≡ before.files
+  pub reads : NeverFall before.reads now.reads
+  pub writes : now.writes ≡ before.writes
+
+-- neither count of a sink fell
+pub record CountsNeverFall (before now : SinkView) : Type 0 where
+  pub faults : before.faults ≤ now.faults
+  pub refusals : before.refusals ≤ now.refusals
+
 -- every other name's file is as before
 abbrev pub SameElsewhere : List ℕ → (List ℕ → List ℕ) → (List ℕ → List ℕ) → Type 0
 SameElsewhere name before now = (other : List ℕ) → other ≢ name → now other ≡ before other

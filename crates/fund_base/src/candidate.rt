@@ -48,47 +48,16 @@ impl Candidate {
             descendants: self.descendants,
         })
     }
-}
 
-#[cfg(test)]
-mod tests {
-    use super::*;
-    use crate::money::{MAX_MONEY, Sat};
-    use crate::outpoint::Txid;
-    use crate::places::Places;
-    use std::test::Fail;
-
-    #[test]
-    fn plain_types(rt: HostRuntime) -> Result<(), Fail> {
-        let alloc = rt.alloc();
-        let candidate = Candidate {
-            coin: OutPoint {
-                txid: Txid([7; 32]),
-                index: 3,
-            },
-            value: 101_100,
-            weight: 272,
-            script: Script::new(Vec::from_slice(alloc, b"\x6a\x01")?),
-            depth: 11,
-            mine: true,
-            safe: false,
-            ancestors: 2,
-            descendants: 5,
-        };
-        let copy = candidate.copy(alloc)?;
-        assert_eq!(rt; copy.coin, candidate.coin);
-        assert_eq!(rt; copy.coin.txid.bytes(), &[7; 32]);
-        assert_eq!(rt; (copy.value, copy.weight, copy.depth), (101_100, 272, 11));
-        assert_eq!(rt; (copy.mine, copy.safe), (true, false));
-        assert_eq!(rt; (copy.ancestors, copy.descendants), (2, 5));
-        assert_eq!(rt; copy.script.bytes(), b"\x6a\x01".as_slice());
-        let places = Places::new(Vec::from_slice(alloc, &[0, 2, 5])?).copy(alloc)?;
-        assert_eq!(rt; places.as_slice(), [0, 2, 5].as_slice());
-        assert_eq!(rt;
-            Sat::new(MAX_MONEY).ok_or("money")?.get(),
-            2_100_000_000_000_000
-        );
-        assert!(rt; Sat::new(MAX_MONEY + 1).is_none());
-        Ok(())
+    /// A copy of each, in order.
+    pub fn copy_all(alloc: Global, candidates: &[Candidate]) -> Result<Vec<Candidate>, Memory>
+        ensures { IfOk result (λ v. v.items ≡ candidates.now) }
+    {
+        let mut copies = Vec::new(alloc);
+        for candidate in candidates {
+            let copy = candidate.copy(alloc)?;
+            copies.push(copy)?;
+        }
+        Ok(copies)
     }
 }

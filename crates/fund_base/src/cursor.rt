@@ -35,6 +35,12 @@ impl<'a> Model for Cursor<'a> {
     ghost invariant = { λ c. (c.place + length c.rest.now < 2 ^ 64) × IsBytes c.rest.now };
 }
 
+/// That the items of a slice of bytes are bytes, and fewer than 2 ^ 64. A call does nothing.
+pub fn are_bytes(bytes: &[u8])
+    ensures bytes { IsBytes bytes.now }
+    ensures len { length bytes.now < 2 ^ 64 }
+{}
+
 fn number16(bytes: &[u8]) -> u16
     requires { 2 ≤ length bytes.now }
     ensures { result ≡ from_le_bytes w16 (take 2 bytes.now) }
@@ -222,61 +228,5 @@ impl<'a> Cursor<'a> {
         ensures moves { Moves (λ x. x) self.old self.new result (compact_at self.old) }
     {
         self.count()
-    }
-}
-
-#[cfg(test)]
-mod tests {
-    use super::*;
-    use std::process::Abort;
-
-    fn counts(rt: &impl Abort, bytes: &[u8], expected: Result<u64, CutFault>, left: usize) {
-        let mut cursor = Cursor::new(bytes);
-        assert_eq!(rt; cursor.compact(), expected);
-        assert_eq!(rt; cursor.rest().len(), left);
-    }
-
-    #[test]
-    fn spellings_of_counts(rt: HostRuntime) {
-        counts(&rt, &[0], Ok(0), 0);
-        counts(&rt, &[252, 7], Ok(252), 1);
-        counts(&rt, &[253, 253, 0], Ok(253), 0);
-        counts(&rt, &[253, 255, 255, 7], Ok(65_535), 1);
-        counts(&rt, &[254, 0, 0, 1, 0], Ok(65_536), 0);
-        counts(&rt, &[254, 255, 255, 255, 255], Ok(4_294_967_295), 0);
-        counts(&rt, &[255, 0, 0, 0, 0, 1, 0, 0, 0], Ok(4_294_967_296), 0);
-        counts(&rt, &[255; 9], Ok(u64::MAX), 0);
-        counts(&rt, &[], Err(CutFault::Truncated(0)), 0);
-        counts(&rt, &[253, 253], Err(CutFault::Truncated(0)), 2);
-        counts(&rt, &[253, 252, 0], Err(CutFault::LongCompact(0)), 3);
-        counts(
-            &rt,
-            &[254, 255, 255, 0, 0],
-            Err(CutFault::LongCompact(0)),
-            5,
-        );
-        counts(
-            &rt,
-            &[255, 255, 255, 255, 255, 0, 0, 0, 0],
-            Err(CutFault::LongCompact(0)),
-            9,
-        );
-    }
-
-    #[test]
-    fn each_field_in_turn(rt: HostRuntime) {
-        let mut cursor = Cursor::new(&[1, 2, 3, 4, 0, 0, 0, 0, 0, 0, 0, 128, 9, 8, 253]);
-        assert_eq!(rt; cursor.u32_le(), Ok(0x0403_0201));
-        assert_eq!(rt; cursor.u64_le(), Ok(0x8000_0000_0000_0000));
-        assert_eq!(rt; cursor.take(3).map(|bytes| bytes[2]), Ok(253));
-        assert_eq!(rt; cursor.place(), 15);
-        assert_eq!(rt; cursor.u32_le(), Err(CutFault::Truncated(15)));
-        assert_eq!(rt; cursor.u64_le(), Err(CutFault::Truncated(15)));
-        assert_eq!(rt; cursor.fork().compact(), Err(CutFault::Truncated(15)));
-        assert_eq!(rt;
-            cursor.take(1).map(|bytes| bytes.len()),
-            Err(CutFault::Truncated(15))
-        );
-        assert_eq!(rt; cursor.place(), 15);
     }
 }

@@ -67,38 +67,3 @@ pub fn reads_decimals()
     ensures found { (most : ℕ) (text : List ℕ) (n : ℕ) → number_of most text ≡ Some n → (text ≡ decimal n) × (n ≤ most) }
     ensures only { (most n : ℕ) → most < 2 ^ 64 → n ≤ most → number_of most (decimal n) ≡ Some n }
 {}
-
-#[cfg(test)]
-mod tests {
-    use super::*;
-    use std::test::Fail;
-
-    #[test]
-    fn numbers(rt: HostRuntime) -> Result<(), Fail> {
-        let cases: [(&[u8], Option<u64>); 14] = [
-            (b"0", Some(0)),
-            (b"7", Some(7)),
-            (b"4294967295", Some(4294967295)),
-            (b"4294967296", None),
-            (b"18446744073709551615", None),
-            (b"18446744073709551616", None),
-            (b"42949672950", None),
-            (b"", None),
-            (b"00", None),
-            (b"07", None),
-            (b"+7", None),
-            (b"-1", None),
-            (b"1 ", None),
-            (b"\xef\xbc\x91", None),
-        ];
-        for (text, number) in cases {
-            assert_eq!(rt; read_decimal(text, 4294967295), number);
-        }
-        assert_eq!(rt;
-            read_decimal(b"18446744073709551615", u64::MAX),
-            Some(u64::MAX)
-        );
-        assert_eq!(rt; read_decimal(b"18446744073709551616", u64::MAX), None);
-        Ok(())
-    }
-}

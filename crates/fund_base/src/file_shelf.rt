@@ -4,6 +4,7 @@ ghost use Rattle.std.specs.Prelude.{◌≡◌, ◌≢◌, ◌≤◌, ℕ, List, 
 ghost use Rattle.fund_base.specs.Causes.{Rose, NeverFall, one_more};
 
 use crate::shelf::{Fault, Shelf};
+use crate::system::told;
 use std::fs;
 use std::io::{self, Read, Seek, SeekFrom};
 use std::rt::Files;
@@ -61,13 +62,7 @@ impl<R: Files + Drop> Shelf for FileShelf<R> {
         ensures counted { IsErrOf result Fault.Failed → (view_of self.new).reads name.now ≡ one_more ((view_of self.old).reads name.now) }
         ensures failed { result ≢ Err Fault.Memory }
     {
-        match read_piece(&self.rt, name, at, buf) {
-            Ok(count) => Ok(count),
-            Err(_) => {
-                self.reads = self.reads.saturating_add(1);
-                Err(Fault::Failed)
-            }
-        }
+        told(read_piece(&self.rt, name, at, buf), &mut self.reads)
     }
 
     fn write_file(&mut self, name: &str, bytes: &[u8]) -> Result<(), Fault>
@@ -81,12 +76,6 @@ impl<R: Files + Drop> Shelf for FileShelf<R> {
         ensures counted { IsErrOf result Fault.Failed → (view_of self.new).writes name.now ≡ one_more ((view_of self.old).writes name.now) }
         ensures failed { result ≢ Err Fault.Memory }
     {
-        match fs::write(&self.rt, name, bytes) {
-            Ok(()) => Ok(()),
-            Err(_) => {
-                self.writes = self.writes.saturating_add(1);
-                Err(Fault::Failed)
-            }
-        }
+        told(fs::write(&self.rt, name, bytes), &mut self.writes)
     }
 }

@@ -22,11 +22,12 @@ mod std_sink;
 mod store;
 mod sure_shelf;
 mod sure_sink;
+mod system;
 mod writer;
 
 pub use candidate::Candidate;
 pub use comparing::compare_outpoints;
-pub use cursor::{Cursor, CutFault};
+pub use cursor::{Cursor, CutFault, are_bytes};
 pub use decimal::{read_decimal, reads_decimals};
 pub use failures::Failures;
 pub use file_shelf::FileShelf;

@@ -124,6 +124,3 @@ pub fn put_all<O: Sink>(out: &mut O, bytes: &[u8]) -> Result<(), Fault>
     }
     Ok(())
 }
-
-#[cfg(test)]
-mod tests;

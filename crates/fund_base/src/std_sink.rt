@@ -5,6 +5,7 @@ ghost use Rattle.fund_base.specs.Causes.{Rose, one_more};
 
 use crate::shelf::Fault;
 use crate::sink::Sink;
+use crate::system::told;
 
 /// The standard output. It doesn't tell what was written.
 #[derive(Debug, Drop)]
@@ -45,12 +46,11 @@ impl<R: Print + Drop> Sink for StdSink<R> {
         ensures counted { IsErrOf result Fault.Failed → (view_of self.new).faults ≡ one_more (view_of self.old).faults }
         ensures failed { result ≢ Err Fault.Memory }
     {
-        match self.rt.write_some(bytes) {
-            Ok(count) if count > 0 || bytes.is_empty() => Ok(count),
-            _ => {
-                self.faults = self.faults.saturating_add(1);
-                Err(Fault::Failed)
-            }
+        let count = told(self.rt.write_some(bytes), &mut self.faults)?;
+        if count == 0 && !bytes.is_empty() {
+            self.faults = self.faults.saturating_add(1);
+            return Err(Fault::Failed);
         }
+        Ok(count)
     }
 }
