@@ -9,10 +9,6 @@ mod front;
 mod laws;
 mod merkle;
 mod reading;
-#[cfg(test)]
-mod tests;
-#[cfg(test)]
-mod vectors;
 
 pub use block::Block;
 pub use fault::FeedFault;

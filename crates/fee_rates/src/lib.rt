@@ -6,8 +6,6 @@ mod fees;
 mod laws;
 mod outputs;
 mod terms;
-#[cfg(test)]
-mod tests;
 
 pub use fees::{MAX_RATE, effective, fee, input_fee, vsize};
 pub use laws::{fee_of_parts, fee_rises, fee_splits, output_text_size, terms_meet};

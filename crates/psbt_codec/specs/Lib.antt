@@ -3,3 +3,4 @@ pub mod Fault
 pub mod PartialTransaction
 pub mod Psbt
 pub mod Reading
+pub mod Text

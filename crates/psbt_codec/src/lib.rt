@@ -8,13 +8,11 @@ mod psbt;
 mod reading;
 mod text;
 mod values;
-#[cfg(test)]
-mod vectors;
 mod writing;
 
 pub use fault::PsbtFault;
 pub use fault_laws::faults_are_final;
 pub use psbt::{Psbt, Spent};
 pub use reading::read_psbt;
-pub use text::{from_text, to_text};
+pub use text::{from_text, to_text, write_text};
 pub use writing::write_psbt;

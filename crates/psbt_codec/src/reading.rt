@@ -147,6 +147,3 @@ pub fn read_psbt(alloc: Global, bytes: &[u8]) -> Result<Psbt, PsbtFault>
 {
     whole_of(alloc, bytes)
 }
-
-#[cfg(test)]
-mod tests;

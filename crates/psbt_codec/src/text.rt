@@ -1,12 +1,15 @@
 //! PSBTs as text.
 
-ghost use Rattle.std.specs.Prelude.{◌≡◌, ◌≢◌, List, ℕ, IfOk, IfErr, MatchResult};
+ghost use Rattle.std.specs.Prelude.{◌≡◌, ◌≢◌, List, ℕ, IfOk, IfErr, MatchResult, string_bytes};
 ghost use Rattle.base64.specs.Engines.{standard};
 ghost use Rattle.base64.specs.GeneralPurpose.{encode_of};
 ghost use Rattle.fund_base.specs.Cursor.{IsBytes};
+ghost use Rattle.psbt_codec.specs.Text.{psbt_text};
 ghost use Rattle.psbt_codec.specs.declared.fault.PsbtFault.TheVariants.{NotBase64, Memory as OutOfMemory};
 
 use crate::fault::PsbtFault;
+use crate::psbt::Psbt;
+use crate::writing::write_psbt;
 use base64::DecodeAllocError;
 use base64::engine::general_purpose::STANDARD;
 use fund_base::Memory;
@@ -16,8 +19,25 @@ use std::alloc::Global;
 pub fn to_text(alloc: Global, bytes: &[u8]) -> Result<Vec<u8>, Memory>
     ensures { IfOk result (λ text. text.items ≡ encode_of standard bytes.now) }
 {
-    let text = STANDARD.encode(alloc, bytes)?;
+    let text = encoded(alloc, bytes)?;
     Ok(text.into_bytes())
+}
+
+/// The PSBT as text: its bytes in base64, with the standard alphabet and padding (BIP 174, 'Specification'; RFC 4648,
+/// section 4).
+pub fn write_text(alloc: Global, psbt: &Psbt) -> Result<String, Memory>
+    ensures { IfOk result (λ text. string_bytes text ≡ psbt_text psbt.now) }
+{
+    let bytes = write_psbt(alloc, psbt)?;
+    encoded(alloc, &bytes)
+}
+
+// The bytes in base64.
+fn encoded(alloc: Global, bytes: &[u8]) -> Result<String, Memory>
+    ensures { IfOk result (λ text. string_bytes text ≡ encode_of standard bytes.now) }
+{
+    let text = STANDARD.encode(alloc, bytes)?;
+    Ok(text)
 }
 
 /// The bytes that the text is in base64, with the standard alphabet and padding (RFC 4648, section 4) and

@@ -8,8 +8,6 @@ mod encoding;
 mod fault;
 mod laws;
 mod program;
-#[cfg(test)]
-mod tests;
 
 pub use decoding::decode;
 pub use encoding::encode;

@@ -6,8 +6,6 @@ mod fault_laws;
 mod hasher;
 mod reading;
 mod tx;
-#[cfg(test)]
-mod vectors;
 mod writing;
 
 pub use fault::TxFault;

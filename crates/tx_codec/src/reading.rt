@@ -300,6 +300,3 @@ pub fn read_whole_legacy_tx(alloc: Global, bytes: &[u8]) -> Result<Tx, TxFault>
 {
     whole_legacy_of(alloc, bytes)
 }
-
-#[cfg(test)]
-mod tests;
