@@ -3,8 +3,6 @@
 #![tactic(auto)]
 
 mod lines;
-#[cfg(test)]
-mod tests;
 mod text;
 
 pub use text::listing;

@@ -9,9 +9,11 @@ use Rattle.segwit_addr.specs.declared.fault.AddrFault.{AddrFault}
 use Rattle.segwit_addr.specs.declared.fault.AddrFault.TheVariants as addresses
 use Rattle.wallet_text.specs.declared.fault.WalletFault.{WalletFault}
 use Rattle.wallet_text.specs.declared.fault.WalletFault.TheVariants as wallets
+use Rattle.fund_plan.specs.declared.fault.PlanFault.{PlanFault}
+use Rattle.fund_plan.specs.declared.fault.PlanFault.TheVariants as plans
 use Rattle.request_text.specs.declared.fault.RequestFault.{RequestFault}
 use Rattle.request_text.specs.declared.fault.RequestFault.TheVariants as requests
-use Rattle.fault_text.specs.Coin.{shown_hash}
+use Rattle.fault_text.specs.Coin.{coin_text, shown_hash}
 use Rattle.fault_text.specs.Name.{shown_name}
 
 -- a fault of a transaction
@@ -81,3 +83,10 @@ request_fault_words (requests.RateRange name) = codes "RateRange " ++ shown_name
 request_fault_words requests.TriesRange = codes "TriesRange"
 request_fault_words (requests.Repeat index) = codes "Repeat " ++ decimal index
 request_fault_words requests.Memory = codes "Memory"
+
+-- a fault of a plan, with the word of its fault line before it
+unfoldable pub plan_fault_words : PlanFault → List ℕ
+plan_fault_words (plans.Total sum) = codes "input plan Total " ++ decimal sum
+plan_fault_words (plans.NotEligible coin) = codes "input plan NotEligible " ++ coin_text coin
+plan_fault_words (plans.TooMany number n) = codes "limit groups"
+plan_fault_words plans.Memory = codes "memory"

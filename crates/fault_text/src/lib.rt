@@ -8,9 +8,8 @@ mod blocks;
 mod coin;
 mod laws;
 mod name;
+mod plan;
 mod request;
-#[cfg(test)]
-mod tests;
 mod transaction;
 mod wallet;
 
@@ -19,6 +18,7 @@ pub use blocks::feed_fault_words;
 pub use coin::{coin_text, shown_hash};
 pub use laws::{coins_are_told_apart, names_are_told_apart};
 pub use name::shown_name;
+pub use plan::plan_fault_words;
 pub use request::request_fault_words;
 pub use transaction::tx_fault_words;
 pub use wallet::wallet_fault_words;

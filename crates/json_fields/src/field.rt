@@ -8,7 +8,7 @@ ghost use Rattle.json_fields.specs.Fields.{number_at, flag_at, text_at, entries_
 ghost use Rattle.json_fields.specs.declared.fault.FieldFault.TheVariants.{Memory};
 
 use crate::fault::FieldFault;
-use fund_base::{OutPoint, Txid, read_decimal};
+use fund_base::{OutPoint, Txid, are_bytes, read_decimal};
 use hex::{FromHex, FromHexError};
 use serde_json::Value;
 use std::alloc::Global;
@@ -58,11 +58,6 @@ pub fn entries_of<'a>(
         None => Err(FieldFault::kind(alloc, name)),
     }
 }
-
-// That the items of a slice of bytes are below 256. A call does nothing.
-fn are_bytes(bytes: &[u8])
-    ensures { IsBytes bytes.now }
-{}
 
 /// The bytes that are spelled in hex, in either case.
 #[tactic(auto, unfolding(crate::specs::Fields::hex_at))]

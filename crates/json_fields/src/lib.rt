@@ -7,8 +7,6 @@ mod fault;
 mod field;
 mod laws;
 mod object;
-#[cfg(test)]
-mod tests;
 
 pub use fault::{FieldFault, Name};
 pub use field::{coin_of, entries_of, flag_of, hash_of, hex_of, number_of, text_of, txid_of};

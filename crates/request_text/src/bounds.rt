@@ -1,7 +1,6 @@
-//! What numbers and bytes are by their types.
+//! What numbers are by their types.
 
 ghost use Rattle.std.specs.Prelude.{◌≡◌};
-ghost use Rattle.fund_base.specs.Cursor.{IsBytes};
 ghost use Rattle.request_text.specs.RequestText.{index_of};
 
 /// The place as an index of 32 bits, a greater one as the greatest.
@@ -10,8 +9,3 @@ pub fn index_of(place: usize) -> u32
 {
     place.min(u32::MAX as usize) as u32
 }
-
-// That the items of a slice of bytes are below 256. A call does nothing.
-pub fn are_bytes(bytes: &[u8])
-    ensures { IsBytes bytes.now }
-{}

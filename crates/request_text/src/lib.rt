@@ -10,8 +10,6 @@ mod member;
 mod reading;
 mod recipients;
 mod request;
-#[cfg(test)]
-mod tests;
 
 pub use fault::RequestFault;
 pub use laws::{

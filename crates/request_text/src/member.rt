@@ -9,11 +9,10 @@ ghost use Rattle.request_text.specs.RequestText.{bump_at, field, method_at, meth
 ghost use Rattle.request_text.specs.Told.{Gives, HasCause};
 ghost use Rattle.request_text.specs.declared.fault.Refusal.TheVariants.{Field as FieldRefusal, RateRange as BadRate};
 
-use crate::bounds::are_bytes;
 use crate::fault::Refusal;
 use crate::request::Method;
 use fee_rates::MAX_RATE;
-use fund_base::Txid;
+use fund_base::{Txid, are_bytes};
 use hex::FromHex;
 use json_fields::{FieldFault, Name, flag_of, number_of, text_of, txid_of};
 use serde_json::Value;

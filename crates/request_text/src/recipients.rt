@@ -12,11 +12,11 @@ ghost use Rattle.segwit_addr.specs.Reading.{decode_of};
 ghost use Rattle.fund_base.specs.Parsing.{YieldsAll, fault_as};
 ghost use Rattle.request_text.specs.declared.fault.Refusal.TheVariants.{Address as BadAddress};
 
-use crate::bounds::{are_bytes, index_of};
+use crate::bounds::index_of;
 use crate::fault::Refusal;
 use crate::request::Recipient;
 use fee_rates::dust;
-use fund_base::{MAX_MONEY, Script};
+use fund_base::{MAX_MONEY, Script, are_bytes};
 use json_fields::{FieldFault, entries_of, hex_of, member_of, number_of, object_of, text_of};
 use segwit_addr::{AddrFault, decode};
 use serde_json::Value;

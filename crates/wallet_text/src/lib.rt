@@ -8,8 +8,6 @@ mod laws;
 mod lists;
 mod reading;
 mod seen;
-#[cfg(test)]
-mod tests;
 mod wallet;
 
 pub use fault::WalletFault;
