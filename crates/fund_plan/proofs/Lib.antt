@@ -1,4 +1,5 @@
 pub mod AnswerLaws
+pub mod FaultLaws
 pub mod FigureLaws
 pub mod OnceLaws
 pub mod PaymentLaws

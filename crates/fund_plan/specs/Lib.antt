@@ -1,5 +1,6 @@
 pub mod Amounts
 pub mod Answer
+pub mod Faults
 pub mod Figures
 pub mod Kept
 pub mod Pays

@@ -1,6 +1,6 @@
 //! What the definitions of a plan's outcome come to.
 
-ghost use Rattle.std.specs.Prelude.{◌≡◌, ◌≤◌, ◌+◌, ◌↔◌, [], All, sum_by};
+ghost use Rattle.std.specs.Prelude.{◌≡◌, ◌≢◌, ◌≤◌, ◌+◌, ◌↔◌, [], All, Some, None, sum_by};
 ghost use Rattle.tx_codec.specs.Transaction.{Transaction};
 ghost use Rattle.tx_codec.specs.TransactionText.{IsTransaction};
 ghost use Rattle.tx_codec.specs.Weight.{weight_of};
@@ -13,11 +13,20 @@ ghost use Rattle.fund_plan.specs.Amounts.{value_of};
 ghost use Rattle.fund_plan.specs.Answer.{Answers, answer_of};
 ghost use Rattle.fund_plan.specs.Figures.{AddUp, figures_of};
 ghost use Rattle.fund_plan.specs.Pays.{payment_of, payment_weight};
-ghost use Rattle.fund_plan.specs.Plan.{IsPlan, PlainPlan};
+ghost use Rattle.fund_plan.specs.Faults.{fault_of};
+ghost use Rattle.fund_plan.specs.Plan.{IsFault, IsPlan, PlainPlan};
 ghost use Rattle.fund_plan.specs.Selection.{Selection};
 ghost use Rattle.fund_plan.specs.Terms.{load_of};
 ghost use Rattle.fund_plan.specs.Weighed.{AreWithinDeclared, IsWeighed, signed_weight};
+ghost use Rattle.fund_plan.specs.declared.fault.PlanFault.{PlanFault};
 ghost use Rattle.fund_plan.specs.declared.outcome.Outcome.{Outcome};
+
+/// The law of a plan's fault: one that keeps a plan from being made is the one that is worked out, and of a plan that
+/// keeps its rules none is. A call does nothing.
+pub fn faults_are_found()
+    ensures fault { (p : PlainPlan) (fault : PlanFault) → IsFault p fault → fault ≢ PlanFault.Memory → fault_of p ≡ Some fault }
+    ensures none { (p : PlainPlan) → IsPlan p → fault_of p ≡ None }
+{}
 
 /// That a plan has one outcome: what an outcome means settles the coins, the change, and whether there is a payment. A
 /// call does nothing.

@@ -14,14 +14,12 @@ mod pools;
 mod presets;
 mod selection;
 mod terms;
-#[cfg(test)]
-mod tests;
 
 pub use fault::PlanFault;
 pub use figures::Figures;
 pub use laws::{
-    answers_once, figures_add_up, pays_in_text, reckons_the_outcome, signed_pays_the_rate,
-    weighs_as_declared,
+    answers_once, faults_are_found, figures_add_up, pays_in_text, reckons_the_outcome,
+    signed_pays_the_rate, weighs_as_declared,
 };
 pub use outcome::{Funded, Outcome};
 pub use payment::unsigned;

@@ -1,14 +1,13 @@
 //! The unsigned transaction of a payment.
 
 ghost use Rattle.std.specs.Prelude.{◌≡◌, ◌≤◌, ◌<◌, ◌^◌, ◌++◌, length, map, All, IfOk};
-ghost use Rattle.fund_base.specs.Cursor.{IsBytes};
 ghost use Rattle.tx_codec.specs.TransactionText.{InputFits, IsTransaction, OutputFits};
 ghost use Rattle.request_text.specs.PlainRequest.{paid_to};
 ghost use Rattle.request_text.specs.declared.request.Recipient.{Recipient};
 ghost use Rattle.fund_plan.specs.Pays.{change_outputs, outputs_of, payment_of, recipient_output, sequence_of, unsigned_input};
 
 use crate::outcome::Funded;
-use fund_base::{Candidate, MAX_MONEY, Memory, Sat, Script};
+use fund_base::{Candidate, MAX_MONEY, Memory, Sat, Script, are_bytes};
 use request_text::{Recipient, Request};
 use std::alloc::Global;
 use tx_codec::{Tx, TxIn, TxOut, Witness};
@@ -23,11 +22,6 @@ const REPLACEABLE: u32 = 0xffff_fffd;
 /// The sequence by which a payment can't be replaced (BIP 125), and its lock time counts all the same (Bitcoin Core,
 /// `MAX_SEQUENCE_NONFINAL`).
 const NOT_REPLACEABLE: u32 = 0xffff_fffe;
-
-// That the items of a slice of bytes are below 256. A call does nothing.
-fn are_bytes(bytes: &[u8])
-    ensures { IsBytes bytes.now }
-{}
 
 // That an index is below 2 ^ 32. A call does nothing.
 fn is_index(index: u32)

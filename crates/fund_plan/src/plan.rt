@@ -12,7 +12,7 @@ use crate::fault::PlanFault;
 use crate::outcome::{Funded, Outcome};
 use crate::pools::first_crowded;
 use crate::presets::{Presets, presets_alone};
-use crate::selection::{Parted, copies, missing, split};
+use crate::selection::{Parted, missing, split};
 use crate::terms::{load, rates};
 use fee_rates::{Load, Rates};
 use fund_base::{Candidate, MAX_MONEY, Memory};
@@ -57,7 +57,7 @@ fn outcome(alloc: Global, coins: &[Candidate], way: Presets) -> Result<Outcome, 
         Presets::Plain => None,
         Presets::Change(amount) => Some(amount),
     };
-    let coins = copies(alloc, coins)?;
+    let coins = Candidate::copy_all(alloc, coins)?;
     Ok(Outcome::Funded(Funded { coins, change }))
 }
 

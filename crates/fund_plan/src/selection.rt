@@ -92,14 +92,3 @@ pub fn split(alloc: Global, request: &Request, candidates: Vec<Candidate>) -> Re
     let listed = chosen.into_values().collect(alloc)?;
     Ok(Parted { listed, rest })
 }
-
-/// A copy of each coin.
-pub fn copies(alloc: Global, coins: &[Candidate]) -> Result<Vec<Candidate>, Memory>
-    ensures { IfOk result (λ v. v.items ≡ coins.now) }
-{
-    let mut copies = Vec::new(alloc);
-    for coin in coins {
-        copies.push(coin.copy(alloc)?)?;
-    }
-    Ok(copies)
-}

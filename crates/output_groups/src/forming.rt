@@ -120,7 +120,7 @@ fn part_at(alloc: Global, coins: &[Candidate], place: usize) -> Result<Part, Mem
 {
     let hundred = hundred(coins, place);
     let partial = hundred.len() < 100 && coins.len() >= 100;
-    let copies = copies(alloc, hundred)?;
+    let copies = Candidate::copy_all(alloc, hundred)?;
     Ok(Part {
         coins: Group::new(copies),
         partial,
@@ -144,16 +144,4 @@ fn front(coins: &[Candidate], most: usize) -> &[Candidate]
     } else {
         &coins[..most]
     }
-}
-
-/// A copy of each coin.
-fn copies(alloc: Global, coins: &[Candidate]) -> Result<Vec<Candidate>, Memory>
-    ensures { IfOk result (λ v. v.items ≡ coins.now) }
-{
-    let mut copies = Vec::new(alloc);
-    for coin in coins {
-        let copy = coin.copy(alloc)?;
-        copies.push(copy)?;
-    }
-    Ok(copies)
 }

@@ -10,8 +10,6 @@ mod laws;
 mod part;
 mod row_pool;
 mod rows;
-#[cfg(test)]
-mod tests;
 
 pub use fault::PoolFault;
 pub use group::Group;

@@ -16,10 +16,6 @@ mod standing;
 mod state;
 mod states;
 mod taken;
-#[cfg(test)]
-mod tests;
-#[cfg(test)]
-mod vectors;
 
 pub use choice::candidates;
 pub use laws::{

@@ -2,7 +2,7 @@ use Rattle.std.proofs.Common.{◌≡◌, ℕ, ◌<◌, get_or, length}
 use Rattle.std.specs.Prelude.{All}
 use Rattle.fund_base.specs.Candidates.{IsCandidate}
 use Rattle.fund_base.specs.declared.candidate.Candidate.{Candidate}
-use Rattle.output_groups.proofs.tests.listed.Given as goal
+use Rattle.rows_choice.proofs.coins.listed.Given as goal
 
 abbrev pub invariant-loop-place : goal.invariant-loop-place
 invariant-loop-place l = record {

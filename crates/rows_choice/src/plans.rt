@@ -1,0 +1,89 @@
+//! Plans of payments of listed coins.
+
+ghost use Rattle.std.specs.Prelude.{◌≡◌, None};
+ghost use Rattle.fund_base.specs.Candidates.{AreCandidates};
+ghost use Rattle.request_text.specs.declared.request.Method.TheVariants.{Manual};
+
+use crate::coins::candidates_in;
+use fund_base::{Candidate, Memory};
+use fund_plan::{Figures, Funded, Outcome, Plan, PlanFault, unsigned};
+use request_text::{Method, Request, read_request};
+use std::alloc::Global;
+use tx_codec::write_tx;
+use wallet_text::{Wallet, read_wallet};
+
+/// A wallet whose change is paid to a witness program of 20 bytes CC, with an input of weight 272.
+const WALLET: &str = "{\"height\": 100, \
+    \"hash\": \"0000000000000000000000000000000000000000000000000000000000000000\", \"scripts\": [], \
+    \"change\": {\"script\": \"0014cccccccccccccccccccccccccccccccccccccccc\", \"weight\": 272}}";
+
+/// Why there is no plan.
+fn fault_text(alloc: Global, fault: PlanFault) -> Result<String, Memory> {
+    match fault {
+        PlanFault::Total(sum) => Ok(format!(in alloc; "total {sum}")?),
+        PlanFault::NotEligible(point) => {
+            let first = point.txid.bytes()[0];
+            Ok(format!(in alloc; "not eligible {first}:{}", point.index)?)
+        }
+        PlanFault::TooMany(row, groups) => Ok(format!(in alloc; "row {row}, {groups} groups")?),
+        PlanFault::Memory => Err(Memory),
+    }
+}
+
+/// The change, the figures and the unsigned transaction.
+fn payment_text(
+    alloc: Global,
+    funded: &Funded,
+    figures: &Figures,
+    tx: &[u8],
+) -> Result<String, Memory> {
+    let (weight, vsize) = (figures.weight, figures.vsize);
+    let (fee, waste) = (figures.fee, figures.waste);
+    let change = format!(in alloc; "change {:?}", funded.change)?;
+    let tx = hex::encode(alloc, tx)?;
+    Ok(format!(in alloc;
+        "{change}, weight {weight}, vsize {vsize}, fee {fee}, waste {waste}, paid by {tx}"
+    )?)
+}
+
+/// What the candidates come to.
+fn plan_text(
+    alloc: Global,
+    request: &Request,
+    wallet: &Wallet,
+    candidates: Vec<Candidate>,
+) -> Result<String, Memory>
+    requires bump { request.now.bump ≡ None }
+    requires method { request.now.method ≡ Manual }
+    requires candidates { AreCandidates candidates.items }
+{
+    let plan = match Plan::new(alloc, request, &wallet.change, candidates) {
+        Ok(plan) => plan,
+        Err(fault) => return fault_text(alloc, fault),
+    };
+    let funded = match plan.go()? {
+        Outcome::Funded(funded) => funded,
+        Outcome::NoSelection => return Ok(String::from_str(alloc, "none")?),
+    };
+    let figures = Figures::new(request, &wallet.change, &funded);
+    let tx = unsigned(alloc, request, &wallet.change, &funded)?;
+    let text = write_tx(alloc, &tx)?;
+    payment_text(alloc, &funded, &figures, &text)
+}
+
+/// What the request and the coins come to: a fault, none, or a payment.
+pub fn answer(alloc: Global, request: &str, coins: &str) -> Result<String, Memory> {
+    let Some(candidates) = candidates_in(alloc, coins)? else {
+        return Ok(String::from_str(alloc, "no coins")?);
+    };
+    let Ok(wallet) = read_wallet(alloc, WALLET.as_bytes()) else {
+        return Ok(String::from_str(alloc, "no wallet")?);
+    };
+    let Ok(request) = read_request(alloc, request.as_bytes()) else {
+        return Ok(String::from_str(alloc, "no request")?);
+    };
+    if request.bump.is_some() || request.method != Method::Manual {
+        return Ok(String::from_str(alloc, "another request")?);
+    }
+    plan_text(alloc, &request, &wallet, candidates)
+}
