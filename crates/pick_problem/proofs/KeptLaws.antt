@@ -1,29 +1,21 @@
 -- The tokens of a walk that is done are accepted with its best, so its best is the best.
-use Rattle.std.specs.Prelude.{◌≡◌, ℕ, zero, suc, ◌+◌, ◌<◌, ◌≤◌, Bool, true, false, List, [], ◌∷◌, ◌++◌, length, Option, Some, None, nat_lt}
+use Rattle.std.specs.Prelude.{◌≡◌, ℕ, zero, suc, ◌+◌, ◌<◌, ◌≤◌, Bool, true, false, List, [], ◌∷◌, length, Option, Some, None, nat_lt}
 use Rattle.std.proofs.Common.{arith, refl, sym, ap, subst, inl, ◌∙◌}
 use Rattle.pick_problem.specs.declared.item.Item.{Item}
 use Rattle.pick_problem.specs.declared.token.Reason.TheVariants.{Short}
-use Rattle.pick_problem.specs.declared.token.Token.{Token}
 use Rattle.pick_problem.specs.declared.token.Token.TheVariants.{Enter, Close}
 use Rattle.pick_problem.specs.Problem.{PlainProblem, IsProblem}
 use Rattle.pick_problem.specs.Admissible.{IsAdmissible, IsFit}
 use Rattle.pick_problem.specs.Later.{total_value}
 use Rattle.pick_problem.specs.Score.{score_of}
-use Rattle.pick_problem.specs.Steps.{State, root, closed, after, after_all, AreAllowed}
+use Rattle.pick_problem.specs.Steps.{State, root, closed, after_all, AreAllowed}
 use Rattle.pick_problem.specs.ClosingTree.{IsAccepted, IsAnswered}
 use Rattle.pick_problem.specs.Walk.{Way, Ready, Walk, Rule, IsShort, IsOver, IsHeavy, IsWorse, IsHit, IsFar, GoesOn, upward, writes, score_below, rule, way_of, best_of, try_once, after_tries, start}
 use Rattle.pick_problem.proofs.Deciding.{if_cases, lt_yes, lt_no}
 use Rattle.pick_problem.proofs.TreeSteps.{open_at, tree_from_steps}
+use Rattle.pick_problem.proofs.StepLaws.{allowed-append, after-append}
 use Rattle.pick_problem.proofs.FollowLaws.{Follows, writes_follows}
 use Rattle.pick_problem.proofs.BackLaws.{Backs, Turned, ruled, hit_is_admissible}
-
-all_append : (p : PlainProblem) (c : Option (List ℕ)) (s : State) (ks ls : List Token) → AreAllowed p c s ks → AreAllowed p c (after_all p c s ks) ls → AreAllowed p c s (ks ++ ls)
-all_append p c s [] ls h f = f
-all_append p c s (k ∷ ks) ls h f = (h.0, all_append p c (after p c s k) ks ls h.1 f)
-
-after_append : (p : PlainProblem) (c : Option (List ℕ)) (s : State) (ks ls : List Token) → after_all p c s (ks ++ ls) ≡ after_all p c (after_all p c s ks) ls
-after_append p c s [] ls = refl
-after_append p c s (k ∷ ks) ls = after_append p c (after p c s k) ks ls
 
 -- what a walk keeps from try to try
 pub record Kept (p : PlainProblem) (w : Walk) : Type 0 where
@@ -84,11 +76,11 @@ try_kept p is w undone kept =
       allowed = λ c m backs.
           let t = turned p is w ready c m backs in
           let f = entered p is w ready c m t.met t.follows in
-          all_append p c root w.tokens written (kept.allowed c t.met t.backs) (subst (λ (s : State). AreAllowed p c s written) (sym (there c t.met t.backs)) f.allowed);
+          allowed-append p c root w.tokens written (kept.allowed c t.met t.backs) (subst (λ (s : State). AreAllowed p c s written) (sym (there c t.met t.backs)) f.allowed);
       ends = λ c m backs.
           let t = turned p is w ready c m backs in
           let f = entered p is w ready c m t.met t.follows in
-          after_append p c root w.tokens written ∙ (ap (λ (s : State). after_all p c s written) (there c t.met t.backs) ∙ f.ends);
+          after-append p c root w.tokens written ∙ (ap (λ (s : State). after_all p c s written) (there c t.met t.backs) ∙ f.ends);
     }
 
 some_item : (p : PlainProblem) (xs : List Item) → 0 < p.lo → p.lo ≤ total_value xs → 0 < length xs

@@ -53,12 +53,12 @@ part_short p q part kind good h l =
 
 -- ---- the list without the place at k
 
-without : List ℕ → ℕ → List ℕ
+unfoldable pub without : List ℕ → ℕ → List ℕ
 without [] k = []
 without (x ∷ q) zero = q
 without (x ∷ q) (suc k) = x ∷ without q k
 
-part_itself : (q : List ℕ) → IsPart q q
+pub part_itself : (q : List ℕ) → IsPart q q
 part_itself [] = tt
 part_itself (x ∷ q) = inl (refl, part_itself q)
 
@@ -66,19 +66,19 @@ part_behind : (x : ℕ) (q : List ℕ) → IsPart q (x ∷ q)
 part_behind x [] = tt
 part_behind x (y ∷ q) = inr (part_itself (y ∷ q))
 
-without_part : (q : List ℕ) (k : ℕ) → IsPart (without q k) q
+pub without_part : (q : List ℕ) (k : ℕ) → IsPart (without q k) q
 unfolding without
 without_part [] k = tt
 without_part (x ∷ q) zero = part_behind x q
 without_part (x ∷ q) (suc k) = inl (refl, without_part q k)
 
-without_short : (q : List ℕ) (k : ℕ) → k < length q → length (without q k) < length q
+pub without_short : (q : List ℕ) (k : ℕ) → k < length q → length (without q k) < length q
 unfolding without
 without_short [] k below = absurd (omega (arith, below))
 without_short (x ∷ q) zero below = omega arith
 without_short (x ∷ q) (suc k) below = omega (arith, without_short q k (omega (arith, below)))
 
-without_value : (p : PlainProblem) (q : List ℕ) (k d : ℕ) → k < length q → value_of p q ≡ value_of p (without q k) + (item_at p.items (get_or q k d)).value
+pub without_value : (p : PlainProblem) (q : List ℕ) (k d : ℕ) → k < length q → value_of p q ≡ value_of p (without q k) + (item_at p.items (get_or q k d)).value
 unfolding without
 without_value p [] k d below = absurd (omega (arith, below))
 without_value p (x ∷ q) zero d below = omega arith

@@ -1,4 +1,14 @@
 -- Closing trees, and the logs that are accepted.
+--
+-- The guarantee: if a log is accepted with an answer, that answer is the best selection of its problem; if it is
+-- accepted without one, no selection is admissible. It holds for any letters, from whatever search or forger, and each
+-- walk that is done leaves a log that is accepted.
+-- Why: the root stands for all selections. A tree gives each node one of three things: a reason that closes it, which
+-- is true of all selections below it; the two nodes with and without the next place, below which together stand the
+-- same selections; or the node behind a run of twins, whose selections are matched by ones that stand before. So by
+-- going down the tree each admissible selection comes to a leaf, whose reason says that the answer is no worse. That
+-- the answer itself is admissible and stands at a leaf is asked too, so it can't be a bound that nobody reaches. A
+-- reader needs no tree: the tokens are those of a tree exactly where they are allowed steps of which the last closes it.
 use Rattle.std.specs.Prelude.{◌≡◌, ℕ, ◌+◌, Bool, true, false, List, [], ◌∷◌, ◌++◌, Option, Some, None}
 use Rattle.pick_problem.specs.declared.token.Reason.{Reason}
 use Rattle.pick_problem.specs.declared.token.Token.{Token}

@@ -4,11 +4,14 @@ pub mod ClosingTree
 pub mod Digest
 pub mod Examples
 pub mod Later
+pub mod Letters
 pub mod Pool
 pub mod Problem
 pub mod Score
 pub mod SoFar
+pub mod Standing
 pub mod Steps
+pub mod Tails
 pub mod Tokens
 pub mod Trying
 pub mod Walk

@@ -1,4 +1,15 @@
 -- The walk that both searches make, as a table of rules. Each sum is taken over the chosen list.
+--
+-- The guarantee: once a walk from the start is done, its best is the best selection of the problem, and where it has
+-- none no selection is admissible; and its tokens are a log that is accepted with that best.
+-- It goes through the selections depth first, the next place chosen before the next place left out, as Bitcoin Core's
+-- `SelectCoinsBnB` and `CoinGrinder` do. A selection is left out by one of four things alone, each sound by itself:
+-- a branch that can't reach lo, or is above hi or the limit of weight, holds nothing admissible, as values, weights and
+-- (where no cost is negative) wastes only grow; a branch that is no better than the best so far can't hold the winner,
+-- as of equal scores the one that was met first wins; what stands behind a hit has a place too many; and of twins the
+-- first may stand for each other one. A cut closes the branch without the next place too: where that place is the
+-- lightest one left, what is too heavy with it is too heavy with any other. Nothing here rests on this table alone:
+-- that each token is an allowed step is proved, and that allowed steps prove the best is proved without the table.
 use Rattle.std.specs.Prelude.{◌≡◌, ℕ, zero, suc, ◌+◌, ◌-◌, ◌*◌, ◌<◌, ◌≤◌, ◌==◌, ◌&&◌, ◌||◌, Bool, true, false, List, [], ◌∷◌, ◌++◌, length, pos, ◌+ℤ◌, int_lt, int_le, Option, Some, None, if◌then◌else◌, nat_lt, nat_le}
 use Rattle.std.specs.List.{list_all}
 use Rattle.std.specs.Ordering.{int_eq}

@@ -1,10 +1,9 @@
 //! Laws of closing trees and of the walk. A call of any of them does nothing.
 
-ghost use Rattle.std.specs.Prelude.{◌≡◌, ◌↔◌, ◌+◌, ◌*◌, ◌^◌, ◌<◌, ◌≤◌, ℕ, Bool, true, false, List, [], ◌∷◌, ◌++◌, length, Option, codes};
+ghost use Rattle.std.specs.Prelude.{◌≡◌, ◌↔◌, ◌+◌, ◌*◌, ◌^◌, ◌<◌, ◌≤◌, ℕ, Bool, true, false, List, ◌++◌, length, Option};
 ghost use Rattle.pick_problem.specs.Admissible.{IsAdmissible};
 ghost use Rattle.pick_problem.specs.Best.{IsBest};
 ghost use Rattle.pick_problem.specs.ClosingTree.{IsAccepted, IsAnswered, IsRootTree};
-ghost use Rattle.pick_problem.specs.Examples.{falling_values, far_off, light_pair, three_alike, told, too_heavy, too_little};
 ghost use Rattle.pick_problem.specs.Problem.{IsProblem, PlainProblem};
 ghost use Rattle.pick_problem.specs.SoFar.{SoFar};
 ghost use Rattle.pick_problem.specs.Steps.{AreAllowed, IsAllowed, IsClosedBySteps, State, after, root};
@@ -22,74 +21,6 @@ pub fn law_of_steps()
 pub fn accepted_is_best()
     ensures { (p : PlainProblem) (answer : Option (List ℕ)) (tokens : List Token) →
         IsProblem p → IsAccepted p answer tokens → IsBest p answer }
-{}
-
-/// The walks of some small problems: where they stand, and their tokens. With 20 tries granted each is done before.
-pub fn worked_walks()
-    ensures changeless { told (walk falling_values 20) ≡ record {
-      chosen = [];
-      next = 4;
-      best = Some (0 ∷ 1 ∷ []);
-      tries = 8;
-      done = true;
-      letters = codes "IIAIWISSIIWISSISS";
-    } }
-    ensures three_tries { told (walk falling_values 3) ≡ record {
-      chosen = 0 ∷ [];
-      next = 3;
-      best = Some (0 ∷ 1 ∷ []);
-      tries = 3;
-      done = false;
-      letters = codes "IIAIW";
-    } }
-    ensures twins { told (walk three_alike 20) ≡ record {
-      chosen = [];
-      next = 3;
-      best = Some (0 ∷ []);
-      tries = 1;
-      done = true;
-      letters = codes "IATS";
-    } }
-    ensures lean { told (walk light_pair 20) ≡ record {
-      chosen = [];
-      next = 3;
-      best = Some (1 ∷ 2 ∷ []);
-      tries = 6;
-      done = true;
-      letters = codes "IIAIASIIASISS";
-    } }
-    ensures halfway { told (walk light_pair 3) ≡ record {
-      chosen = [];
-      next = 1;
-      best = Some (0 ∷ 2 ∷ []);
-      tries = 3;
-      done = false;
-      letters = codes "IIAIAS";
-    } }
-    ensures heavy { told (walk too_heavy 20) ≡ record {
-      chosen = [];
-      next = 3;
-      best = None;
-      tries = 3;
-      done = true;
-      letters = codes "IIHMISS";
-    } }
-    ensures far { told (walk far_off 20) ≡ record {
-      chosen = [];
-      next = 4;
-      best = Some (0 ∷ []);
-      tries = 2;
-      done = true;
-      letters = codes "IAIFS";
-    } }
-    ensures little { told (walk too_little 20) ≡ record {
-      chosen = [];
-      next = 1;
-      best = None;
-      tries = 0;
-      done = true;
-      letters = codes "S";
-    } }
 {}
 
 /// Tries in pieces are tries: n tries and then m more are n + m tries, from wherever a walk stands, and so from the

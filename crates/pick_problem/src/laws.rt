@@ -33,6 +33,13 @@ pub fn parts_fall_short()
         (NeedsEach p q ↔ ((part : List ℕ) → IsPart part q → length part < length q → value_of p part < p.lo)) }
 {}
 
+/// Where no selection without change is admissible, there is none from `lo` to `hi` within the limit of weight at all: each
+/// of those has an admissible part.
+pub fn windows_hold_admissible_parts()
+    ensures { (p : PlainProblem) (q : List ℕ) → IsProblem p → p.kind ≡ Changeless → Rising (length p.items) 0 q →
+        p.lo ≤ value_of p q → value_of p q ≤ p.hi → weight_of p q ≤ p.most_weight → (part : List ℕ) × IsPart part q × IsAdmissible p part }
+{}
+
 /// A lower score is what is looked for: without change less waste, as [`crate::waste`] reckons it of the cost and of what
 /// the value is above `lo`; with change less weight, or the same weight and less value.
 pub fn lower_scores_are_better()
