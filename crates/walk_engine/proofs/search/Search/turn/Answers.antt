@@ -1,0 +1,41 @@
+use Rattle.std.specs.Vec.{vec_capacity}
+use Rattle.std.proofs.Common.{◌≡◌, ◌≤◌, false, arith, ap, ◌∙◌}
+use Rattle.walk_engine.specs.Search.{PlainSearch, after}
+use Rattle.walk_engine.proofs.TurnLaws.{tries_within_letters, turned, turned_kept, turned_search}
+use Rattle.walk_engine.proofs.search.Search.turn.Goals as goal
+
+pub overflow_add-self : goal.overflow_add-self
+overflow_add-self c =
+    let s = c.self.inside in
+    let most = tries_within_letters s.prepared s.stack s.next s.best s.made s.done s.letters.items s.kept s.spare
+    c.self.invariant.0 c.self.invariant.1.front in
+    omega (arith, most)
+
+pub invariant_of-self : goal.invariant_of-self
+invariant_of-self c =
+    let s = c.self.inside in
+    let undone : s.done ≡ false = ap (λ (v : PlainSearch). v.walk.done) c.self.view_is ∙ c.requires.open_ in
+    let some : 1 ≤ s.spare = omega (arith, ap (λ (v : PlainSearch). v.spare) c.self.view_is, c.requires.spare) in (
+      turned_search s.prepared s.stack s.next s.best s.made s.done s.letters.items
+          (vec_capacity s.letters) s.kept s.earlier s.spare c.self.invariant.0 c.self.invariant.1 undone some
+          c.step-stop.new.stack c.step-stop.new.best c.step-stop.result c.step-stop.new.letters.items
+          (vec_capacity c.step-stop.new.letters) c.step-stop.ensures.walked c.step-stop.ensures.best
+          c.step-stop.ensures.sums c.step-stop.ensures.room,
+      turned_kept s.prepared s.stack s.next s.best s.made s.done s.letters.items
+          (vec_capacity s.letters) s.kept s.earlier s.spare c.self.invariant.0 c.self.invariant.1 undone some
+          c.step-stop.new.stack c.step-stop.new.best c.step-stop.result c.step-stop.new.letters.items
+          (vec_capacity c.step-stop.new.letters) c.step-stop.ensures.walked c.step-stop.ensures.best
+          c.step-stop.ensures.sums c.step-stop.ensures.room,
+    )
+
+pub returns : goal.returns
+returns c =
+    let s = c.self.inside in
+    let undone : s.done ≡ false = ap (λ (v : PlainSearch). v.walk.done) c.self.view_is ∙ c.requires.open_ in
+    let some : 1 ≤ s.spare = omega (arith, ap (λ (v : PlainSearch). v.spare) c.self.view_is, c.requires.spare) in
+    turned s.prepared s.stack s.next s.best s.made s.done s.letters.items
+    (vec_capacity s.letters) s.kept s.earlier s.spare c.self.invariant.0 c.self.invariant.1 undone some
+    c.step-stop.new.stack c.step-stop.new.best c.step-stop.result c.step-stop.new.letters.items
+    (vec_capacity c.step-stop.new.letters) c.step-stop.ensures.walked c.step-stop.ensures.best
+    c.step-stop.ensures.sums c.step-stop.ensures.room
+    ∙ ap (λ (v : PlainSearch). after v 1) c.self.view_is
