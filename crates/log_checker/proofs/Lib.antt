@@ -1,0 +1,10 @@
+pub mod DecideLaws
+pub mod FaultLaws
+pub mod FeedLaws
+pub mod MoveLaws
+pub mod PieceLaws
+pub mod SectionLaws
+pub mod SplitLaws
+pub mod StepLaws
+pub mod TestLaws
+pub mod TotalLaws

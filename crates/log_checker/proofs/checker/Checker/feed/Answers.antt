@@ -1,0 +1,41 @@
+use Rattle.std.proofs.Common.{◌≡◌, ◌<◌, ℕ, length, get_or, refl, ap, subst, ◌∙◌, arith, Err}
+use Rattle.log_checker.specs.declared.fault.LogFault.{LogFault}
+use Rattle.log_checker.specs.Feeding.{IsFirstFault, PlainChecker, Takes}
+use Rattle.log_checker.proofs.FaultLaws.{one_first_fault, taken_without_fault}
+use Rattle.log_checker.proofs.PieceLaws.{fed_more, stops_here, takes_all, takes_more}
+use Rattle.log_checker.proofs.checker.Checker.feed.Goals as goal
+
+-- the letter that is refused is the first one
+pub returns-in-Err-clause-stops : goal.returns-in-Err-clause-stops
+returns-in-Err-clause-stops c = λ none.
+    let below : c.loop-letter.letter-index < length c.args.tokens.now = omega arith in
+    stops_here c.args.self.now c.loop-letter.self c.read.new.self c.args.tokens.now c.loop-letter.letter-index (get_or c.args.tokens.now c.loop-letter.letter-index 0)
+    c.in-Err.fault below refl c.loop-letter.invariant.is c.loop-letter.invariant.takes c.in-Err.ensures.err.0 c.in-Err.ensures.err.1
+
+pub returns-in-Err-clause-exactly : goal.returns-in-Err-clause-exactly
+returns-in-Err-clause-exactly c = λ none.
+    let here = returns-in-Err-clause-stops c none in (λ e. absurd (cc), λ t. absurd (taken_without_fault c.args.self.now c.args.tokens.now c.in-Err.fault t here.0))
+
+pub returns-in-Err-clause-fault : goal.returns-in-Err-clause-fault
+returns-in-Err-clause-fault c = λ f none.
+    let here = returns-in-Err-clause-stops c none in (
+      λ e. let same : c.in-Err.fault ≡ f = cc in subst (λ (g : LogFault). IsFirstFault c.args.self.now c.args.tokens.now g) same here.0,
+      λ x. ap (λ (g : LogFault). Err g) (one_first_fault c.args.self.now c.args.tokens.now c.in-Err.fault f here.0 x),
+    )
+
+pub loop-letter-preserved : goal.loop-letter-preserved
+loop-letter-preserved c =
+    let below : c.loop-letter.letter-index < length c.args.tokens.now = omega arith in
+    let x : ℕ = get_or c.args.tokens.now c.loop-letter.letter-index 0 in
+    record {
+      fine = ap (λ (m : PlainChecker). m.fault) c.in_default-read.ensures.ok.1 ∙ c.loop-letter.invariant.fine;
+      takes =
+          takes_more c.args.self.now c.loop-letter.self c.args.tokens.now c.loop-letter.letter-index x below refl c.loop-letter.invariant.is c.loop-letter.invariant.takes
+          c.in_default-read.ensures.ok.0;
+      is = fed_more c.args.self.now c.loop-letter.self c.read.new.self c.args.tokens.now c.loop-letter.letter-index x below refl c.loop-letter.invariant.is c.in_default-read.ensures.ok.1;
+    }
+
+pub returns-clause-fault : goal.returns-clause-fault
+returns-clause-fault c = λ f none.
+    let all : Takes c.args.self.now c.args.tokens.now = takes_all c.args.self.now c.args.tokens.now c.loop-letter.letter-index c.loop-letter-test.false c.loop-letter.invariant.takes in
+    (λ e. absurd (cc), λ x. absurd (taken_without_fault c.args.self.now c.args.tokens.now f all x))

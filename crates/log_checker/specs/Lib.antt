@@ -1,0 +1,4 @@
+pub mod Claims
+pub mod Feeding
+pub mod Reads
+pub mod Sections

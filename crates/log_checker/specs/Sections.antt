@@ -1,0 +1,38 @@
+-- A whole section of a log: its letters, with the answer that they are to prove. And the same in pieces.
+use Rattle.std.specs.Prelude.{◌≡◌, ℕ, ◌⊎◌, true, false, List, [], ◌∷◌, Option}
+use Rattle.log_checker.specs.declared.fault.LogFault.{LogFault}
+use Rattle.log_checker.specs.declared.fault.LogFault.TheVariants.{UnknownToken, ReasonFalse, TooLong, Open, AnswerNotMet, BetterMet, AnswerNotAdmissible, Memory}
+use Rattle.log_checker.specs.Feeding.{PlainChecker, EndsWell, IsFirstFault, IsMet, Takes, begun, fed}
+use Rattle.pick_problem.specs.Problem.{PlainProblem}
+use Rattle.pick_problem.specs.Admissible.{IsFit}
+
+-- the fault of an end, where no letter had one
+abbrev pub EndsIn : PlainChecker → LogFault → Type 0
+EndsIn c Open = c.state.closed ≡ false
+EndsIn c AnswerNotMet = (c.state.closed ≡ true) × (¬ IsMet c.answer c.state.met)
+EndsIn c (UnknownToken q) = ⊥
+EndsIn c (ReasonFalse q) = ⊥
+EndsIn c (TooLong q) = ⊥
+EndsIn c (BetterMet q) = ⊥
+EndsIn c AnswerNotAdmissible = ⊥
+EndsIn c Memory = ⊥
+
+-- the fault of letters with which a log ends: that of the first that isn't taken, or of the end
+abbrev pub LettersHave : PlainChecker → List ℕ → LogFault → Type 0
+LettersHave c letters fault = IsFirstFault c letters fault ⊎ (Takes c letters × EndsIn (fed c letters) fault)
+
+-- the first fault of a section: of its answer, of its letters, or of its end
+abbrev pub SectionHas : PlainProblem → Option (List ℕ) → List ℕ → LogFault → Type 0
+SectionHas p a letters fault = ((fault ≡ AnswerNotAdmissible) × (¬ IsFit p a)) ⊎ (IsFit p a × LettersHave (begun p a) letters fault)
+
+-- ---- pieces
+
+-- each piece is taken from where the ones before it lead, and then all ends well
+abbrev pub PiecesEndWell : PlainChecker → List (List ℕ) → Type 0
+PiecesEndWell c [] = EndsWell c
+PiecesEndWell c (piece ∷ pieces) = Takes c piece × PiecesEndWell (fed c piece) pieces
+
+-- the first fault of pieces: of one that stands behind pieces that are taken, or of the end
+abbrev pub PiecesHave : PlainChecker → List (List ℕ) → LogFault → Type 0
+PiecesHave c [] fault = EndsIn c fault
+PiecesHave c (piece ∷ pieces) fault = IsFirstFault c piece fault ⊎ (Takes c piece × PiecesHave (fed c piece) pieces fault)

@@ -1,0 +1,125 @@
+//! Checks the logs of a table on standard input, and prints a line for each: `ok`, or the call that gives a fault and the
+//! fault with its place. A line of the table has, parted by TAB, the kind of the problem, `lo`, `hi`, the limit of weight,
+//! the items as value/weight/cost, the answer and the letters. What must be printed was worked out apart from this program.
+#![tactic(auto)]
+
+ghost use Rattle.std.specs.Prelude.{◌≤◌};
+ghost use Rattle.pick_problem.specs.Pool.{AreItems};
+ghost use Rattle.pick_problem.specs.Problem.{AreBounds};
+
+mod fields;
+
+use fields::{items_of, letters_of, places_of};
+use log_checker::{Checker, LogFault};
+use pick_problem::{Item, Kind, Problem, are_items};
+use std::alloc::Global;
+use std::io;
+
+/// The problem of these items and bounds, if there is one.
+fn problem_of(items: Vec<Item>, kind: Kind, lo: u64, hi: u64, most_weight: u64) -> Option<Problem> {
+    if !are_items(items.as_slice()) || lo < 1 {
+        return None;
+    }
+    let fits = match kind {
+        Kind::Changeless => lo <= hi,
+        Kind::Lean => hi == lo,
+    };
+    if !fits {
+        return None;
+    }
+    Some(Problem::new(items, lo, hi, most_weight, kind))
+}
+
+/// The fault of a log whose letters are fed in pieces of this length, with the call that gives it.
+fn fault_of(
+    alloc: Global,
+    problem: &Problem,
+    answer: Option<&[u32]>,
+    letters: &[u8],
+    length: usize,
+) -> Result<(), (&'static str, LogFault)>
+    requires { 1 ≤ length }
+{
+    let mut checker = match Checker::new(alloc, problem, answer) {
+        Ok(checker) => checker,
+        Err(fault) => return Err(("new", fault)),
+    };
+    for piece in letters.chunks(length) {
+        if let Err(fault) = checker.feed(piece) {
+            return Err(("feed", fault));
+        }
+    }
+    match checker.end() {
+        Ok(()) => Ok(()),
+        Err(fault) => Err(("end", fault)),
+    }
+}
+
+/// A fault by its name and its place.
+fn fault_text(alloc: Global, fault: LogFault) -> io::Result<String> {
+    Ok(match fault {
+        LogFault::UnknownToken(place) => format!(in alloc; "UnknownToken {}", place)?,
+        LogFault::ReasonFalse(place) => format!(in alloc; "ReasonFalse {}", place)?,
+        LogFault::TooLong(place) => format!(in alloc; "TooLong {}", place)?,
+        LogFault::Open => String::from_str(alloc, "Open")?,
+        LogFault::AnswerNotMet => String::from_str(alloc, "AnswerNotMet")?,
+        LogFault::BetterMet(place) => format!(in alloc; "BetterMet {}", place)?,
+        LogFault::AnswerNotAdmissible => String::from_str(alloc, "AnswerNotAdmissible")?,
+        LogFault::Memory => String::from_str(alloc, "Memory")?,
+    })
+}
+
+/// What a checker says of a log that is fed in pieces of this length.
+fn verdict(
+    alloc: Global,
+    problem: &Problem,
+    answer: Option<&[u32]>,
+    letters: &[u8],
+    length: usize,
+) -> io::Result<String>
+    requires { 1 ≤ length }
+{
+    match fault_of(alloc, problem, answer, letters, length) {
+        Ok(()) => Ok(String::from_str(alloc, "ok")?),
+        Err((call, fault)) => {
+            let fault = fault_text(alloc, fault)?;
+            Ok(format!(in alloc; "{} {}", call, fault)?)
+        }
+    }
+}
+
+/// What is said of a line: once with the letters in one piece, and, where that differs, once with them one by one.
+fn row_text(alloc: Global, line: &str) -> io::Result<String> {
+    let mut fields = line.split('\t');
+    let kind = match fields.next() {
+        Some("changeless") => Kind::Changeless,
+        _ => Kind::Lean,
+    };
+    let (Some(lo), Some(hi), Some(limit)) = (fields.next(), fields.next(), fields.next()) else {
+        return Ok(String::from_str(alloc, "no row")?);
+    };
+    let (Ok(lo), Ok(hi), Ok(limit)) = (lo.parse(), hi.parse(), limit.parse()) else {
+        return Ok(String::from_str(alloc, "no numbers")?);
+    };
+    let items = items_of(alloc, fields.next().unwrap_or(""))?;
+    let Some(problem) = problem_of(items, kind, lo, hi, limit) else {
+        return Ok(String::from_str(alloc, "no problem")?);
+    };
+    let answer = places_of(alloc, fields.next().unwrap_or(""))?;
+    let letters = letters_of(alloc, fields.next().unwrap_or(""))?;
+    let places = answer.as_ref().map(|places| places.as_slice());
+    let whole = verdict(alloc, &problem, places, letters.as_slice(), usize::MAX)?;
+    let parts = verdict(alloc, &problem, places, letters.as_slice(), 1)?;
+    if whole == parts {
+        return Ok(whole);
+    }
+    Ok(format!(in alloc; "{}, in pieces {}", whole, parts)?)
+}
+
+fn main(rt: HostRuntime) -> io::Result<()> {
+    for line in rt.lines(rt.alloc()) {
+        let text = row_text(rt.alloc(), line?.as_str())?;
+        println!(rt; "{text}")?;
+    }
+    Ok(())
+}
