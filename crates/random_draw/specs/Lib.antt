@@ -1,0 +1,4 @@
+pub mod Draw
+pub mod Kept
+pub mod Laws
+pub mod Order
