@@ -1,0 +1,4 @@
+pub mod Jobs
+pub mod Kept
+pub mod MemKeeper
+pub mod SureKeeper
