@@ -1,0 +1,16 @@
+pub mod AnswerLaws
+pub mod BodyLaws
+pub mod CountLaws
+pub mod DigestLaws
+pub mod Exactness
+pub mod Feeding
+pub mod LetterLaws
+pub mod LogLaws
+pub mod Loops
+pub mod NumberLaws
+pub mod PartLaws
+pub mod PlaceLaws
+pub mod SectionLaws
+pub mod TextLaws
+pub mod WordLaws
+pub mod WrittenLaws

@@ -1,0 +1,6 @@
+pub mod Behind
+pub mod Exact
+pub mod Gives
+pub mod Log
+pub mod LogText
+pub mod Reading
