@@ -1,0 +1,11 @@
+pub mod AnswerLaws
+pub mod ChoiceLaws
+pub mod CoinLaws
+pub mod ComeLaws
+pub mod KeptLaws
+pub mod LeadLaws
+pub mod MadeLaws
+pub mod PositionLaws
+pub mod ResultLaws
+pub mod RunLaws
+pub mod StandLaws

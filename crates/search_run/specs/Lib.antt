@@ -1,0 +1,9 @@
+pub mod Answer
+pub mod Examples
+pub mod Found
+pub mod Kept
+pub mod Leads
+pub mod Run
+pub mod Stands
+pub mod Step
+pub mod Walks
