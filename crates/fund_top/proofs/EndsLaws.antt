@@ -1,47 +1,139 @@
 -- What the status tells of how a command ended.
-use Rattle.std.proofs.Common.{◌≡◌, ◌∙◌, inl, inr, refl, sym, ap, subst}
+use Rattle.std.proofs.Common.{◌≡◌, ◌∙◌, ℕ, List, Result, Ok, Err, inl, inr, refl, sym, ap, subst}
 use Rattle.std.specs.Prelude.{◌⊎◌}
 use Rattle.fund_base.specs.Causes.{ShelfView, SinkView}
-use Rattle.fund_top.specs.declared.status.Status.{Status}
-use Rattle.fund_top.specs.declared.status.Status.TheVariants as statuses
-use Rattle.fund_top.specs.Cause.{Cause}
-use Rattle.fund_top.specs.Ends.{Ends, IsReported, NoneFailed, NoneUnread, status_of, status_of_cause}
-use Rattle.fund_top.specs.Outcome.{Outcome, Refused, outcome_of}
+use Rattle.fund_files.specs.Cause.{FileCause}
+use Rattle.command_end.specs.Names.{Sources}
+use Rattle.command_end.specs.declared.status.Status.{Status}
+use Rattle.command_end.specs.declared.status.Status.TheVariants as statuses
+use Rattle.command_coins.specs.Due as listing_files
+use Rattle.command_coins.specs.Statuses as listings
+use Rattle.command_fund.specs.Cause.{Cause, status_of_cause}
+use Rattle.command_fund.specs.Due as payment_files
+use Rattle.command_fund.specs.Names.{Payment}
+use Rattle.command_fund.specs.Statuses as payments
+use Rattle.fund_top.specs.Due.{Outcome, Refused, listing_outcome, outcome_of, payment_outcome}
+use Rattle.fund_top.specs.Statuses.{Ends, NoneFailed, NoneUnread, status_of}
 use Rattle.fund_top.specs.Words.{Command, Coins, Fund}
 
--- at a status that is known
-pub ends_at : (told_files told : Type 0) (c : Command) (shelf shelf' : ShelfView) (sink sink' : SinkView) (status known : Status) → Ends told_files told c shelf shelf' sink sink' status → status ≡ known → Ends told_files told c shelf shelf' sink sink' known
-ends_at told_files told c shelf shelf' sink sink' status known h e = subst (λ (s : Status). Ends told_files told c shelf shelf' sink sink' s) e h
+-- ---- the ends of each command are those of all
 
--- where nothing failed, it is the status of what the files come to, or want of memory
+pub listing_ends : (told_files told : Type 0) (s : Sources) (shelf shelf' : ShelfView) (sink sink' : SinkView) (status : Status) → listings.Ends told_files told s shelf shelf' sink sink' status → Ends told_files told (Coins s) shelf shelf' sink sink' status
+listing_ends told_files told s shelf shelf' sink sink' statuses.Done h = h
+listing_ends told_files told s shelf shelf' sink sink' statuses.NoSelection h = h
+listing_ends told_files told s shelf shelf' sink sink' statuses.Usage h = h
+listing_ends told_files told s shelf shelf' sink sink' statuses.Input h = h
+listing_ends told_files told s shelf shelf' sink sink' statuses.Limit h = h
+listing_ends told_files told s shelf shelf' sink sink' statuses.ReadFault h = h
+listing_ends told_files told s shelf shelf' sink sink' statuses.WriteFault h = h
+listing_ends told_files told s shelf shelf' sink sink' statuses.Memory h = h
+
+pub payment_ends : (told_files told : Type 0) (s : Sources) (p : Payment) (shelf shelf' : ShelfView) (sink sink' : SinkView) (status : Status) → payments.Ends told_files told s p shelf shelf' sink sink' status → Ends told_files told (Fund s p) shelf shelf' sink sink' status
+payment_ends told_files told s p shelf shelf' sink sink' statuses.Done h = h
+payment_ends told_files told s p shelf shelf' sink sink' statuses.NoSelection h = h
+payment_ends told_files told s p shelf shelf' sink sink' statuses.Usage h = h
+payment_ends told_files told s p shelf shelf' sink sink' statuses.Input h = h
+payment_ends told_files told s p shelf shelf' sink sink' statuses.Limit h = h
+payment_ends told_files told s p shelf shelf' sink sink' statuses.ReadFault h = h
+payment_ends told_files told s p shelf shelf' sink sink' statuses.WriteFault h = h
+payment_ends told_files told s p shelf shelf' sink sink' statuses.Memory h = h
+
+-- ---- and the other way
+
+listing_back : (told_files told : Type 0) (s : Sources) (shelf shelf' : ShelfView) (sink sink' : SinkView) (status : Status) → Ends told_files told (Coins s) shelf shelf' sink sink' status → listings.Ends told_files told s shelf shelf' sink sink' status
+listing_back told_files told s shelf shelf' sink sink' statuses.Done h = h
+listing_back told_files told s shelf shelf' sink sink' statuses.NoSelection h = h
+listing_back told_files told s shelf shelf' sink sink' statuses.Usage h = h
+listing_back told_files told s shelf shelf' sink sink' statuses.Input h = h
+listing_back told_files told s shelf shelf' sink sink' statuses.Limit h = h
+listing_back told_files told s shelf shelf' sink sink' statuses.ReadFault h = h
+listing_back told_files told s shelf shelf' sink sink' statuses.WriteFault h = h
+listing_back told_files told s shelf shelf' sink sink' statuses.Memory h = h
+
+payment_back : (told_files told : Type 0) (s : Sources) (p : Payment) (shelf shelf' : ShelfView) (sink sink' : SinkView) (status : Status) → Ends told_files told (Fund s p) shelf shelf' sink sink' status → payments.Ends told_files told s p shelf shelf' sink sink' status
+payment_back told_files told s p shelf shelf' sink sink' statuses.Done h = h
+payment_back told_files told s p shelf shelf' sink sink' statuses.NoSelection h = h
+payment_back told_files told s p shelf shelf' sink sink' statuses.Usage h = h
+payment_back told_files told s p shelf shelf' sink sink' statuses.Input h = h
+payment_back told_files told s p shelf shelf' sink sink' statuses.Limit h = h
+payment_back told_files told s p shelf shelf' sink sink' statuses.ReadFault h = h
+payment_back told_files told s p shelf shelf' sink sink' statuses.WriteFault h = h
+payment_back told_files told s p shelf shelf' sink sink' statuses.Memory h = h
+
+-- ---- a report isn't due where the files are refused
+
+listing_not : (due : Result (List ℕ) FileCause) (cause : Cause) → listing_outcome due ≡ Refused cause → listings.IsReported due → ⊥
+listing_not (Ok listing) cause is reported = cc
+listing_not (Err file_cause) cause is reported = reported
+
+payment_not : (due : payment_files.Outcome) (cause : Cause) → payment_outcome due ≡ Refused cause → payments.IsReported due → ⊥
+payment_not (payment_files.Refused own) cause is reported = reported
+payment_not payment_files.NoSelection cause is reported = cc
+payment_not (payment_files.Funded report) cause is reported = cc
+
+-- ---- where nothing failed
+
+abbrev listing_status : Result (List ℕ) FileCause → Status
+listing_status due = status_of (listing_outcome due)
+
+abbrev payment_status : payment_files.Outcome → Status
+payment_status due = status_of (payment_outcome due)
+
+listing_complete : (told_files told : Type 0) (s : Sources) (shelf shelf' : ShelfView) (sink sink' : SinkView) (status : Status) → listings.Ends told_files told s shelf shelf' sink sink' status → told_files → NoneFailed (Coins s) shelf shelf' sink sink'
+    → (status ≡ status_of (outcome_of shelf.files (Coins s))) ⊎ (status ≡ statuses.Memory)
+listing_complete told_files told s shelf shelf' sink sink' statuses.Done h t none = inl (sym (ap listing_status (h.1.comes_to t)))
+listing_complete told_files told s shelf shelf' sink sink' statuses.NoSelection h t none = absurd h
+listing_complete told_files told s shelf shelf' sink sink' statuses.Usage h t none = absurd h
+listing_complete told_files told s shelf shelf' sink sink' statuses.Input h t none = inl (sym (ap listing_status (h.2 t).0 ∙ h.1))
+listing_complete told_files told s shelf shelf' sink sink' statuses.Limit h t none = inl (sym (ap listing_status (h.2 t).0 ∙ h.1))
+listing_complete told_files told s shelf shelf' sink sink' statuses.ReadFault h t none = absurd (none.reads h.0 h.1)
+listing_complete told_files told s shelf shelf' sink sink' statuses.WriteFault h t none = absurd (none.sinks h.1)
+listing_complete told_files told s shelf shelf' sink sink' statuses.Memory h t none = inr refl
+
+payment_complete : (told_files told : Type 0) (s : Sources) (p : Payment) (shelf shelf' : ShelfView) (sink sink' : SinkView) (status : Status) → payments.Ends told_files told s p shelf shelf' sink sink' status → told_files → NoneFailed (Fund s p) shelf shelf' sink sink'
+    → (status ≡ status_of (outcome_of shelf.files (Fund s p))) ⊎ (status ≡ statuses.Memory)
+payment_complete told_files told s p shelf shelf' sink sink' statuses.Done h t none = inl (sym (ap payment_status (h.1.comes_to t)))
+payment_complete told_files told s p shelf shelf' sink sink' statuses.NoSelection h t none = inl (sym (ap payment_status (h.0.comes_to t)))
+payment_complete told_files told s p shelf shelf' sink sink' statuses.Usage h t none = absurd h
+payment_complete told_files told s p shelf shelf' sink sink' statuses.Input h t none = inl (sym (ap payment_status (h.2 t).0 ∙ h.1))
+payment_complete told_files told s p shelf shelf' sink sink' statuses.Limit h t none = inl (sym (ap payment_status (h.2 t).0 ∙ h.1))
+payment_complete told_files told s p shelf shelf' sink sink' statuses.ReadFault h t none = absurd (none.reads h.0 h.1)
+payment_complete told_files told s p shelf shelf' sink sink' statuses.WriteFault h t none =
+    elim h.1 as (λ x. (statuses.WriteFault ≡ status_of (outcome_of shelf.files (Fund s p))) ⊎ (statuses.WriteFault ≡ statuses.Memory)) [ inl w ↦ absurd (none.log w.0) | inr w ↦ absurd (none.sinks w.0) ]
+payment_complete told_files told s p shelf shelf' sink sink' statuses.Memory h t none = inr refl
+
+-- it is the status of what the files come to, or want of memory
 pub ends_complete : (told_files told : Type 0) (c : Command) (shelf shelf' : ShelfView) (sink sink' : SinkView) (status : Status) → Ends told_files told c shelf shelf' sink sink' status → told_files → NoneFailed c shelf shelf' sink sink'
     → (status ≡ status_of (outcome_of shelf.files c)) ⊎ (status ≡ statuses.Memory)
-ends_complete told_files told (Coins s) shelf shelf' sink sink' statuses.Done h t none = inl (sym (ap status_of (h.1.comes_to t)))
-ends_complete told_files told (Fund s p) shelf shelf' sink sink' statuses.Done h t none = inl (sym (ap status_of (h.1.comes_to t)))
-ends_complete told_files told (Coins s) shelf shelf' sink sink' statuses.NoSelection h t none = absurd h
-ends_complete told_files told (Fund s p) shelf shelf' sink sink' statuses.NoSelection h t none = inl (sym (ap status_of (h.0.comes_to t)))
-ends_complete told_files told c shelf shelf' sink sink' statuses.Usage h t none = absurd h
-ends_complete told_files told c shelf shelf' sink sink' statuses.Input h t none = inl (sym (ap status_of (h.2 t).0 ∙ h.1))
-ends_complete told_files told c shelf shelf' sink sink' statuses.Limit h t none = inl (sym (ap status_of (h.2 t).0 ∙ h.1))
-ends_complete told_files told c shelf shelf' sink sink' statuses.ReadFault h t none = absurd (none.reads h.0 h.1)
-ends_complete told_files told (Coins s) shelf shelf' sink sink' statuses.WriteFault h t none = absurd (none.sinks h.1.0)
-ends_complete told_files told (Fund s p) shelf shelf' sink sink' statuses.WriteFault h t none = elim h.1 as (λ x. (statuses.WriteFault ≡ status_of (outcome_of shelf.files (Fund s p))) ⊎ (statuses.WriteFault ≡ statuses.Memory)) [ inl w ↦ absurd (none.log w.0) | inr w ↦ absurd (none.sinks w.0) ]
-ends_complete told_files told c shelf shelf' sink sink' statuses.Memory h t none = inr refl
+ends_complete told_files told (Coins s) shelf shelf' sink sink' status h t none = listing_complete told_files told s shelf shelf' sink sink' status (listing_back told_files told s shelf shelf' sink sink' status h) t none
+ends_complete told_files told (Fund s p) shelf shelf' sink sink' status h t none = payment_complete told_files told s p shelf shelf' sink sink' status (payment_back told_files told s p shelf shelf' sink sink' status h) t none
 
--- the report that is due where the files are refused is none
-not_reported : (o : Outcome) (cause : Cause) → o ≡ Refused cause → IsReported o → ⊥
-not_reported o cause is reported = subst IsReported is reported
+-- ---- where the files are refused and none wasn't read
 
--- where the files are refused and none wasn't read, it is the status of the refusal, or want of memory
+listing_refused : (told_files told : Type 0) (s : Sources) (shelf shelf' : ShelfView) (sink sink' : SinkView) (status : Status) → listings.Ends told_files told s shelf shelf' sink sink' status → told_files → NoneUnread (Coins s) shelf shelf' → (cause : Cause) → outcome_of shelf.files (Coins s) ≡ Refused cause
+    → (status ≡ status_of_cause cause) ⊎ (status ≡ statuses.Memory)
+listing_refused told_files told s shelf shelf' sink sink' statuses.Done h t none cause is = absurd (listing_not (listing_files.due_of shelf.files s) cause is (subst listings.IsReported (sym (h.1.comes_to t)) tt))
+listing_refused told_files told s shelf shelf' sink sink' statuses.NoSelection h t none cause is = absurd h
+listing_refused told_files told s shelf shelf' sink sink' statuses.Usage h t none cause is = absurd h
+listing_refused told_files told s shelf shelf' sink sink' statuses.Input h t none cause is = inl (sym (ap status_of (sym is) ∙ ap listing_status (h.2 t).0 ∙ h.1))
+listing_refused told_files told s shelf shelf' sink sink' statuses.Limit h t none cause is = inl (sym (ap status_of (sym is) ∙ ap listing_status (h.2 t).0 ∙ h.1))
+listing_refused told_files told s shelf shelf' sink sink' statuses.ReadFault h t none cause is = absurd (none h.0 h.1)
+listing_refused told_files told s shelf shelf' sink sink' statuses.WriteFault h t none cause is = absurd (listing_not (listing_files.due_of shelf.files s) cause is (h.0 t))
+listing_refused told_files told s shelf shelf' sink sink' statuses.Memory h t none cause is = inr refl
+
+payment_refused : (told_files told : Type 0) (s : Sources) (p : Payment) (shelf shelf' : ShelfView) (sink sink' : SinkView) (status : Status) → payments.Ends told_files told s p shelf shelf' sink sink' status → told_files → NoneUnread (Fund s p) shelf shelf' → (cause : Cause) → outcome_of shelf.files (Fund s p) ≡ Refused cause
+    → (status ≡ status_of_cause cause) ⊎ (status ≡ statuses.Memory)
+payment_refused told_files told s p shelf shelf' sink sink' statuses.Done h t none cause is = absurd (payment_not (payment_files.due_of shelf.files s p) cause is (subst payments.IsReported (sym (h.1.comes_to t)) tt))
+payment_refused told_files told s p shelf shelf' sink sink' statuses.NoSelection h t none cause is = absurd (payment_not (payment_files.due_of shelf.files s p) cause is (subst payments.IsReported (sym (h.0.comes_to t)) tt))
+payment_refused told_files told s p shelf shelf' sink sink' statuses.Usage h t none cause is = absurd h
+payment_refused told_files told s p shelf shelf' sink sink' statuses.Input h t none cause is = inl (sym (ap status_of (sym is) ∙ ap payment_status (h.2 t).0 ∙ h.1))
+payment_refused told_files told s p shelf shelf' sink sink' statuses.Limit h t none cause is = inl (sym (ap status_of (sym is) ∙ ap payment_status (h.2 t).0 ∙ h.1))
+payment_refused told_files told s p shelf shelf' sink sink' statuses.ReadFault h t none cause is = absurd (none h.0 h.1)
+payment_refused told_files told s p shelf shelf' sink sink' statuses.WriteFault h t none cause is = absurd (payment_not (payment_files.due_of shelf.files s p) cause is (h.0 t))
+payment_refused told_files told s p shelf shelf' sink sink' statuses.Memory h t none cause is = inr refl
+
+-- it is the status of the refusal, or want of memory
 pub ends_refused : (told_files told : Type 0) (c : Command) (shelf shelf' : ShelfView) (sink sink' : SinkView) (status : Status) → Ends told_files told c shelf shelf' sink sink' status → told_files → NoneUnread c shelf shelf' → (cause : Cause) → outcome_of shelf.files c ≡ Refused cause
     → (status ≡ status_of_cause cause) ⊎ (status ≡ statuses.Memory)
-ends_refused told_files told (Coins s) shelf shelf' sink sink' statuses.Done h t none cause is = absurd (not_reported _ cause is (subst IsReported (sym (h.1.comes_to t)) tt))
-ends_refused told_files told (Fund s p) shelf shelf' sink sink' statuses.Done h t none cause is = absurd (not_reported _ cause is (subst IsReported (sym (h.1.comes_to t)) tt))
-ends_refused told_files told (Coins s) shelf shelf' sink sink' statuses.NoSelection h t none cause is = absurd h
-ends_refused told_files told (Fund s p) shelf shelf' sink sink' statuses.NoSelection h t none cause is = absurd (not_reported _ cause is (subst IsReported (sym (h.0.comes_to t)) tt))
-ends_refused told_files told c shelf shelf' sink sink' statuses.Usage h t none cause is = absurd h
-ends_refused told_files told c shelf shelf' sink sink' statuses.Input h t none cause is = inl (sym (ap status_of (sym is ∙ (h.2 t).0) ∙ h.1))
-ends_refused told_files told c shelf shelf' sink sink' statuses.Limit h t none cause is = inl (sym (ap status_of (sym is ∙ (h.2 t).0) ∙ h.1))
-ends_refused told_files told c shelf shelf' sink sink' statuses.ReadFault h t none cause is = absurd (none h.0 h.1)
-ends_refused told_files told c shelf shelf' sink sink' statuses.WriteFault h t none cause is = absurd (not_reported _ cause is (h.0 t))
-ends_refused told_files told c shelf shelf' sink sink' statuses.Memory h t none cause is = inr refl
+ends_refused told_files told (Coins s) shelf shelf' sink sink' status h t none cause is = listing_refused told_files told s shelf shelf' sink sink' status (listing_back told_files told s shelf shelf' sink sink' status h) t none cause is
+ends_refused told_files told (Fund s p) shelf shelf' sink sink' status h t none cause is = payment_refused told_files told s p shelf shelf' sink sink' status (payment_back told_files told s p shelf shelf' sink sink' status h) t none cause is

@@ -1,12 +1,2 @@
-pub mod BookSteps
-pub mod Concluded
-pub mod DueLaws
 pub mod EndsLaws
-pub mod FeedSteps
-pub mod Finished
-pub mod HeldLaws
-pub mod OutcomeLaws
-pub mod ParentLaws
-pub mod PlanLaws
-pub mod ReportLines
-pub mod StopLaws
+pub mod DueLaws

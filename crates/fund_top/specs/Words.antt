@@ -1,16 +1,8 @@
 -- The words of the command line.
 use Rattle.std.specs.Prelude.{ℕ, not, ◌&&◌, nat_lt, List, [], ◌∷◌, length, String, string_bytes, bytes_eq, codes, Bool, Option, Some, None, if◌then◌else◌}
 use Rattle.std.specs.declared.alloc.Global.{Global}
-
--- the names of the files from which the coins are told
-pub record Sources : Type 0 where
-  pub wallet : List ℕ
-  pub blocks : List ℕ
-
--- the names of the files of a payment: what is asked for, and where the log is written
-pub record Payment : Type 0 where
-  pub request : List ℕ
-  pub log : List ℕ
+use Rattle.command_end.specs.Names.{Sources}
+use Rattle.command_fund.specs.Names.{Payment}
 
 -- to list payments and coins, or to fund a payment
 pub data Command : Type 0 where
@@ -51,8 +43,3 @@ command_of (verb ∷ wallet ∷ blocks ∷ request ∷ log ∷ []) =
     then where_stands (names_stand (sources wallet blocks) (payment request log)) (Fund (sources wallet blocks) (payment request log))
     else None
 command_of _ = None
-
--- the files from which a command tells the coins
-abbrev pub sources_of : Command → Sources
-sources_of (Coins s) = s
-sources_of (Fund s p) = s

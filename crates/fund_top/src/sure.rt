@@ -3,13 +3,13 @@
 ghost use Rattle.std.specs.Prelude.{◌≡◌, ◌≢◌, ◌⊎◌, IfSome};
 ghost use Rattle.fund_base.specs.SureShelf.{view_of as shelf_view};
 ghost use Rattle.fund_base.specs.SureSink.{view_of as sink_view};
-ghost use Rattle.fund_top.specs.Ends.{WhereFunding, WhereListing, status_of};
-ghost use Rattle.fund_top.specs.Outcome.{outcome_of};
-ghost use Rattle.fund_top.specs.Sure.{Funds, FundsNot, Lists};
+ghost use Rattle.fund_top.specs.Due.{outcome_of};
+ghost use Rattle.fund_top.specs.InMemory.{Funds, FundsNot, Lists};
+ghost use Rattle.fund_top.specs.Statuses.{WhereFunding, WhereListing, status_of};
 ghost use Rattle.fund_top.specs.Words.{command_of};
 
-use crate::status::Status;
 use crate::top::run;
+use command_end::Status;
 use fund_base::{SureShelf, SureSink};
 use std::alloc::Global;
 

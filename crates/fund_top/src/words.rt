@@ -1,23 +1,13 @@
 //! The words of the command line.
 
 ghost use Rattle.std.specs.Prelude.{◌≡◌, option_map};
+ghost use Rattle.command_end.specs.Names.{plain_sources};
+ghost use Rattle.command_fund.specs.Names.{plain_payment};
+ghost use Rattle.fund_top.specs.Command.{plain};
 ghost use Rattle.fund_top.specs.Words.{are_named, command_of, names_stand};
-ghost use Rattle.fund_top.specs.Command.{plain, plain_payment, plain_sources};
 
-/// The names of the files from which the coins are told.
-#[derive(Clone, Copy, Debug)]
-pub struct Sources<'a> {
-    pub wallet: &'a str,
-    pub blocks: &'a str,
-}
-
-/// The names of the files of a payment.
-#[derive(Clone, Copy, Debug)]
-pub struct Payment<'a> {
-    pub request: &'a str,
-    /// The file that is written.
-    pub log: &'a str,
-}
+use command_end::Sources;
+use command_fund::Payment;
 
 /// What is to be done.
 #[derive(Clone, Copy, Debug)]

@@ -1,14 +1,12 @@
 use Rattle.fund_plan.specs.declared.outcome.Outcome.TheVariants as answers
-use Rattle.fund_top.specs.Words.{Coins}
-use Rattle.fund_top.proofs.DueLaws.{answer_due, refusal_due}
-use Rattle.fund_top.proofs.OutcomeLaws.{chain_due}
+use Rattle.fund_top.proofs.DueLaws.{answer_due, listing_due, refusal_due}
 use Rattle.fund_top.proofs.laws.outcomes_are_due.Goals as goal
 
 pub returns-clause-refused : goal.returns-clause-refused
 returns-clause-refused c = refusal_due
 
 pub returns-clause-listed : goal.returns-clause-listed
-returns-clause-listed c = λ files s w blocks has. chain_due files (Coins s) w blocks has
+returns-clause-listed c = listing_due
 
 pub returns-clause-funded : goal.returns-clause-funded
 returns-clause-funded c = λ files s p w blocks r f has rules manual means. answer_due files s p w blocks r (answers.Funded f) has rules manual means

@@ -1,0 +1,9 @@
+use Rattle.std.proofs.Common.{string_bytes}
+use Rattle.command_end.specs.Names.{plain_sources}
+use Rattle.command_coins.proofs.ListingLaws.{listing_ends}
+use Rattle.command_coins.proofs.command.coins.Goals as goal
+
+pub returns-in-Ok-clause-ends : goal.returns-in-Ok-clause-ends
+returns-in-Ok-clause-ends g c =
+    listing_ends _ _ (plain_sources c.args.sources.now) (string_bytes c.in-Ok.text) (g.H.Shelf.view c.args.shelf.now) (g.H.Shelf.view c.listed.new.shelf) (g.O.Sink.view c.args.out.now) (g.O.Sink.view c.put_report.new.out) c.put_report.result c.in-Ok.ensures.lists
+    (rw c.as_bytes.ensures.value at c.put_report.ensures.ends)

@@ -1,0 +1,73 @@
+//! The command.
+
+ghost use Rattle.std.specs.Prelude.{◌≡◌, IfErr, IfOk, string_bytes};
+ghost use Rattle.fund_base.specs.Causes.{CountsNeverFall, OnlyReads};
+ghost use Rattle.fund_files.specs.FileStops.{StopsChain};
+ghost use Rattle.command_end.specs.Names.{plain_sources};
+ghost use Rattle.command_coins.specs.Answer.{IsStopped};
+ghost use Rattle.command_coins.specs.Due.{name_of};
+ghost use Rattle.command_coins.specs.Statuses.{Ends, IsListed};
+
+use crate::listing::listing_text;
+use command_end::{Sources, Status, put_report, refuse_file, refuse_read, want_of_memory};
+use fund_base::{Memory, Shelf, Sink};
+use fund_files::{File, Stop, read_chain};
+use std::alloc::Global;
+
+/// The listing, or why the command stops.
+fn listed<H: Shelf>(alloc: Global, sources: &Sources, shelf: &mut H) -> Result<String, Stop>
+    ensures lists { IfOk result (λ text. IsListed H.tells (H.view shelf.old).files (plain_sources sources.now) (string_bytes text)) }
+    ensures frame { OnlyReads H.tells (H.view shelf.old) (H.view shelf.new) }
+    ensures stop { IfErr result (StopsChain H.tells sources.now.wallet.now sources.now.blocks.now (H.view shelf.old) (H.view shelf.new)) }
+{
+    let held = read_chain(alloc, sources.wallet, sources.blocks, shelf)?;
+    match listing_text(alloc, &held) {
+        Ok(text) => Ok(text),
+        Err(Memory) => Err(Stop::Memory),
+    }
+}
+
+/// The name of a file that is read. A request isn't.
+fn name_of<'a>(sources: &Sources<'a>, file: File) -> &'a str
+    ensures { result.now ≡ name_of (plain_sources sources.now) file }
+{
+    match file {
+        File::Wallet => sources.wallet,
+        File::Blocks => sources.blocks,
+        File::Request => "",
+    }
+}
+
+/// Puts the line of a stop.
+fn answer<O: Sink>(alloc: Global, sources: &Sources, stop: Stop, out: &mut O) -> Status
+    ensures line { IsStopped O.tells (plain_sources sources.now) stop (O.view out.old) (O.view out.new) result }
+    ensures counts { CountsNeverFall (O.view out.old) (O.view out.new) }
+{
+    match stop {
+        Stop::Read(file) => refuse_read(alloc, name_of(sources, file), out),
+        Stop::Refused(refusal) => refuse_file(alloc, &refusal, out),
+        Stop::Memory => want_of_memory(out),
+    }
+}
+
+/// Lists the pending payments of the wallet and the coins that may be spent: it reads the two files, and prints the listing
+/// to `out`. What is refused gets its fault line there. It writes no file.
+///
+/// The clauses on content hold where the shelf and the sink tell theirs.
+pub fn coins<H: Shelf, O: Sink>(
+    alloc: Global,
+    sources: &Sources,
+    shelf: &mut H,
+    out: &mut O,
+) -> Status
+    // By the status: what was found in the files, and what the sink has got.
+    ensures ends { Ends H.tells O.tells (plain_sources sources.now) (H.view shelf.old) (H.view shelf.new) (O.view out.old) (O.view out.new) result }
+    // Nothing is written.
+    ensures frame { OnlyReads H.tells (H.view shelf.old) (H.view shelf.new) }
+    ensures counts { CountsNeverFall (O.view out.old) (O.view out.new) }
+{
+    match listed(alloc, sources, shelf) {
+        Ok(text) => put_report(text.as_bytes(), Status::Done, out),
+        Err(stop) => answer(alloc, sources, stop, out),
+    }
+}

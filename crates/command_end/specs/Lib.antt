@@ -1,0 +1,5 @@
+pub mod AnswerLines
+pub mod Lines
+pub mod Names
+pub mod Printed
+pub mod StatusCode

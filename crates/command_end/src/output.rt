@@ -1,0 +1,117 @@
+//! What a command prints and writes.
+
+ghost use Rattle.std.specs.Prelude.{◌≡◌, ◌⊎◌, ◌++◌, codes, IfOk, string_bytes};
+ghost use Rattle.fund_base.specs.Causes.{CountsNeverFall, NeverFall, SameElsewhere};
+ghost use Rattle.command_end.specs.AnswerLines.{IsAnswered};
+ghost use Rattle.command_end.specs.Lines.{GotLine, fault_line};
+ghost use Rattle.command_end.specs.Printed.{IsEnd, IsPut, IsUnwritten, IsWithoutMemory};
+
+use crate::status::Status;
+use fund_base::{Fault, Memory, Shelf, Sink, put_all};
+use std::alloc::Global;
+
+/// The line of want of memory.
+const MEMORY_LINE: &[u8] = b"fault memory\n";
+
+/// Puts a line. Where the sink fails it has got a part.
+pub fn put_line<O: Sink>(line: &[u8], out: &mut O)
+    ensures line { O.tells → GotLine line.now (O.view out.old) (O.view out.new) }
+    ensures counts { CountsNeverFall (O.view out.old) (O.view out.new) }
+{
+    let _ = put_all(out, line);
+}
+
+/// The fault line of these words.
+fn fault_line(alloc: Global, words: &str) -> Result<String, Memory>
+    ensures { IfOk result (λ text. string_bytes text ≡ fault_line words.now) }
+{
+    Ok(format!(in alloc; "fault {}\n", words)?)
+}
+
+/// Puts the line of want of memory.
+pub fn want_of_memory<O: Sink>(out: &mut O) -> Status
+    ensures is { result ≡ Status.Memory }
+    ensures line { O.tells → GotLine (fault_line (codes "memory")) (O.view out.old) (O.view out.new) }
+    ensures counts { CountsNeverFall (O.view out.old) (O.view out.new) }
+{
+    put_line(MEMORY_LINE, out);
+    Status::Memory
+}
+
+/// Puts the fault line of these words, and answers the status; or that of want of memory.
+pub fn put_fault<O: Sink>(alloc: Global, words: &str, status: Status, out: &mut O) -> Status
+    ensures line { IsAnswered O.tells words.now status (O.view out.old) (O.view out.new) result }
+    ensures counts { CountsNeverFall (O.view out.old) (O.view out.new) }
+{
+    match fault_line(alloc, words) {
+        Ok(text) => {
+            put_line(text.as_bytes(), out);
+            status
+        }
+        Err(Memory) => want_of_memory(out),
+    }
+}
+
+/// What the line of a log that wasn't written says.
+fn write_words(alloc: Global, log: &str) -> Result<String, Memory>
+    ensures { IfOk result (λ text. string_bytes text ≡ codes "write " ++ log.now) }
+{
+    Ok(format!(in alloc; "write {}", log)?)
+}
+
+/// Puts the line of a log that wasn't written.
+fn refuse_write<O: Sink>(alloc: Global, log: &str, out: &mut O) -> Status
+    ensures line { IsAnswered O.tells (codes "write " ++ log.now) Status.WriteFault (O.view out.old) (O.view out.new) result }
+    ensures counts { CountsNeverFall (O.view out.old) (O.view out.new) }
+{
+    match write_words(alloc, log) {
+        Ok(words) => put_fault(alloc, words.as_str(), Status::WriteFault, out),
+        Err(Memory) => want_of_memory(out),
+    }
+}
+
+/// Puts the report or the listing, and answers the status, or that of a sink that failed or found no memory.
+pub fn put_report<O: Sink>(report: &[u8], status: Status, out: &mut O) -> Status
+    ensures ends { IsPut O.tells report.now status (O.view out.old) (O.view out.new) result }
+    ensures counts { CountsNeverFall (O.view out.old) (O.view out.new) }
+{
+    match put_all(out, report) {
+        Ok(()) => status,
+        Err(Fault::Failed) => Status::WriteFault,
+        Err(Fault::Memory) => Status::Memory,
+    }
+}
+
+/// Makes `text` the log, which is the file `log`, and then puts the report.
+pub fn finish<H: Shelf, O: Sink>(
+    alloc: Global,
+    log: &str,
+    text: &[u8],
+    report: &[u8],
+    status: Status,
+    shelf: &mut H,
+    out: &mut O,
+) -> Status
+    // The status that was given, or that of a log or a report that failed.
+    ensures kinds { (result ≡ status) ⊎ ((result ≡ Status.WriteFault) ⊎ (result ≡ Status.Memory)) }
+
+    // The log is written and the report is put whole.
+    ensures log { H.tells → result ≡ status → IsEnd status → (H.view shelf.new).files log.now ≡ text.now }
+    ensures report { O.tells → result ≡ status → IsEnd status → (O.view out.new).written ≡ (O.view out.old).written ++ report.now }
+
+    // What fails, and what is there then.
+    ensures write_fault { result ≡ Status.WriteFault → IsEnd status → IsUnwritten H.tells O.tells log.now text.now report.now (H.view shelf.old) (H.view shelf.new) (O.view out.old) (O.view out.new) }
+    ensures memory { result ≡ Status.Memory → IsEnd status → IsWithoutMemory H.tells O.tells log.now text.now report.now (H.view shelf.old) (H.view shelf.new) (O.view out.old) (O.view out.new) }
+
+    // What stays.
+    ensures others { H.tells → SameElsewhere log.now (H.view shelf.old).files (H.view shelf.new).files }
+    ensures reads { (H.view shelf.new).reads ≡ (H.view shelf.old).reads }
+    ensures writes { NeverFall (H.view shelf.old).writes (H.view shelf.new).writes }
+    ensures counts { CountsNeverFall (O.view out.old) (O.view out.new) }
+{
+    match shelf.write_file(log, text) {
+        Ok(()) => put_report(report, status, out),
+        Err(Fault::Failed) => refuse_write(alloc, log, out),
+        Err(Fault::Memory) => want_of_memory(out),
+    }
+}

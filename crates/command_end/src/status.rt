@@ -1,0 +1,44 @@
+//! How a command ends.
+
+ghost use Rattle.std.specs.Prelude.{◌≡◌};
+
+/// How a command ends.
+#[derive(Clone, Copy, Debug, PartialEq, Eq)]
+pub enum Status {
+    /// The payment is funded and the report is printed whole, or the listing is.
+    Done,
+    /// The words are no command.
+    Usage,
+    /// A file, or what it asks for, is refused.
+    Input,
+    /// A file wasn't read.
+    ReadFault,
+    /// The log wasn't written, or the report or the listing wasn't printed whole.
+    WriteFault,
+    /// There was not enough memory.
+    Memory,
+    /// A file is longer than its limit, or there are more coins than a book holds.
+    Limit,
+    /// Nothing pays for what is asked.
+    NoSelection,
+}
+
+impl Status {
+    ghost use Rattle.command_end.specs.StatusCode.{code_of};
+
+    /// The status that the process ends with.
+    pub fn code(self) -> u8
+        ensures { result ≡ code_of self }
+    {
+        match self {
+            Status::Done => 0,
+            Status::Usage => 2,
+            Status::Input => 3,
+            Status::ReadFault => 4,
+            Status::WriteFault => 5,
+            Status::Memory => 7,
+            Status::Limit => 9,
+            Status::NoSelection => 11,
+        }
+    }
+}

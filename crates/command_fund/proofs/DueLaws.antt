@@ -1,0 +1,107 @@
+-- What the files mean is what they come to.
+use Rattle.std.proofs.Common.{◌≡◌, ◌∙◌, ℕ, Bool, true, false, cond, List, Option, Some, None, Result, Ok, Err, inl, inr, refl, sym, ap, subst}
+use Rattle.std.specs.Prelude.{◌≢◌}
+use Rattle.block_feed.specs.Block.{ChainBlock}
+use Rattle.fund_plan.proofs.AnswerLaws.{answer_means}
+use Rattle.fund_plan.proofs.FaultLaws.{fault_found, none_found}
+use Rattle.fund_plan.proofs.OnceLaws.{one_outcome}
+use Rattle.fund_plan.specs.Answer.{Answers, answer_of}
+use Rattle.fund_plan.specs.Faults.{fault_of}
+use Rattle.fund_plan.specs.Plan.{IsFault, IsPlan}
+use Rattle.fund_plan.specs.declared.fault.PlanFault.{PlanFault}
+use Rattle.fund_plan.specs.declared.fault.PlanFault.TheVariants as plans
+use Rattle.fund_plan.specs.declared.outcome.Outcome.{Outcome as Answer}
+use Rattle.request_text.specs.PlainRequest.{PlainRequest}
+use Rattle.request_text.specs.declared.request.Method.{Method}
+use Rattle.request_text.specs.declared.request.Method.TheVariants.{Auto, Changeless, Weight, Draw, Manual}
+use Rattle.wallet_text.specs.PlainWallet.{PlainWallet}
+use Rattle.fund_files.proofs.ChainLaws.{asked_due, asked_held, chain_due, chain_held}
+use Rattle.fund_files.specs.Cause.{FileCause}
+use Rattle.fund_files.specs.Chain.{held_of}
+use Rattle.fund_files.specs.Contents.{HasChain, HasRequest}
+use Rattle.fund_files.specs.Outcome.{asked_of, chain_of}
+use Rattle.fund_files.specs.Refusals.{IsAskedMeant, IsChainMeant}
+use Rattle.fund_files.specs.declared.held.Held.{Held}
+use Rattle.command_end.specs.Names.{Sources}
+use Rattle.command_fund.specs.Cause.{Cause, Files, BumpNotYet, PlanNotYet, Plan}
+use Rattle.command_fund.specs.Due.{Outcome, Refused, by_answer, by_asked, by_cause, by_chain, due_of, is_manual, not_chosen, not_taken, plan_cause, plan_of, planned}
+use Rattle.command_fund.specs.Inputs.{AreInputs}
+use Rattle.command_fund.specs.Meant.{IsMeant}
+use Rattle.command_fund.specs.Names.{Payment}
+
+-- ---- the files
+
+pub chain_refused : (files : List ℕ → List ℕ) (s : Sources) (p : Payment) (cause : FileCause) → chain_of (files s.wallet) (files s.blocks) ≡ Err cause → due_of files s p ≡ Refused (Files cause)
+chain_refused files s p cause is = ap (by_chain (files p.request)) is
+
+chain_read : (files : List ℕ → List ℕ) (s : Sources) (p : Payment) (w : PlainWallet) (blocks : List ChainBlock) → HasChain (files s.wallet) (files s.blocks) w blocks → due_of files s p ≡ by_asked (held_of w blocks) (asked_of (files p.request))
+chain_read files s p w blocks h = ap (by_chain (files p.request)) (chain_held (files s.wallet) (files s.blocks) w blocks h)
+
+pub request_refused : (files : List ℕ → List ℕ) (s : Sources) (p : Payment) (w : PlainWallet) (blocks : List ChainBlock) (cause : FileCause) → HasChain (files s.wallet) (files s.blocks) w blocks → asked_of (files p.request) ≡ Err cause → due_of files s p ≡ Refused (Files cause)
+request_refused files s p w blocks cause h is = chain_read files s p w blocks h ∙ ap (by_asked (held_of w blocks)) is
+
+request_read : (files : List ℕ → List ℕ) (s : Sources) (p : Payment) (w : PlainWallet) (blocks : List ChainBlock) (r : PlainRequest) → HasChain (files s.wallet) (files s.blocks) w blocks → HasRequest (files p.request) r → due_of files s p ≡ by_cause (not_taken r) (planned (held_of w blocks) r)
+request_read files s p w blocks r h has = chain_read files s p w blocks h ∙ ap (by_asked (held_of w blocks)) (asked_held (files p.request) r has)
+
+pub not_taken_due : (files : List ℕ → List ℕ) (s : Sources) (p : Payment) (w : PlainWallet) (blocks : List ChainBlock) (r : PlainRequest) (cause : Cause) → HasChain (files s.wallet) (files s.blocks) w blocks → HasRequest (files p.request) r → not_taken r ≡ Some cause → due_of files s p ≡ Refused cause
+not_taken_due files s p w blocks r cause h has is = request_read files s p w blocks r h has ∙ ap (λ (o : Option Cause). by_cause o (planned (held_of w blocks) r)) is
+
+pub inputs_due : (files : List ℕ → List ℕ) (s : Sources) (p : Payment) (w : PlainWallet) (blocks : List ChainBlock) (r : PlainRequest) → AreInputs files s p w blocks r → due_of files s p ≡ planned (held_of w blocks) r
+inputs_due files s p w blocks r h = request_read files s p w blocks r h.chain h.request ∙ ap (λ (o : Option Cause). by_cause o (planned (held_of w blocks) r)) h.taken
+
+-- ---- the plan
+
+pub plan_refused : (k : Held) (r : PlainRequest) (fault : PlanFault) → IsFault (plan_of k r) fault → fault ≢ plans.Memory → planned k r ≡ Refused (Plan fault)
+unfolding planned
+plan_refused k r fault h real =
+    ap (λ (o : Option PlanFault). by_cause (plan_cause o) (by_cause (not_chosen r) (by_answer k r (answer_of (plan_of k r))))) (fault_found (plan_of k r) fault h real)
+
+plan_passed : (k : Held) (r : PlainRequest) → IsPlan (plan_of k r) → planned k r ≡ by_cause (not_chosen r) (by_answer k r (answer_of (plan_of k r)))
+unfolding planned
+plan_passed k r h =
+    ap (λ (o : Option PlanFault). by_cause (plan_cause o) (by_cause (not_chosen r) (by_answer k r (answer_of (plan_of k r))))) (none_found (plan_of k r) h)
+
+chosen_none : (r : PlainRequest) → r.method ≡ Manual → not_chosen r ≡ None
+chosen_none r h = rw h refl
+
+pub due_is : (k : Held) (r : PlainRequest) (o : Answer) → IsPlan (plan_of k r) → r.method ≡ Manual → o ≡ answer_of (plan_of k r) → planned k r ≡ by_answer k r o
+due_is k r o h manual is =
+    plan_passed k r h
+    ∙ ap (λ (c : Option Cause). by_cause c (by_answer k r (answer_of (plan_of k r)))) (chosen_none r manual)
+    ∙ ap (by_answer k r) (sym is)
+
+-- a plan whose coins are to be chosen
+pub unchosen_due : (k : Held) (r : PlainRequest) → IsPlan (plan_of k r) → is_manual r.method ≡ false → planned k r ≡ Refused PlanNotYet
+unchosen_due k r h chosen =
+    plan_passed k r h
+    ∙ ap (λ (b : Bool). by_cause (cond b None (Some PlanNotYet)) (by_answer k r (answer_of (plan_of k r)))) chosen
+
+chosen_of : (m : Method) → m ≢ Manual → is_manual m ≡ false
+chosen_of Auto h = refl
+chosen_of Changeless h = refl
+chosen_of Weight h = refl
+chosen_of Draw h = refl
+chosen_of Manual h = absurd (h refl)
+
+-- ---- what is meant
+
+bump_due : (r : PlainRequest) (txid : List ℕ) → r.bump ≡ Some txid → not_taken r ≡ Some BumpNotYet
+bump_due r txid is = rw is refl
+
+files_due : (files : List ℕ → List ℕ) (s : Sources) (p : Payment) (cause : FileCause) → IsMeant files s p (Files cause) → due_of files s p ≡ Refused (Files cause)
+files_due files s p cause (inl h) = chain_refused files s p cause (chain_due (files s.wallet) (files s.blocks) cause h)
+files_due files s p cause (inr h) = request_refused files s p h.0 h.1 cause h.2 (asked_due (files p.request) cause h.3)
+
+pub refusal_due : (files : List ℕ → List ℕ) (s : Sources) (p : Payment) (cause : Cause) → IsMeant files s p cause → due_of files s p ≡ Refused cause
+refusal_due files s p (Files cause) h = files_due files s p cause h
+refusal_due files s p BumpNotYet h = not_taken_due files s p h.0 h.1 h.2 BumpNotYet h.4 h.5 (bump_due h.2 h.3 h.6)
+refusal_due files s p PlanNotYet h = inputs_due files s p h.0 h.1 h.2 h.3 ∙ unchosen_due (held_of h.0 h.1) h.2 h.4 (chosen_of h.2.method h.5)
+refusal_due files s p (Plan fault) h = inputs_due files s p h.0 h.1 h.2 h.3 ∙ plan_refused (held_of h.0 h.1) h.2 fault h.4 h.5
+
+-- ---- what is due where nothing is refused
+
+pub answer_due : (files : List ℕ → List ℕ) (s : Sources) (p : Payment) (w : PlainWallet) (blocks : List ChainBlock) (r : PlainRequest) (a : Answer) → AreInputs files s p w blocks r → IsPlan (plan_of (held_of w blocks) r) → r.method ≡ Manual → Answers (plan_of (held_of w blocks) r) a
+    → due_of files s p ≡ by_answer (held_of w blocks) r a
+answer_due files s p w blocks r a has rules manual means =
+    let q = plan_of (held_of w blocks) r in
+    inputs_due files s p w blocks r has ∙ due_is (held_of w blocks) r a rules manual (one_outcome q a (answer_of q) rules means (answer_means q rules.eligible))

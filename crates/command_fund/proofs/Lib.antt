@@ -1,0 +1,4 @@
+pub mod DueLaws
+pub mod Finished
+pub mod InputLaws
+pub mod PlanLaws

@@ -1,0 +1,38 @@
+use Rattle.std.proofs.Common.{◌≡◌, ◌∙◌, Option, Some, ap, sym}
+use Rattle.std.specs.Prelude.{option_map}
+use Rattle.std.proofs.lemmas.Result.{err_from_is_err_and}
+use Rattle.fund_files.proofs.FrameLaws.{only_reads_on}
+use Rattle.command_end.specs.Names.{plain_sources}
+use Rattle.command_fund.specs.Cause.{cause_of}
+use Rattle.command_fund.specs.Names.{plain_payment}
+use Rattle.command_fund.specs.declared.refusal.Refusal.{Refusal}
+use Rattle.command_fund.proofs.InputLaws.{asked_is, asked_stops, chain_stops, taken_stops}
+use Rattle.command_fund.proofs.inputs.read_inputs.Goals as goal
+
+pub returns-in_err-held-clause-stop : goal.returns-in_err-held-clause-stop
+returns-in_err-held-clause-stop g c =
+    let p = err_from_is_err_and c.from_residual.result c.from_residual.ensures.1 in
+    rw (p.1, p.2) (chain_stops _ (plain_sources c.args.sources.now) (plain_payment c.args.payment.now) (g.H.Shelf.view c.args.shelf.now) (g.H.Shelf.view c.read_chain.new.shelf) c.in_err-held.field-0.0 c.in_err-held.ensures.stop)
+
+pub returns-in_err-request-clause-stop : goal.returns-in_err-request-clause-stop
+returns-in_err-request-clause-stop g c =
+    let p = err_from_is_err_and c.from_residual-in_err-request.result c.from_residual-in_err-request.ensures.1 in
+    rw (p.1, p.2) (asked_stops _ (plain_sources c.args.sources.now) (plain_payment c.args.payment.now) c.in_ok-held.held (g.H.Shelf.view c.args.shelf.now) (g.H.Shelf.view c.read_chain.new.shelf) (g.H.Shelf.view c.read_asked.new.shelf) c.in_err-request.field-0.0
+    c.in_ok-held.ensures.held c.read_chain.ensures.frame c.in_err-request.ensures.stop)
+
+pub returns-in_err-request-clause-frame : goal.returns-in_err-request-clause-frame
+returns-in_err-request-clause-frame g c = only_reads_on _ (g.H.Shelf.view c.args.shelf.now) (g.H.Shelf.view c.read_chain.new.shelf) (g.H.Shelf.view c.read_asked.new.shelf) c.read_chain.ensures.frame c.read_asked.ensures.frame
+
+pub returns-in-Some-clause-frame : goal.returns-in-Some-clause-frame
+returns-in-Some-clause-frame g c = only_reads_on _ (g.H.Shelf.view c.args.shelf.now) (g.H.Shelf.view c.read_chain.new.shelf) (g.H.Shelf.view c.read_asked.new.shelf) c.read_chain.ensures.frame c.read_asked.ensures.frame
+
+pub returns-in-Some-clause-stop : goal.returns-in-Some-clause-stop
+returns-in-Some-clause-stop g c = taken_stops _ (plain_sources c.args.sources.now) (plain_payment c.args.payment.now) c.in_ok-held.held c.in_ok-request.request (cause_of c.in-Some.refusal) (g.H.Shelf.view c.args.shelf.now) (g.H.Shelf.view c.read_chain.new.shelf)
+    c.in_ok-held.ensures.held c.read_chain.ensures.frame c.in_ok-request.ensures.asked (sym c.in-Some.ensures)
+
+pub returns-in-None-clause-frame : goal.returns-in-None-clause-frame
+returns-in-None-clause-frame g c = only_reads_on _ (g.H.Shelf.view c.args.shelf.now) (g.H.Shelf.view c.read_chain.new.shelf) (g.H.Shelf.view c.read_asked.new.shelf) c.read_chain.ensures.frame c.read_asked.ensures.frame
+
+pub returns-in-None-clause-held : goal.returns-in-None-clause-held
+returns-in-None-clause-held g c = asked_is _ (g.H.Shelf.view c.args.shelf.now).files (g.H.Shelf.view c.read_chain.new.shelf).files (plain_sources c.args.sources.now) (plain_payment c.args.payment.now) c.in_ok-held.held c.in_ok-request.request
+    c.in_ok-held.ensures.held c.read_chain.ensures.frame.same c.in_ok-request.ensures.asked (sym c.in-None.ensures)

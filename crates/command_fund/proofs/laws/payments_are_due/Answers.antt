@@ -1,0 +1,12 @@
+use Rattle.fund_plan.specs.declared.outcome.Outcome.TheVariants as answers
+use Rattle.command_fund.proofs.DueLaws.{answer_due, refusal_due}
+use Rattle.command_fund.proofs.laws.payments_are_due.Goals as goal
+
+pub returns-clause-refused : goal.returns-clause-refused
+returns-clause-refused c = refusal_due
+
+pub returns-clause-funded : goal.returns-clause-funded
+returns-clause-funded c = λ files s p w blocks r f has rules manual means. answer_due files s p w blocks r (answers.Funded f) has rules manual means
+
+pub returns-clause-none : goal.returns-clause-none
+returns-clause-none c = λ files s p w blocks r has rules manual means. answer_due files s p w blocks r answers.NoSelection has rules manual means

@@ -1,0 +1,42 @@
+-- The files of a payment, and what they hold.
+use Rattle.std.specs.Prelude.{ℕ, ◌≡◌, List, None}
+use Rattle.fund_base.specs.Causes.{ShelfView, Rose}
+use Rattle.block_feed.specs.Block.{ChainBlock}
+use Rattle.request_text.specs.PlainRequest.{PlainRequest}
+use Rattle.wallet_text.specs.PlainWallet.{PlainWallet}
+use Rattle.fund_files.specs.Chain.{IsHeld}
+use Rattle.fund_files.specs.Contents.{HasChain, HasRequest, HasWallet}
+use Rattle.fund_files.specs.declared.held.Held.{Held}
+use Rattle.fund_files.specs.declared.refusal.File.{File}
+use Rattle.fund_files.specs.declared.refusal.File.TheVariants.{Wallet, Blocks, Request}
+use Rattle.command_end.specs.Names.{Sources}
+use Rattle.command_fund.specs.Due.{not_taken}
+use Rattle.command_fund.specs.Names.{Payment}
+
+-- the name of a file that is read
+abbrev pub name_of : Sources → Payment → File → List ℕ
+name_of s p Wallet = s.wallet
+name_of s p Blocks = s.blocks
+name_of s p Request = p.request
+
+-- a read of this file failed
+abbrev pub IsUnread : Sources → Payment → File → ShelfView → ShelfView → Type 0
+IsUnread s p file old new = Rose (old.reads (name_of s p file)) (new.reads (name_of s p file))
+
+-- The files before this one are in order, so that it is read.
+abbrev pub Reaches : (List ℕ → List ℕ) → Sources → File → Type 0
+Reaches files s Wallet = Unit {0}
+Reaches files s Blocks = (w : PlainWallet) × HasWallet (files s.wallet) w
+Reaches files s Request = (w : PlainWallet) × (blocks : List ChainBlock) × HasChain (files s.wallet) (files s.blocks) w blocks
+
+-- the files hold this wallet, these blocks and this request, which is taken
+pub record AreInputs (files : List ℕ → List ℕ) (s : Sources) (p : Payment) (w : PlainWallet) (bs : List ChainBlock) (r : PlainRequest) : Type 0 where
+  pub chain : HasChain (files s.wallet) (files s.blocks) w bs
+  pub request : HasRequest (files p.request) r
+  pub taken : not_taken r ≡ None
+
+-- a wallet, its book and its tip, and a request that is taken; where the files are told, they hold these
+pub record AreAsked (told : Type 0) (files : List ℕ → List ℕ) (s : Sources) (p : Payment) (k : Held) (r : PlainRequest) : Type 0 where
+  pub held : IsHeld k
+  pub inputs : told → AreInputs files s p k.wallet held.blocks r
+  pub taken : not_taken r ≡ None

@@ -1,0 +1,9 @@
+pub mod Cause
+pub mod Due
+pub mod Inputs
+pub mod Meant
+pub mod Names
+pub mod PlanEnds
+pub mod Statuses
+pub mod Stops
+pub mod Words

@@ -1,0 +1,12 @@
+-- The names of the files of a payment, without where they lie in memory.
+use Rattle.std.specs.Prelude.{ℕ, List}
+use Rattle.command_fund.specs.declared.names.Payment.{Payment as Lent}
+
+-- the names of the files of a payment: what is asked for, and where the log is written
+pub record Payment : Type 0 where
+  pub request : List ℕ
+  pub log : List ℕ
+
+-- the names that are lent
+abbrev pub plain_payment : Lent → Payment
+plain_payment p = record { request = p.request.now; log = p.log.now }

@@ -1,0 +1,24 @@
+-- Why a payment stops before it writes or prints.
+use Rattle.fund_base.specs.Causes.{ShelfView}
+use Rattle.fund_files.specs.declared.stop.Stop.{Stop as FileStop}
+use Rattle.fund_files.specs.declared.stop.Stop.TheVariants as files
+use Rattle.command_end.specs.Names.{Sources}
+use Rattle.command_fund.specs.Cause.{cause_of}
+use Rattle.command_fund.specs.Inputs.{IsUnread, Reaches}
+use Rattle.command_fund.specs.Meant.{IsDue}
+use Rattle.command_fund.specs.Names.{Payment}
+use Rattle.command_fund.specs.declared.refusal.Refusal.TheVariants as refusals
+use Rattle.command_fund.specs.declared.refusal.Stop.{Stop}
+use Rattle.command_fund.specs.declared.refusal.Stop.TheVariants as stops
+
+-- the stop of a command whose files stop so
+abbrev pub lifted : FileStop → Stop
+lifted (files.Read file) = stops.Read file
+lifted (files.Refused refusal) = stops.Refused (refusals.Files refusal)
+lifted files.Memory = stops.Memory
+
+-- A read of a file failed, those before it being in order, or the files are refused.
+abbrev pub StopsFor : Type 0 → Sources → Payment → ShelfView → ShelfView → Stop → Type 0
+StopsFor told s p old new (stops.Read file) = IsUnread s p file old new × (told → Reaches old.files s file)
+StopsFor told s p old new (stops.Refused refusal) = told → IsDue old.files s p (cause_of refusal)
+StopsFor told s p old new stops.Memory = Unit {0}

@@ -1,0 +1,15 @@
+//! The command that funds a payment from listed coins: what its files come to, how it ends, and the law of that.
+#![tactic(auto)]
+
+mod answer;
+mod command;
+mod funding;
+mod inputs;
+mod laws;
+mod names;
+mod refusal;
+
+pub use command::fund;
+pub use laws::payments_are_due;
+pub use names::Payment;
+pub use refusal::Refusal;

@@ -1,0 +1,9 @@
+//! The names of the files of a payment.
+
+/// The names of the files of a payment.
+#[derive(Clone, Copy, Debug)]
+pub struct Payment<'a> {
+    pub request: &'a str,
+    /// The file that is written.
+    pub log: &'a str,
+}

@@ -1,0 +1,44 @@
+//! Why a payment isn't funded.
+
+ghost use Rattle.std.specs.Prelude.{◌≡◌};
+
+use fund_files::{File, FileRefusal, Stop as FileStop};
+use fund_plan::PlanFault;
+
+/// What is refused.
+#[derive(Debug, Drop)]
+pub enum Refusal {
+    /// A file is refused.
+    Files(FileRefusal),
+    /// A payment is to be replaced. That isn't taken yet.
+    BumpNotYet,
+    /// The coins are to be chosen. That isn't taken yet.
+    PlanNotYet,
+    /// No plan is made of the request.
+    Plan(PlanFault),
+}
+
+/// Why the command stops before it writes.
+#[derive(Debug, Drop)]
+pub enum Stop {
+    /// A read of the file failed.
+    Read(File),
+    /// A file, or what it asks for, is refused.
+    Refused(Refusal),
+    /// There was not enough memory.
+    Memory,
+}
+
+impl From<FileStop> for Stop {
+    ghost use Rattle.command_fund.specs.Stops.{lifted};
+
+    ghost from_gives = { λ stop command_stop. command_stop ≡ lifted stop };
+
+    fn from(stop: FileStop) -> Stop {
+        match stop {
+            FileStop::Read(file) => Stop::Read(file),
+            FileStop::Refused(refusal) => Stop::Refused(Refusal::Files(refusal)),
+            FileStop::Memory => Stop::Memory,
+        }
+    }
+}

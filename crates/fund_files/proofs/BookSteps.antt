@@ -1,0 +1,43 @@
+-- The pending transactions in the book, one by one.
+use Rattle.std.proofs.Common.{◌≡◌, ◌∙◌, ℕ, Result, Ok, Err, suc, zero, ◌+◌, ◌<◌, List, [], ◌∷◌, ◌++◌, length, take, get_or, Some, None, refl, sym, ap, subst, arith}
+use Rattle.std.specs.Prelude.{◌≢◌, All, AllPairs, IfOk}
+use Rattle.fund_base.specs.declared.memory.Memory.{Memory}
+use Rattle.std.proofs.lemmas.List.{take_more, take_all}
+use Rattle.std.proofs.lemmas.List.Elements.{All-nil, All-cons}
+use Rattle.tx_codec.specs.Transaction.{Transaction}
+use Rattle.tx_codec.specs.Txid.{txid_of}
+use Rattle.coin_book.specs.Faults.{fault_of}
+use Rattle.coin_book.specs.declared.fault.BookFault.{BookFault}
+use Rattle.coin_book.specs.declared.fault.BookFault.TheVariants.{Memory as NoMemory}
+use Rattle.coin_book.specs.History.{Confirmed, History, with_pending}
+use Rattle.wallet_text.specs.WalletRules.{AreDistinct}
+use Rattle.fund_files.specs.Booked.{IfKept, IsBooked}
+use Rattle.fund_files.specs.declared.booking.Booked.{Booked}
+use Rattle.fund_files.specs.declared.booking.Booked.TheVariants.{Kept, Broken}
+
+before : {X : Type 0} (P : X → Type 0) (xs : List X) (i : ℕ) (d : X) → ((k : ℕ) → k < i → k < length xs → P (get_or xs k d)) → All P (take i xs)
+before P xs zero d h = All-nil P
+before P [] (suc i) d h = All-nil P
+before P (x ∷ xs) (suc i) d h = All-cons P x (take i xs) (h 0 (omega arith) (omega arith)) (before P xs i d (λ k lt len. h (suc k) (omega (arith, lt)) (omega (arith, len))))
+
+-- the history with these pending transactions
+abbrev pub waiting : History → List Transaction → History
+waiting h ts = record { scripts = h.scripts; confirmed = h.confirmed; pending = ts }
+
+pub fresh_in : (booked : Booked) (h : History) (ts : List Transaction) (i : ℕ) (t : Transaction) → IsBooked booked (waiting h (take i ts)) → i < length ts → t ≡ get_or ts i t → AreDistinct ts → IfKept booked (λ book. All (λ (u : Transaction). txid_of u ≢ txid_of t) book.pending)
+fresh_in (Broken fault) h ts i t is lt at distinct = tt
+fresh_in (Kept book) h ts i t is lt at distinct =
+    subst (λ (b : History). All (λ (u : Transaction). txid_of u ≢ txid_of t) b.pending) (sym is.0)
+    (before (λ (u : Transaction). txid_of u ≢ txid_of t) ts i t (λ k less len. subst (λ (x : Transaction). txid_of (get_or ts k t) ≢ txid_of x) (sym at) (distinct k i t less lt)))
+
+pub waiting_none : (booked : Booked) (h : History) → h.pending ≡ [] → IsBooked booked h → IsBooked booked (waiting h [])
+waiting_none booked h none is = subst (λ (ts : List Transaction). IsBooked booked (waiting h ts)) none is
+
+pub waiting_more : (old new : Booked) (h : History) (ts : List Transaction) (i : ℕ) (t : Transaction) → i < length ts → t ≡ get_or ts i t → ((k : History) → IsBooked old k → IsBooked new (with_pending k t)) → IsBooked old (waiting h (take i ts)) → IsBooked new (waiting h (take (i + 1) ts))
+waiting_more old new h ts i t lt at more is =
+    subst (λ (us : List Transaction). IsBooked new (waiting h us)) (ap (λ (x : Transaction). take i ts ++ x ∷ []) at ∙ sym (take_more ts i t lt)) (more (waiting h (take i ts)) is)
+
+-- what a refusal makes
+pub broken_is : (r : Result Booked Memory) (fault : BookFault) (h : History) → IfOk r (λ b. (fault ≢ NoMemory) × (b ≡ Broken fault)) → (fault ≢ NoMemory → fault_of h ≡ Some fault) → IfOk r (λ b. IsBooked b h)
+broken_is (Ok b) fault h is exact = subst (λ (x : Booked). IsBooked x h) (sym is.1) (exact is.0)
+broken_is (Err e) fault h is exact = tt

@@ -1,0 +1,6 @@
+pub mod BookSteps
+pub mod ChainLaws
+pub mod FeedSteps
+pub mod FrameLaws
+pub mod HeldLaws
+pub mod StopLaws

@@ -1,0 +1,122 @@
+-- A stop at one file is a stop of the reading of all.
+use Rattle.std.proofs.Common.{◌≡◌, ℕ, ◌≤◌, ◌<◌, List, [], length, Some, Err, Ok, Result, inl, inr, refl, sym, subst}
+use Rattle.std.specs.Prelude.{IfErr}
+use Rattle.fund_base.specs.Causes.{ShelfView, OnlyReads, Rose}
+use Rattle.fund_base.proofs.Outside.{rose_earlier}
+use Rattle.block_feed.specs.Blocks.{blocks_of}
+use Rattle.block_feed.specs.declared.fault.FeedFault.{FeedFault}
+use Rattle.block_feed.specs.declared.fault.FeedFault.TheVariants as faults
+use Rattle.block_feed.proofs.Limits.{blocks_limit}
+use Rattle.coin_book.specs.Faults.{fault_of}
+use Rattle.coin_book.specs.History.{History}
+use Rattle.coin_book.specs.declared.fault.BookFault.{BookFault}
+use Rattle.coin_book.specs.declared.fault.BookFault.TheVariants as books
+use Rattle.coin_book.proofs.ToldSteps.{never_memory}
+use Rattle.request_text.specs.PlainRequest.{PlainRequest}
+use Rattle.tx_codec.specs.Transaction.{Transaction}
+use Rattle.wallet_text.specs.PlainWallet.{PlainWallet}
+use Rattle.fund_files.specs.declared.booking.Booked.{Booked}
+use Rattle.fund_files.specs.declared.held.Tip.{Tip}
+use Rattle.fund_files.specs.declared.refusal.File.{File}
+use Rattle.fund_files.specs.declared.refusal.File.TheVariants.{Wallet, Blocks, Request}
+use Rattle.fund_files.specs.declared.stop.Stop.{Stop}
+use Rattle.fund_files.specs.declared.stop.Stop.TheVariants as stops
+use Rattle.fund_files.specs.Booked.{IsBooked, IsRead}
+use Rattle.fund_files.specs.Cause.{FileCause, cause_of}
+use Rattle.fund_files.specs.Chain.{confirmed_history, history_of}
+use Rattle.fund_files.specs.Contents.{HasFault, HasNoBook, HasWallet}
+use Rattle.fund_files.specs.FileStops.{IsAskedFault, IsBlocksCause, IsReached, IsUnread, IsWalletCause, StopsAsked, StopsAt, StopsChain}
+use Rattle.fund_files.specs.Outcome.{book_cause, feed_cause}
+use Rattle.fund_files.specs.Refusals.{IsChainCause, IsChainMeant, IsRequestCause}
+use Rattle.fund_files.proofs.BookSteps.{waiting}
+use Rattle.fund_files.proofs.ChainLaws.{blocks_refused, request_by, request_long, wallet_refused}
+
+-- ---- what a cause means
+
+wallet_meant : (wallet blocks : List ℕ) (cause : FileCause) → IsWalletCause wallet cause → IsChainMeant wallet blocks cause
+wallet_meant wallet blocks cause (inl h) = subst (λ (x : FileCause). IsChainMeant wallet blocks x) (sym h.0) h.1
+wallet_meant wallet blocks cause (inr h) = subst (λ (x : FileCause). IsChainMeant wallet blocks x) (sym h.3) (h.0, h.2)
+
+-- the block file behind this wallet has this fault first
+has_fault : (wallet blocks : List ℕ) (w : PlainWallet) (fault : FeedFault) → HasWallet wallet w → blocks_of blocks w.hash w.height ≡ Err fault → HasFault wallet blocks fault
+has_fault wallet blocks w fault has first = record { wallet = w; holds = has; first = first }
+
+-- a fault of the blocks means what its name says
+fault_meant : (wallet blocks : List ℕ) (w : PlainWallet) (fault : FeedFault) → HasWallet wallet w → blocks_of blocks w.hash w.height ≡ Err fault → IsChainMeant wallet blocks (feed_cause fault)
+fault_meant wallet blocks w (faults.Magic place) has first = (has_fault wallet blocks w (faults.Magic place) has first, λ e. absurd cc)
+fault_meant wallet blocks w (faults.Length place) has first = (has_fault wallet blocks w (faults.Length place) has first, λ e. absurd cc)
+fault_meant wallet blocks w (faults.Tx height fault) has first = (has_fault wallet blocks w (faults.Tx height fault) has first, λ e. absurd cc)
+fault_meant wallet blocks w (faults.Merkle height) has first = (has_fault wallet blocks w (faults.Merkle height) has first, λ e. absurd cc)
+fault_meant wallet blocks w (faults.Mutated height) has first = (has_fault wallet blocks w (faults.Mutated height) has first, λ e. absurd cc)
+fault_meant wallet blocks w (faults.NotLinked kept found) has first = (has_fault wallet blocks w (faults.NotLinked kept found) has first, λ e. absurd cc)
+fault_meant wallet blocks w (faults.Trailing height) has first = (has_fault wallet blocks w (faults.Trailing height) has first, λ e. absurd cc)
+fault_meant wallet blocks w (faults.Empty height) has first = (has_fault wallet blocks w (faults.Empty height) has first, λ e. absurd cc)
+fault_meant wallet blocks w faults.Read has first = (has_fault wallet blocks w faults.Read has first, λ e. absurd cc)
+fault_meant wallet blocks w faults.Limit has first = (has_fault wallet blocks w faults.Limit has first, blocks_limit blocks w.hash w.height first)
+fault_meant wallet blocks w faults.Memory has first = (has_fault wallet blocks w faults.Memory has first, λ e. absurd cc)
+
+-- so does one of the book
+book_meant : (wallet blocks : List ℕ) (fault : BookFault) → HasNoBook wallet blocks fault → IsChainMeant wallet blocks (book_cause fault)
+book_meant wallet blocks (books.RepeatCoin coin) h = h
+book_meant wallet blocks books.Full h = h
+book_meant wallet blocks books.Memory h = absurd (never_memory (history_of h.wallet h.blocks) h.broken)
+
+blocks_meant : (wallet blocks : List ℕ) (w : PlainWallet) (cause : FileCause) → HasWallet wallet w → IsBlocksCause w blocks cause → IsChainMeant wallet blocks cause
+blocks_meant wallet blocks w cause has (inl h) = subst (λ (x : FileCause). IsChainMeant wallet blocks x) (sym h.2) (fault_meant wallet blocks w h.0 has h.1)
+blocks_meant wallet blocks w cause has (inr h) =
+    subst (λ (x : FileCause). IsChainMeant wallet blocks x) (sym h.5) (book_meant wallet blocks h.1 (record { wallet = w; blocks = h.0; holds = has; fits = h.3; form = h.2; broken = h.4 }))
+
+-- ---- the stops
+
+-- at the wallet
+pub at_wallet : (told : Type 0) (wallet blocks : List ℕ) (old new : ShelfView) (stop : Stop) → StopsAt Wallet (Rose (old.reads wallet) (new.reads wallet)) (λ cause. told → IsWalletCause (old.files wallet) cause) stop → StopsChain told wallet blocks old new stop
+at_wallet told wallet blocks old new (stops.Read named) h =
+    (subst (λ (f : File). IsUnread wallet blocks f old new) (sym h.0) h.1, λ t. subst (λ (f : File). IsReached (old.files wallet) f) (sym h.0) tt)
+at_wallet told wallet blocks old new (stops.Refused refusal) h = λ t. record {
+  due = wallet_refused (old.files wallet) (old.files blocks) (cause_of refusal) (h t);
+  meant = wallet_meant (old.files wallet) (old.files blocks) (cause_of refusal) (h t);
+}
+at_wallet told wallet blocks old new stops.Memory h = tt
+
+-- at the blocks, which were read after the wallet
+pub at_blocks : (told : Type 0) (wallet blocks : List ℕ) (w : PlainWallet) (old middle new : ShelfView) (stop : Stop) → OnlyReads told old middle → (told → HasWallet (old.files wallet) w)
+    → StopsAt Blocks (Rose (middle.reads blocks) (new.reads blocks)) (λ cause. told → IsBlocksCause w (middle.files blocks) cause) stop → StopsChain told wallet blocks old new stop
+at_blocks told wallet blocks w old middle new (stops.Read named) only held h =
+    (subst (λ (f : File). IsUnread wallet blocks f old new) (sym h.0) (rose_earlier _ _ _ (only.reads blocks) h.1), λ t. subst (λ (f : File). IsReached (old.files wallet) f) (sym h.0) (w, held t))
+at_blocks told wallet blocks w old middle new (stops.Refused refusal) only held h = λ t.
+    let cause : IsBlocksCause w (old.files blocks) (cause_of refusal) = subst (λ (files : List ℕ → List ℕ). IsBlocksCause w (files blocks) (cause_of refusal)) (only.same t) (h t) in
+    record {
+      due = blocks_refused (old.files wallet) (old.files blocks) w (cause_of refusal) (held t) cause;
+      meant = blocks_meant (old.files wallet) (old.files blocks) w (cause_of refusal) (held t) cause;
+    }
+at_blocks told wallet blocks w old middle new stops.Memory only held h = tt
+
+-- ---- the book
+
+-- what was read has this fault
+pub book_broken : (told : Type 0) (file : List ℕ) (w : PlainWallet) (tip : Tip) (booked : Booked) (pending : List Transaction) (fault : BookFault) (cause : FileCause) → IsRead told file w tip booked → pending ≡ w.pending
+    → ((h : History) → h.pending ≡ [] → IsBooked booked h → fault_of (waiting h pending) ≡ Some fault) → cause ≡ book_cause fault → told → IsBlocksCause w file cause
+book_broken told file w tip booked pending fault cause r own broken is = λ t.
+    inr (
+      r.blocks,
+      fault,
+      r.read.whole t,
+      r.read.within t,
+      subst (λ (ts : List Transaction). fault_of (waiting (confirmed_history w r.blocks) ts) ≡ Some fault) own (broken (confirmed_history w r.blocks) refl r.booked_is),
+      is,
+    )
+
+-- ---- the request
+
+asked_cause : (file : List ℕ) (cause : FileCause) → IsAskedFault file cause → IsRequestCause file cause
+asked_cause file cause (inl h) = subst (λ (x : FileCause). IsRequestCause file x) (sym h.0) (record { due = request_long file h.1; meant = h.1 })
+asked_cause file cause (inr h) = subst (λ (x : FileCause). IsRequestCause file x) (sym h.3) (record { due = request_by file (Err h.1) h.0 h.2; meant = (h.0, h.2) })
+
+asked_stop : (told : Type 0) (name : List ℕ) (old new : ShelfView) (stop : Stop) → StopsAt Request (Rose (old.reads name) (new.reads name)) (λ cause. told → IsAskedFault (old.files name) cause) stop → StopsAsked told name old new stop
+asked_stop told name old new (stops.Read file) h = h
+asked_stop told name old new (stops.Refused refusal) h = λ t. asked_cause (old.files name) (cause_of refusal) (h t)
+asked_stop told name old new stops.Memory h = tt
+
+pub asked_stops : (told : Type 0) (name : List ℕ) (old new : ShelfView) (result : Result PlainRequest Stop) → IfErr result (StopsAt Request (Rose (old.reads name) (new.reads name)) (λ cause. told → IsAskedFault (old.files name) cause)) → IfErr result (StopsAsked told name old new)
+asked_stops told name old new (Ok request) h = tt
+asked_stops told name old new (Err stop) h = asked_stop told name old new stop h

@@ -1,0 +1,57 @@
+use Rattle.std.proofs.Common.{◌≡◌, ◌≤◌, ◌∙◌, ap, sym, subst, List, ℕ, length, arith, refl, Err, None}
+use Rattle.std.proofs.lemmas.Result.{err_from_is_err_and}
+use Rattle.block_feed.specs.Block.{ChainBlock}
+use Rattle.block_feed.specs.Feed.{StandsBefore, next_of}
+use Rattle.wallet_text.specs.PlainWallet.{PlainWallet}
+use Rattle.fund_files.proofs.FeedSteps.{so_far_none, so_far_all, so_far_fault, so_far_more}
+use Rattle.fund_files.proofs.blocks.read_blocks.Goals as goal
+
+pub reading-init : goal.reading-init
+reading-init g c =
+    let hash = ap (λ (x : PlainWallet). x.hash) c.wallet.view_is in
+    let height = ap (λ (x : PlainWallet). x.height) c.wallet.view_is in
+    rw c.new-feed.ensures (record {
+      same_file = tt;
+      fine = refl;
+      frame = record { same = λ t. refl; reads = λ name. omega arith; writes = refl };
+      so_far = so_far_none g.H.Shelf.tells ((g.H.Shelf.view c.args.shelf.now).files c.args.name.now) c.args.wallet.now (record { hash = c.wallet.inside.hash; height = c.wallet.inside.height; place = 0; fault = None; file = None }) c.in-Ok.booked refl hash height c.requires.height c.in-Ok.ensures;
+    })
+
+pub returns-in_err-block-clause-fault : goal.returns-in_err-block-clause-fault
+returns-in_err-block-clause-fault g c = λ t.
+    let p = err_from_is_err_and c.from_residual.result c.from_residual.ensures.1 in
+    rw (p.1, p.2) (λ memory read.
+    so_far_fault g.H.Shelf.tells _ _ _ _ _ _ t
+    (subst (λ (files : List ℕ → List ℕ). next_of (files c.args.name.now) c.reading.feed ≡ Err c.in_err-block.field-0.0) (c.reading.invariant.frame.same t) (c.in_err-block.ensures.exact t c.reading.invariant.fine memory read))
+    c.reading.invariant.so_far)
+
+pub returns-in_default-2-clause-read : goal.returns-in_default-2-clause-read
+returns-in_default-2-clause-read g c =
+    let before = rw c.in_default-2.is at c.in_ok-block.ensures.before in
+    let found = rw c.in_default-2.is at c.in_ok-block.ensures.found in
+    so_far_all g.H.Shelf.tells _ _ _ c.reading.feed c.next.new.self _
+    (λ t. subst (λ (files : List ℕ → List ℕ). StandsBefore (files c.args.name.now) c.reading.feed c.next.new.self None) (c.reading.invariant.frame.same t) (before t c.reading.invariant.fine))
+    (λ t. subst (λ (files : List ℕ → List ℕ). length (files c.args.name.now) ≤ 1_073_741_824) (c.reading.invariant.frame.same t) (found t c.reading.invariant.fine).1)
+    c.reading.invariant.so_far
+
+pub reading-preserved : goal.reading-preserved
+reading-preserved g c =
+    let e = c.in_ok-block.ensures in
+    let moves = rw c.in-Some.is at e.moves in
+    let linked = rw c.in-Some.is at e.linked in
+    let exact = rw c.in-Some.is at e.exact in
+    let within = rw c.in-Some.is at e.within in
+    let before = rw c.in-Some.is at e.before in
+    let hash = ap (λ (b : ChainBlock). b.hash) c.block.view_is in
+    let height = ap (λ (b : ChainBlock). b.height) c.block.view_is in
+    record {
+      same_file = e.may_go_on;
+      fine = e.fine;
+      frame = record {
+        same = λ t. e.same t ∙ c.reading.invariant.frame.same t;
+        reads = λ name. omega (arith, e.reads name, c.reading.invariant.frame.reads name);
+        writes = e.writes ∙ c.reading.invariant.frame.writes;
+      };
+      so_far = so_far_more g.H.Shelf.tells _ _ _ _ c.reading.feed c.next.new.self c.reading.booked c.in-Ok-add_block.more c.in-Some.block _ _ linked moves (λ t. ap (λ (files : List ℕ → List ℕ). files c.args.name.now) (c.reading.invariant.frame.same t))
+          (λ t. exact t c.reading.invariant.fine) (λ t. within t c.reading.invariant.fine) (λ t. before t c.reading.invariant.fine) _ _ height hash c.in-Ok-add_block.ensures c.reading.invariant.so_far;
+    }

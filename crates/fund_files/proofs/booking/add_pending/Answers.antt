@@ -1,0 +1,12 @@
+use Rattle.std.proofs.Common.{◌≡◌, Some, subst}
+use Rattle.std.specs.Prelude.{IfOk}
+use Rattle.coin_book.specs.History.{History, with_pending}
+use Rattle.fund_files.specs.Booked.{IsBooked}
+use Rattle.fund_files.specs.declared.booking.Booked.{Booked}
+use Rattle.fund_files.proofs.BookSteps.{broken_is}
+use Rattle.fund_files.proofs.booking.add_pending.Goals as goal
+
+pub returns-in-Err : goal.returns-in-Err
+returns-in-Err c = λ h is.
+    let kept = rw c.in-Kept.is at is in
+    subst (λ (x : History). IfOk c.broken.result (λ (b : Booked). IsBooked b (with_pending x c.args.tx.now))) kept.0 (broken_is c.broken.result c.in-Err.fault (with_pending c.in-Kept.book c.args.tx.now) c.broken.ensures c.in-Err.ensures.exact)

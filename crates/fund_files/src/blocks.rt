@@ -1,0 +1,105 @@
+//! The blocks of the block file, read one by one into the book.
+
+ghost use Rattle.std.specs.Prelude.{◌≡◌, ◌≢◌, Err, IfErr, IsErrOf, IfOk};
+ghost use Rattle.fund_base.specs.Causes.{OnlyReads, Rose};
+ghost use Rattle.block_feed.specs.Block.{ChainBlock};
+ghost use Rattle.block_feed.specs.Blocks.{blocks_of};
+ghost use Rattle.fund_files.specs.Behind.{IsBehind};
+ghost use Rattle.fund_files.specs.Booked.{AreRead, IsBooked, IsRead};
+ghost use Rattle.fund_files.specs.Cause.{cause_of};
+ghost use Rattle.fund_files.specs.FileStops.{IsBlocksCause, StopsAt, stop_of};
+ghost use Rattle.fund_files.specs.Outcome.{book_cause};
+ghost use Rattle.wallet_text.specs.WalletRules.{IsWallet};
+
+use crate::booking::{Booked, add_block, add_waiting, begin};
+use crate::held::Tip;
+use crate::refusal::{File, FileRefusal};
+use crate::stop::Stop;
+use block_feed::{Feed, FeedFault};
+use coin_book::{Book, BookFault};
+use fund_base::{Memory, Shelf};
+use std::alloc::Global;
+use wallet_text::Wallet;
+
+/// What the wallet's earlier transactions make with those of the file `name`, whose blocks stand behind the wallet's,
+/// and the tip. The file is read to its end whatever the book says. The error is the first fault of the file.
+fn read_blocks<H: Shelf>(
+    alloc: Global,
+    shelf: &mut H,
+    name: &str,
+    wallet: &Wallet,
+) -> Result<(Booked, Tip), FeedFault>
+    requires { IsWallet wallet.now }
+    ensures read { IfOk result (λ r. IsRead H.tells ((H.view shelf.old).files name.now) wallet.now r.1 r.0) }
+    ensures fault { H.tells → IfErr result (λ e. e ≢ FeedFault.Memory → e ≢ FeedFault.Read → blocks_of ((H.view shelf.old).files name.now) wallet.now.hash wallet.now.height ≡ Err e) }
+    ensures cause { IsErrOf result FeedFault.Read → Rose ((H.view shelf.old).reads name.now) ((H.view shelf.new).reads name.now) }
+    ensures frame { OnlyReads H.tells (H.view shelf.old) (H.view shelf.new) }
+{
+    let Ok(mut booked) = begin(alloc, wallet) else {
+        return Err(FeedFault::Memory);
+    };
+    let mut feed = Feed::new(wallet.hash, wallet.height);
+    let mut tip = Tip {
+        height: wallet.height,
+        hash: wallet.hash,
+    };
+    'reading: for _ in 0..u64::MAX {
+        let Some(block) = feed.next(alloc, shelf, name)? else {
+            return Ok((booked, tip));
+        };
+        match add_block(booked, &block) {
+            Ok(more) => booked = more,
+            Err(Memory) => return Err(FeedFault::Memory),
+        }
+        tip = Tip {
+            height: block.height,
+            hash: block.hash,
+        };
+    }
+    Err(FeedFault::Memory)
+}
+
+/// Why the reading of the blocks stops, as a stop.
+fn blocks_stop(fault: FeedFault) -> Stop
+    ensures { result ≡ stop_of fault }
+{
+    match fault {
+        FeedFault::Read => Stop::Read(File::Blocks),
+        FeedFault::Memory => Stop::Memory,
+        FeedFault::Limit => Stop::Refused(FileRefusal::TooLong(File::Blocks)),
+        _ => Stop::Refused(FileRefusal::BadBlocks(fault)),
+    }
+}
+
+/// Why a history is refused.
+fn book_refusal(fault: BookFault) -> FileRefusal
+    ensures { cause_of result ≡ book_cause fault }
+{
+    match fault {
+        BookFault::RepeatCoin(coin) => FileRefusal::RepeatCoin(coin),
+        _ => FileRefusal::ManyCoins,
+    }
+}
+
+/// The book of the wallet and of the blocks of the file `name`, and the tip.
+pub fn book_from<H: Shelf>(
+    alloc: Global,
+    shelf: &mut H,
+    name: &str,
+    wallet: &Wallet,
+) -> Result<(Book, Tip), Stop>
+    requires { IsWallet wallet.now }
+    ensures held { IfOk result (λ r. IsBehind H.tells ((H.view shelf.old).files name.now) wallet.now r.0 r.1) }
+    ensures frame { OnlyReads H.tells (H.view shelf.old) (H.view shelf.new) }
+    ensures stop { IfErr result (StopsAt File.Blocks (Rose ((H.view shelf.old).reads name.now) ((H.view shelf.new).reads name.now)) (λ cause. H.tells → IsBlocksCause wallet.now ((H.view shelf.old).files name.now) cause)) }
+{
+    let (booked, tip) = match read_blocks(alloc, shelf, name, wallet) {
+        Ok(read) => read,
+        Err(fault) => return Err(blocks_stop(fault)),
+    };
+    match add_waiting(booked, &wallet.pending) {
+        Ok(Booked::Kept(book)) => Ok((book, tip)),
+        Ok(Booked::Broken(fault)) => Err(Stop::Refused(book_refusal(fault))),
+        Err(Memory) => Err(Stop::Memory),
+    }
+}

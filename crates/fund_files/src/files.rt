@@ -1,0 +1,106 @@
+//! The wallet file, the block file and the request file, read one by one.
+
+ghost use Rattle.std.specs.Prelude.{◌≡◌, ◌≤◌, ◌<◌, length, Ok, IfOk, IfErr, OnOk};
+ghost use Rattle.fund_base.specs.Causes.{OnlyReads, Rose};
+ghost use Rattle.request_text.specs.RequestText.{request_of};
+ghost use Rattle.wallet_text.specs.WalletRules.{IsWallet};
+ghost use Rattle.wallet_text.specs.WalletText.{wallet_of};
+ghost use Rattle.fund_files.specs.Behind.{AreHeld};
+ghost use Rattle.fund_files.specs.Cause.{TooLong, cause_of};
+ghost use Rattle.fund_files.specs.Contents.{HasRequest};
+ghost use Rattle.fund_files.specs.FileStops.{IsAskedFault, IsWalletCause, StopsAsked, StopsAt, StopsChain};
+
+use crate::blocks::book_from;
+use crate::held::Held;
+use crate::refusal::{File, FileRefusal};
+use crate::stop::Stop;
+use fund_base::{ReadError, Shelf, read_whole};
+use request_text::{Request, RequestFault, read_request};
+use std::alloc::Global;
+use wallet_text::{Wallet, WalletFault, read_wallet};
+
+/// The greatest length of a wallet file, in bytes.
+const WALLET_LIMIT: usize = 16_777_216;
+
+/// The greatest length of a request file, in bytes.
+const REQUEST_LIMIT: usize = 1_048_576;
+
+/// The bytes of a file, which has this name and at most `limit` bytes; a longer one is refused.
+fn read_input<H: Shelf>(
+    alloc: Global,
+    shelf: &mut H,
+    file: File,
+    name: &str,
+    limit: usize,
+) -> Result<Vec<u8>, Stop>
+    requires { limit ≤ 1073741824 }
+    ensures bytes { H.tells → IfOk result (λ bytes. bytes.items ≡ (H.view shelf.old).files name.now) }
+    ensures fits { H.tells → OnOk result (length ((H.view shelf.old).files name.now) ≤ limit) }
+    ensures frame { OnlyReads H.tells (H.view shelf.old) (H.view shelf.new) }
+    ensures stop { IfErr result (StopsAt file (Rose ((H.view shelf.old).reads name.now) ((H.view shelf.new).reads name.now)) (λ cause. (cause ≡ TooLong file) × (H.tells → limit < length ((H.view shelf.old).files name.now)))) }
+{
+    match read_whole(alloc, shelf, name, limit) {
+        Ok(bytes) => Ok(bytes),
+        Err(ReadError::Failed) => Err(Stop::Read(file)),
+        Err(ReadError::TooLong) => Err(Stop::Refused(FileRefusal::TooLong(file))),
+        Err(ReadError::Memory) => Err(Stop::Memory),
+    }
+}
+
+/// The wallet.
+fn wallet_from<H: Shelf>(alloc: Global, shelf: &mut H, name: &str) -> Result<Wallet, Stop>
+    ensures form { H.tells → IfOk result (λ w. wallet_of ((H.view shelf.old).files name.now) ≡ Ok w) }
+    ensures rules { IfOk result IsWallet }
+    ensures fits { H.tells → OnOk result (length ((H.view shelf.old).files name.now) ≤ WALLET_LIMIT) }
+    ensures frame { OnlyReads H.tells (H.view shelf.old) (H.view shelf.new) }
+    ensures stop { IfErr result (StopsAt File.Wallet (Rose ((H.view shelf.old).reads name.now) ((H.view shelf.new).reads name.now)) (λ cause. H.tells → IsWalletCause ((H.view shelf.old).files name.now) cause)) }
+{
+    let bytes = read_input(alloc, shelf, File::Wallet, name, WALLET_LIMIT)?;
+    match read_wallet(alloc, &bytes) {
+        Ok(wallet) => Ok(wallet),
+        Err(WalletFault::Memory) => Err(Stop::Memory),
+        Err(fault) => Err(Stop::Refused(FileRefusal::BadWallet(fault))),
+    }
+}
+
+/// The wallet of the file `wallet`, which is read first, and the book of it and of the blocks of the file `blocks`, which
+/// stand behind the wallet's; and where that chain ends. A file that is refused leaves the next unread. A file is refused
+/// for its length before its form, and for its form before the coins of both files are; none is written.
+pub fn read_chain<H: Shelf>(
+    alloc: Global,
+    wallet: &str,
+    blocks: &str,
+    shelf: &mut H,
+) -> Result<Held, Stop>
+    ensures held { IfOk result (λ k. AreHeld H.tells ((H.view shelf.old).files wallet.now) ((H.view shelf.old).files blocks.now) k) }
+    ensures frame { OnlyReads H.tells (H.view shelf.old) (H.view shelf.new) }
+    ensures stop { IfErr result (StopsChain H.tells wallet.now blocks.now (H.view shelf.old) (H.view shelf.new)) }
+{
+    let wallet = wallet_from(alloc, shelf, wallet)?;
+    let (book, tip) = book_from(alloc, shelf, blocks, &wallet)?;
+    Ok(Held { wallet, book, tip })
+}
+
+/// The request.
+fn request_from<H: Shelf>(alloc: Global, shelf: &mut H, name: &str) -> Result<Request, Stop>
+    ensures form { H.tells → IfOk result (λ r. request_of ((H.view shelf.old).files name.now) ≡ Ok r) }
+    ensures fits { H.tells → OnOk result (length ((H.view shelf.old).files name.now) ≤ REQUEST_LIMIT) }
+    ensures frame { OnlyReads H.tells (H.view shelf.old) (H.view shelf.new) }
+    ensures stop { IfErr result (StopsAt File.Request (Rose ((H.view shelf.old).reads name.now) ((H.view shelf.new).reads name.now)) (λ cause. H.tells → IsAskedFault ((H.view shelf.old).files name.now) cause)) }
+{
+    let bytes = read_input(alloc, shelf, File::Request, name, REQUEST_LIMIT)?;
+    match read_request(alloc, &bytes) {
+        Ok(request) => Ok(request),
+        Err(RequestFault::Memory) => Err(Stop::Memory),
+        Err(fault) => Err(Stop::Refused(FileRefusal::BadRequest(fault))),
+    }
+}
+
+/// The request of the file `name`. It is refused for its length before its form; no file is written.
+pub fn read_asked<H: Shelf>(alloc: Global, name: &str, shelf: &mut H) -> Result<Request, Stop>
+    ensures asked { H.tells → IfOk result (HasRequest ((H.view shelf.old).files name.now)) }
+    ensures frame { OnlyReads H.tells (H.view shelf.old) (H.view shelf.new) }
+    ensures stop { IfErr result (StopsAsked H.tells name.now (H.view shelf.old) (H.view shelf.new)) }
+{
+    request_from(alloc, shelf, name)
+}

@@ -1,0 +1,44 @@
+//! A wallet, its coins, and where its chain ends.
+
+ghost use Rattle.std.specs.Prelude.{◌≡◌, IfOk};
+ghost use Rattle.fund_base.specs.Candidates.{AreCandidates};
+ghost use Rattle.payment_states.specs.Candidates.{candidates_of};
+ghost use Rattle.payment_states.specs.Payments.{payments_of};
+ghost use Rattle.fund_files.specs.Chain.{IsHeld};
+
+use coin_book::Book;
+use fund_base::{Candidate, Memory};
+use payment_states::{States, all_states, candidates};
+use std::alloc::Global;
+use wallet_text::Wallet;
+
+/// Where a chain ends.
+#[derive(Clone, Copy, Debug)]
+pub struct Tip {
+    /// The height of the last block.
+    pub height: u32,
+    /// Its hash, as a header holds it.
+    pub hash: [u8; 32],
+}
+
+/// A wallet, the book of what it and the blocks behind it hold, and where its chain ends.
+#[derive(Drop)]
+pub struct Held {
+    pub wallet: Wallet,
+    pub book: Book,
+    pub tip: Tip,
+}
+
+impl Held {
+    /// What has become of the pending payments, and the coins that may be spent.
+    pub fn states_and_coins(&self, alloc: Global) -> Result<(States, Vec<Candidate>), Memory>
+        requires { IsHeld self.now }
+        ensures states { IfOk result (λ r. r.0 ≡ payments_of self.now.wallet self.now.book) }
+        ensures coins { IfOk result (λ r. r.1.items ≡ candidates_of self.now.wallet self.now.book self.now.tip.height) }
+        ensures fit { IfOk result (λ r. AreCandidates r.1.items) }
+    {
+        let states = all_states(alloc, &self.book, &self.wallet)?;
+        let coins = candidates(alloc, &self.book, &self.wallet, &states, self.tip.height)?;
+        Ok((states, coins))
+    }
+}

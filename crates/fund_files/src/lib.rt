@@ -1,0 +1,17 @@
+//! From files to values: the wallet file and the block file to the wallet, the book of its coins and where its chain
+//! ends; the request file to the request. Nothing else of Ninelace reads files that a user gives.
+#![tactic(auto)]
+
+mod blocks;
+mod booking;
+mod files;
+mod held;
+mod laws;
+mod refusal;
+mod stop;
+
+pub use files::{read_asked, read_chain};
+pub use held::{Held, Tip};
+pub use laws::chains_are_due;
+pub use refusal::{File, FileRefusal};
+pub use stop::Stop;

@@ -1,0 +1,2 @@
+pub mod ParentLaws
+pub mod ReportLines

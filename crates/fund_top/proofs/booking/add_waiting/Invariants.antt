@@ -1,8 +1,0 @@
-use Rattle.std.proofs.Common.{◌≡◌, [], take}
-use Rattle.coin_book.specs.History.{History}
-use Rattle.fund_top.specs.Booked.{IsBooked}
-use Rattle.fund_top.proofs.BookSteps.{waiting}
-use Rattle.fund_top.proofs.booking.add_waiting.Given as goal
-
-abbrev pub invariant-loop-tx : goal.invariant-loop-tx
-invariant-loop-tx l = (h : History) → h.pending ≡ [] → IsBooked l.initial.booked h → IsBooked l.booked (waiting h (take l.tx-index l.pending))

@@ -1,4 +1,0 @@
-use Rattle.fund_top.proofs.output.refuse_write.Goals as goal
-
-pub returns-in-Ok-clause-line : goal.returns-in-Ok-clause-line
-returns-in-Ok-clause-line g c = rw (c.as_str.ensures.value, c.in-Ok.ensures) at c.put_fault.ensures.line

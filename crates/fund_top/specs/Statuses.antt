@@ -1,0 +1,100 @@
+-- How a command ends, by its status.
+use Rattle.std.specs.Prelude.{ℕ, ◌≡◌, List, Option, Some, None}
+use Rattle.fund_base.specs.Causes.{ShelfView, SinkView, Rose, SameElsewhere}
+use Rattle.fund_files.specs.FileStops as files
+use Rattle.fund_files.specs.declared.refusal.File.{File}
+use Rattle.command_end.specs.Names.{Sources}
+use Rattle.command_end.specs.declared.status.Status.{Status}
+use Rattle.command_end.specs.declared.status.Status.TheVariants as statuses
+use Rattle.command_coins.specs.Statuses as listings
+use Rattle.command_fund.specs.Cause.{status_of_cause}
+use Rattle.command_fund.specs.Inputs as inputs
+use Rattle.command_fund.specs.Names.{Payment}
+use Rattle.command_fund.specs.Statuses as payments
+use Rattle.fund_top.specs.Due.{Outcome, Refused, Listed, NoSelection, Funded}
+use Rattle.fund_top.specs.Words.{Command, Coins, Fund}
+
+-- the status of what the files come to, where nothing fails
+abbrev pub status_of : Outcome → Status
+status_of (Refused cause) = status_of_cause cause
+status_of (Listed listing) = statuses.Done
+status_of NoSelection = statuses.NoSelection
+status_of (Funded report) = statuses.Done
+
+-- the sources of a command that lists coins have this
+abbrev pub WhereListing : Option Command → (Sources → Type 0) → Type 0
+WhereListing None P = Unit {0}
+WhereListing (Some (Coins s)) P = P s
+WhereListing (Some (Fund s p)) P = Unit {0}
+
+-- the files of a command that funds a payment have this
+abbrev pub WhereFunding : Option Command → (Sources → Payment → Type 0) → Type 0
+WhereFunding None P = Unit {0}
+WhereFunding (Some (Coins s)) P = Unit {0}
+WhereFunding (Some (Fund s p)) P = P s p
+
+-- done: a listing, or a payment with its log
+abbrev pub EndsDone : Type 0 → Type 0 → Command → ShelfView → ShelfView → SinkView → SinkView → Type 0
+EndsDone told_files told (Coins s) shelf shelf' sink sink' = listings.EndsListed told_files told s shelf sink sink'
+EndsDone told_files told (Fund s p) shelf shelf' sink sink' = payments.EndsFunded told_files told s p shelf shelf' sink sink'
+
+-- no selection, which no listing ends with
+abbrev pub EndsNotFunded : Type 0 → Type 0 → Command → ShelfView → ShelfView → SinkView → SinkView → Type 0
+EndsNotFunded told_files told (Coins s) shelf shelf' sink sink' = ⊥
+EndsNotFunded told_files told (Fund s p) shelf shelf' sink sink' = payments.EndsNotFunded told_files told s p shelf shelf' sink sink'
+
+-- a refusal of this status, whose cause the files come to where they are told, with its line
+abbrev pub EndsRefused : Status → Type 0 → Type 0 → Command → ShelfView → SinkView → SinkView → Type 0
+EndsRefused status told_files told (Coins s) shelf sink sink' = listings.EndsRefused status told_files told s shelf sink sink'
+EndsRefused status told_files told (Fund s p) shelf sink sink' = payments.EndsRefused status told_files told s p shelf sink sink'
+
+-- a file of the command wasn't read, those before it being in order, and the line names it
+abbrev pub EndsUnread : Type 0 → Type 0 → Command → ShelfView → ShelfView → SinkView → SinkView → Type 0
+EndsUnread told_files told (Coins s) shelf shelf' sink sink' = listings.EndsUnread told_files told s shelf shelf' sink sink'
+EndsUnread told_files told (Fund s p) shelf shelf' sink sink' = payments.EndsUnread told_files told s p shelf shelf' sink sink'
+
+-- nothing is refused, and the log wasn't written, or the sink failed and has got a part of what is due
+abbrev pub EndsUnwritten : Type 0 → Type 0 → Command → ShelfView → ShelfView → SinkView → SinkView → Type 0
+EndsUnwritten told_files told (Coins s) shelf shelf' sink sink' = listings.EndsUnwritten told_files told s shelf sink sink'
+EndsUnwritten told_files told (Fund s p) shelf shelf' sink sink' = payments.EndsUnwritten told_files told s p shelf shelf' sink sink'
+
+-- there was not enough memory, and the line says so, or the sink found none and has got a part of what is due
+abbrev pub EndsWithoutMemory : Type 0 → Type 0 → Command → ShelfView → ShelfView → SinkView → SinkView → Type 0
+EndsWithoutMemory told_files told (Coins s) shelf shelf' sink sink' = listings.EndsWithoutMemory told_files told s shelf sink sink'
+EndsWithoutMemory told_files told (Fund s p) shelf shelf' sink sink' = payments.EndsWithoutMemory told_files told s p shelf shelf' sink sink'
+
+-- by the status
+abbrev pub Ends : Type 0 → Type 0 → Command → ShelfView → ShelfView → SinkView → SinkView → Status → Type 0
+Ends told_files told c shelf shelf' sink sink' statuses.Done = EndsDone told_files told c shelf shelf' sink sink'
+Ends told_files told c shelf shelf' sink sink' statuses.NoSelection = EndsNotFunded told_files told c shelf shelf' sink sink'
+Ends told_files told c shelf shelf' sink sink' statuses.Usage = ⊥
+Ends told_files told c shelf shelf' sink sink' statuses.Input = EndsRefused statuses.Input told_files told c shelf sink sink'
+Ends told_files told c shelf shelf' sink sink' statuses.Limit = EndsRefused statuses.Limit told_files told c shelf sink sink'
+Ends told_files told c shelf shelf' sink sink' statuses.ReadFault = EndsUnread told_files told c shelf shelf' sink sink'
+Ends told_files told c shelf shelf' sink sink' statuses.WriteFault = EndsUnwritten told_files told c shelf shelf' sink sink'
+Ends told_files told c shelf shelf' sink sink' statuses.Memory = EndsWithoutMemory told_files told c shelf shelf' sink sink'
+
+-- what a command leaves as it was: every file, but for the log of a payment
+abbrev pub KeepsOthers : Command → (List ℕ → List ℕ) → (List ℕ → List ℕ) → Type 0
+KeepsOthers (Coins s) old new = new ≡ old
+KeepsOthers (Fund s p) old new = SameElsewhere p.log old new
+
+-- a read of this file of the command failed
+abbrev pub IsUnread : Command → File → ShelfView → ShelfView → Type 0
+IsUnread (Coins s) file shelf shelf' = files.IsUnread s.wallet s.blocks file shelf shelf'
+IsUnread (Fund s p) file shelf shelf' = inputs.IsUnread s p file shelf shelf'
+
+-- no read of a file of the command failed
+abbrev pub NoneUnread : Command → ShelfView → ShelfView → Type 0
+NoneUnread c shelf shelf' = (file : File) → IsUnread c file shelf shelf' → ⊥
+
+-- the writing of its log failed
+abbrev pub IsLogUnwritten : Command → ShelfView → ShelfView → Type 0
+IsLogUnwritten (Coins s) shelf shelf' = ⊥
+IsLogUnwritten (Fund s p) shelf shelf' = Rose (shelf.writes p.log) (shelf'.writes p.log)
+
+-- neither, nor did the sink fail
+pub record NoneFailed (c : Command) (shelf shelf' : ShelfView) (sink sink' : SinkView) : Type 0 where
+  pub reads : NoneUnread c shelf shelf'
+  pub log : IsLogUnwritten c shelf shelf' → ⊥
+  pub sinks : Rose sink.faults sink'.faults → ⊥
