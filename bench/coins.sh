@@ -1,5 +1,5 @@
 #!/usr/bin/env bash
-# Times the book of 10,000 and of 100,000 coins by crates/coin_bench, in blocks of 20 coins each, the best of three, and
+# Times the book of 10,000 and of 100,000 coins by crates/bench_all, in blocks of 20 coins each, the best of three, and
 # prints the seconds, the greatest memory, and how many times the first the second takes: about 10 where the time grows
 # with the number of coins, and up to 12 is thought fine. The time has the reading of the blocks in it. A step that fails
 # ends it with a non-zero status; a time never does.
@@ -9,14 +9,14 @@ set -euo pipefail
 export LC_ALL=C
 
 top=$(cd "$(dirname "$0")/.." && pwd)
-program=$top/crates/coin_bench/out/coin_bench
+program=$top/crates/bench_all/out/bench_all
 folder=$(mktemp -d)
 trap 'rm -rf "$folder"' EXIT
 
 # Proves and builds the program, and runs it on the small files of its folder data/.
-cd "$top/crates/coin_bench"
-rt run -- data/wallet.json data/blocks.dat >"$folder/small.txt" 2>"$folder/build.log" || { cat "$folder/build.log" >&2; exit 1; }
-cmp "$folder/small.txt" stdout
+cd "$top/crates/bench_all"
+rt run -- coins data/coins.json data/coins.dat >"$folder/small.txt" 2>"$folder/build.log" || { cat "$folder/build.log" >&2; exit 1; }
+grep -qxF "$(cat "$folder/small.txt")" stdout
 
 echo "load:   $(cut -d' ' -f1-3 /proc/loadavg) on $(nproc) processors"
 first=
@@ -27,13 +27,13 @@ for coins in 10000 100000; do
     best=
     for _ in 1 2 3; do
         start=$(date +%s%N)
-        "$program" "$wallet" "$blocks" >"$folder/printed.txt"
+        "$program" coins "$wallet" "$blocks" >"$folder/printed.txt"
         end=$(date +%s%N)
         read -r printed <"$folder/printed.txt"
         [ "$printed" = "$made" ] || { echo "made: $made; printed: $printed" >&2; exit 1; }
         if [ -z "$best" ] || [ $((end - start)) -lt "$best" ]; then best=$((end - start)); fi
     done
-    memory=$(python3 - "$program" "$wallet" "$blocks" <<'PYTHON'
+    memory=$(python3 - "$program" coins "$wallet" "$blocks" <<'PYTHON'
 import resource, subprocess, sys
 subprocess.run(sys.argv[1:], stdout=subprocess.DEVNULL, check=True)
 print(resource.getrusage(resource.RUSAGE_CHILDREN).ru_maxrss // 1024)

@@ -1,5 +1,5 @@
 #!/usr/bin/env bash
-# Times `coins` over a wallet of 100,000 coins, beside the reading of the same wallet file by crates/wallet_bench: with 5,000
+# Times `coins` over a wallet of 100,000 coins, beside the reading of the same wallet file by crates/bench_all: with 5,000
 # pending payments in chains of 25, and with as many in one chain, the worst case for counting ancestors. Prints the best of
 # three each, in seconds. A step that fails ends it with a non-zero status; a time never does.
 #
@@ -9,7 +9,7 @@ export LC_ALL=C
 
 top=$(cd "$(dirname "$0")/.." && pwd)
 program=$top/crates/fund_cli/out/fund_cli
-reader=$top/crates/wallet_bench/out/wallet_bench
+reader=$top/crates/bench_all/out/bench_all
 folder=$(mktemp -d)
 trap 'rm -rf "$folder"' EXIT
 
@@ -20,7 +20,7 @@ build() {
     rt run -- "$@" >"$folder/small.txt" 2>"$folder/build.log" || { cat "$folder/build.log" >&2; exit 1; }
 }
 build fund_cli coins data/wallet.json data/blocks.dat
-build wallet_bench data/wallet.json
+build bench_all wallet data/wallet.json
 
 # The least of three times, in nanoseconds.
 best() {
@@ -38,7 +38,7 @@ echo "load:   $(cut -d' ' -f1-3 /proc/loadavg) on $(nproc) processors"
 : >"$folder/blocks.dat"
 for chain in 25 5000; do
     made=$(python3 "$top/bench/make_states.py" "$folder/wallet.json" --seed "${1:-1}" --chain "$chain")
-    read_time=$(best "$reader" "$folder/wallet.json")
+    read_time=$(best "$reader" wallet "$folder/wallet.json")
     list_time=$(best "$program" coins "$folder/wallet.json" "$folder/blocks.dat")
     lines=$(wc -l <"$folder/printed.txt")
     awk -v r="$read_time" -v l="$list_time" -v made="$made" -v lines="$lines" \

@@ -1,5 +1,5 @@
 #!/usr/bin/env bash
-# Times the reading of wallet files of 1, 4 and 16 MiB by crates/wallet_bench, the best of three each, and prints the
+# Times the reading of wallet files of 1, 4 and 16 MiB by crates/bench_all, the best of three each, and prints the
 # seconds, the seconds for a MiB, and the greatest memory. A step that fails ends it with a non-zero status; a time never
 # does.
 #
@@ -8,14 +8,14 @@ set -euo pipefail
 export LC_ALL=C
 
 top=$(cd "$(dirname "$0")/.." && pwd)
-program=$top/crates/wallet_bench/out/wallet_bench
+program=$top/crates/bench_all/out/bench_all
 folder=$(mktemp -d)
 trap 'rm -rf "$folder"' EXIT
 
 # Proves and builds the program, and runs it on the small file of its folder data/.
-cd "$top/crates/wallet_bench"
-rt run -- data/wallet.json >"$folder/small.txt" 2>"$folder/build.log" || { cat "$folder/build.log" >&2; exit 1; }
-cmp "$folder/small.txt" stdout
+cd "$top/crates/bench_all"
+rt run -- wallet data/wallet.json >"$folder/small.txt" 2>"$folder/build.log" || { cat "$folder/build.log" >&2; exit 1; }
+grep -qxF "$(cat "$folder/small.txt")" stdout
 
 echo "load:   $(cut -d' ' -f1-3 /proc/loadavg) on $(nproc) processors"
 for size in 1 4 16; do
@@ -24,13 +24,13 @@ for size in 1 4 16; do
     best=
     for _ in 1 2 3; do
         start=$(date +%s%N)
-        "$program" "$file" >"$folder/printed.txt"
+        "$program" wallet "$file" >"$folder/printed.txt"
         end=$(date +%s%N)
         read -r printed <"$folder/printed.txt"
         [ "$printed" = "$made" ] || { echo "made: $made; read: $printed" >&2; exit 1; }
         if [ -z "$best" ] || [ $((end - start)) -lt "$best" ]; then best=$((end - start)); fi
     done
-    memory=$(python3 - "$program" "$file" <<'PYTHON'
+    memory=$(python3 - "$program" wallet "$file" <<'PYTHON'
 import resource, subprocess, sys
 subprocess.run(sys.argv[1:], stdout=subprocess.DEVNULL, check=True)
 print(resource.getrusage(resource.RUSAGE_CHILDREN).ru_maxrss // 1024)

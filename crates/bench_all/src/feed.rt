@@ -1,0 +1,41 @@
+//! Reading a block file whole.
+
+use block_feed::{Feed, FeedFault};
+use fund_base::{FileShelf, Shelf};
+use std::alloc::Global;
+use std::io;
+
+/// How many blocks were read, and how many transactions are in them.
+#[derive(Clone, Copy)]
+struct Counts {
+    blocks: u64,
+    txs: u64,
+}
+
+/// Reads the blocks of the file `name`, from 32 zero bytes and height 0 to its end, and counts them and their
+/// transactions.
+fn counts_of<H: Shelf>(alloc: Global, shelf: &mut H, name: &str) -> Result<Counts, FeedFault> {
+    let mut feed = Feed::new([0; 32], 0);
+    let mut txs: u64 = 0;
+    for blocks in 0..u64::MAX {
+        let Some(block) = feed.next(alloc, shelf, name)? else {
+            return Ok(Counts { blocks, txs });
+        };
+        txs = txs.saturating_add(block.txs.len() as u64);
+    }
+    let blocks = u64::MAX;
+    Ok(Counts { blocks, txs })
+}
+
+/// Prints how many blocks and transactions a block file has, or the first fault.
+pub fn read_blocks(rt: &HostRuntime, name: &str) -> io::Result<bool> {
+    let mut shelf = FileShelf::new(rt);
+    match counts_of(rt.alloc(), &mut shelf, name) {
+        Ok(counts) => println!(rt; "{} blocks, {} transactions", counts.blocks, counts.txs)?,
+        Err(fault) => {
+            println!(rt; "{fault:?}")?;
+            return Ok(false);
+        }
+    }
+    Ok(true)
+}

@@ -1,0 +1,51 @@
+//! The calls that the benchmarks time, each a command that prints what it counted, or the first fault:
+//!
+//! - `feed BLOCKS` reads a block file, from 32 zero bytes and height 0 to its end;
+//! - `wallet WALLET` reads a wallet file;
+//! - `coins WALLET BLOCKS` makes the book of a wallet's coins, and adds the blocks of a file that stand behind it;
+//! - `walk FILE TRIES ROUNDS` walks the problem of a file ROUNDS times, each with TRIES tries;
+//! - `groups COUNT` finds the pool of made-up coins, and with `timed` behind it prints the times too.
+//!
+//! Commands are parted by the word `then`. The status is 1 where one of them failed.
+#![tactic(auto)]
+
+mod book;
+mod feed;
+mod groups;
+mod walk;
+mod wallet;
+
+use std::process::ExitCode;
+use std::{env, io};
+
+/// Does a command, and tells whether it went well.
+fn act(rt: &HostRuntime, command: &[&str]) -> io::Result<bool> {
+    match command {
+        ["feed", blocks] => feed::read_blocks(rt, blocks),
+        ["wallet", wallet] => wallet::read_file(rt, wallet),
+        ["coins", wallet, blocks] => book::fill(rt, wallet, blocks),
+        ["walk", file, tries, rounds] => walk::walk_file(rt, file, tries, rounds),
+        ["groups", count] => groups::find(rt, count, false),
+        ["groups", count, "timed"] => groups::find(rt, count, true),
+        _ => {
+            println!(rt;
+                "feed BLOCKS | wallet WALLET | coins WALLET BLOCKS | groups COUNT [timed] | walk FILE TRIES ROUNDS"
+            )?;
+            Ok(false)
+        }
+    }
+}
+
+fn main(rt: HostRuntime) -> io::Result<ExitCode> {
+    let words: Vec<String> = env::args(&rt)?.skip(1).collect(rt.alloc())?;
+    let words: Vec<&str> = words.iter().map(|word| word.as_str()).collect(rt.alloc())?;
+    let mut went_well = true;
+    for command in words.as_slice().split(|word| *word == "then") {
+        went_well = act(&rt, command)? && went_well;
+    }
+    Ok(if went_well {
+        ExitCode::SUCCESS
+    } else {
+        ExitCode::FAILURE
+    })
+}

@@ -1,0 +1,126 @@
+//! Does the commands on files in memory, surely and with failures that are told beforehand, and words that are no
+//! command, and prints for each the status, what was printed and the log. What it must print was worked out apart from
+//! this program.
+#![tactic(auto)]
+
+use fund_base::{FileShelf, MemShelf, MemSink, StdSink, SureShelf, SureSink, put_all, read_whole};
+use fund_top::{Status, run, run_in_memory};
+use std::alloc::Global;
+use std::io;
+
+const FUND: [&str; 5] = ["fund", "wallet.json", "blocks.dat", "request.json", "log"];
+
+const COINS: [&str; 3] = ["coins", "wallet.json", "blocks.dat"];
+
+fn words(alloc: Global, texts: &[&str]) -> io::Result<Vec<String>> {
+    let mut words = Vec::new(alloc);
+    for text in texts {
+        words.push(String::from_str(alloc, *text)?)?;
+    }
+    Ok(words)
+}
+
+/// The files of the system, taken into memory.
+fn files(rt: &HostRuntime) -> io::Result<Vec<(String, Vec<u8>)>> {
+    let alloc = rt.alloc();
+    let mut shelf = FileShelf::new(rt);
+    let mut files = Vec::new(alloc);
+    for name in ["wallet.json", "blocks.dat", "request.json"] {
+        if let Ok(bytes) = read_whole(alloc, &mut shelf, name, 1_048_576) {
+            files.push((String::from_str(alloc, name)?, bytes))?;
+        }
+    }
+    Ok(files)
+}
+
+/// Prints how a command ended.
+fn show(
+    rt: &HostRuntime,
+    row: &str,
+    status: Status,
+    printed: &[u8],
+    log: Option<&[u8]>,
+) -> io::Result<()> {
+    let mut out = StdSink::new(rt);
+    println!(rt; "{}: status {}", row, status.code())?;
+    let _ = put_all(&mut out, printed);
+    let _ = put_all(&mut out, log.unwrap_or(b"no log\n"));
+    Ok(())
+}
+
+/// A command on files that never fail.
+fn surely(
+    rt: &HostRuntime,
+    row: &str,
+    texts: &[&str],
+    files: Vec<(String, Vec<u8>)>,
+) -> io::Result<()> {
+    let alloc = rt.alloc();
+    let words = words(alloc, texts)?;
+    let mut shelf = SureShelf::new(alloc, files);
+    let mut sink = SureSink::new(alloc);
+    let status = run_in_memory(alloc, &words, &mut shelf, &mut sink);
+    show(rt, row, status, sink.written(), shelf.file("log"))
+}
+
+/// A payment where reads, writes and puts of these numbers fail, from 0 on.
+fn failing(
+    rt: &HostRuntime,
+    row: &str,
+    reads: &[u64],
+    writes: &[u64],
+    puts: &[u64],
+) -> io::Result<()> {
+    let alloc = rt.alloc();
+    let words = words(alloc, &FUND)?;
+    let reads = Vec::from_slice(alloc, reads)?;
+    let writes = Vec::from_slice(alloc, writes)?;
+    let mut shelf = MemShelf::new(alloc, files(rt)?, reads, writes);
+    let mut sink = MemSink::new(alloc, Vec::from_slice(alloc, puts)?);
+    let status = run(alloc, &words, &mut shelf, &mut sink);
+    show(rt, row, status, sink.written(), shelf.file("log"))
+}
+
+/// Words on no files at all. The log is the file `a`.
+fn without_files(rt: &HostRuntime, row: &str, texts: &[&str]) -> io::Result<()> {
+    let alloc = rt.alloc();
+    let words = words(alloc, texts)?;
+    let mut shelf = MemShelf::new(alloc, Vec::new(alloc), Vec::new(alloc), Vec::new(alloc));
+    let mut sink = MemSink::new(alloc, Vec::new(alloc));
+    let status = run(alloc, &words, &mut shelf, &mut sink);
+    show(rt, row, status, sink.written(), shelf.file("a"))
+}
+
+/// Words that are no command.
+fn no_commands(rt: &HostRuntime) -> io::Result<()> {
+    without_files(rt, "fund with two names", &["fund", "a", "b"])?;
+    without_files(
+        rt,
+        "a log that is the wallet",
+        &["fund", "a", "b", "c", "a"],
+    )?;
+    without_files(rt, "fund with an empty name", &["fund", "a", "", "c", "d"])?;
+    without_files(rt, "coins with an empty name", &["coins", "a", ""])?;
+    without_files(rt, "coins with four names", &["coins", "a", "b", "c", "d"])
+}
+
+fn main(rt: HostRuntime) -> io::Result<()> {
+    surely(&rt, "fund", &FUND, files(&rt)?)?;
+    surely(&rt, "coins", &COINS, files(&rt)?)?;
+    surely(
+        &rt,
+        "an empty wallet",
+        &["coins", "a", "b"],
+        Vec::new(rt.alloc()),
+    )?;
+    no_commands(&rt)?;
+    failing(&rt, "none fails", &[], &[], &[])?;
+    // The wallet and the request are read twice each, the second time at their end, and the empty block file once.
+    failing(&rt, "first read fails", &[0], &[], &[])?;
+    failing(&rt, "third read fails", &[2], &[], &[])?;
+    failing(&rt, "fifth read fails", &[4], &[], &[])?;
+    failing(&rt, "sixth read fails", &[5], &[], &[])?;
+    failing(&rt, "first write fails", &[], &[0], &[])?;
+    failing(&rt, "first put fails", &[], &[], &[0])?;
+    Ok(())
+}

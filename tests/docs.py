@@ -1,0 +1,143 @@
+#!/usr/bin/env python3
+"""Checks the pages: links lead somewhere, names stand in the sources, the example is the stored
+run's, and sentences and cells are short.
+
+    python3 tests/docs.py
+
+A sentence has up to 30 words, a cell of a table up to 40. docs/PROVED.md is made from the sources, so that only its links
+are checked; tests/proved.sh checks the page itself.
+"""
+
+import re
+import sys
+from pathlib import Path
+
+TOP = Path(__file__).resolve().parent.parent
+PAGES = [TOP / "README.md", *sorted((TOP / "docs").glob("*.md"))]
+KIT = {"start_io", "start_lib", "tail_from", "rows_"}  # words of the kit, and examples
+AVOIDED = ["want of memory", " reckon", "reckoned"]
+faults = []
+
+
+def words(text):
+    text = re.sub(r"\]\([^)]*\)", "]", re.sub(r"`[^`]*`", "X", text))
+    return len([w for w in text.split() if re.search(r"\w", w)])
+
+
+def parts_of(page):
+    """The lines of a page that stand in no fenced block, with their numbers."""
+    fenced = False
+    for number, line in enumerate(page.read_text().split("\n"), 1):
+        if line.startswith("```"):
+            fenced = not fenced
+        elif not fenced:
+            yield number, line
+
+
+def anchors_of(page):
+    names = set()
+    for _, line in parts_of(page):
+        if line.startswith("#"):
+            title = re.sub(r"[^\w\- ]", "", line.lstrip("#").strip().lower())
+            names.add(title.replace(" ", "-"))
+    return names
+
+
+def check_links(page):
+    for number, line in parts_of(page):
+        for target in re.findall(r"\]\(([^)]+)\)", re.sub(r"`[^`]*`", "X", line)):
+            if re.match(r"\w+://", target):
+                continue
+            path, _, anchor = target.partition("#")
+            file = (page.parent / path).resolve() if path else page
+            if not file.exists():
+                faults.append(f"{page.name}:{number}: no file {target}")
+            elif anchor and file.suffix == ".md" and anchor not in anchors_of(file):
+                faults.append(f"{page.name}:{number}: no heading {target}")
+
+
+def check_sentences(page, number, text):
+    for sentence in re.split(r"(?<=[.!?])\s+", text):
+        count = words(sentence)
+        if count > 30:
+            faults.append(f"{page.name}:{number}: {count} words: {sentence[:80]}")
+
+
+def check_words(page):
+    paragraph, first = [], 0
+    for number, line in [*parts_of(page), (0, "")]:
+        for word in AVOIDED:
+            if word in line:
+                faults.append(f"{page.name}:{number}: {word.strip()}")
+        new = not line.strip() or line.startswith(("#", "|")) or re.match(r"\s*([-*]|\d+\.) ", line)
+        if new and paragraph:
+            check_sentences(page, first, " ".join(paragraph))
+            paragraph = []
+        if line.startswith("|"):
+            for cell in line.strip("|").split("|"):
+                if words(cell) > 40:
+                    faults.append(f"{page.name}:{number}: a cell of {words(cell)} words: {cell[:80]}")
+                check_sentences(page, number, cell)
+        elif line.strip() and not line.startswith("#"):
+            first = first if paragraph else number
+            paragraph.append(line.strip())
+
+
+def check_definitions():
+    page = TOP / "docs" / "DEFINITIONS.md"
+    for number, line in parts_of(page):
+        files = re.findall(r"\(\.\./(crates/\w+/specs/[\w/]+\.antt)\)", line)
+        if not line.startswith("|") or not files:
+            continue
+        texts = [(TOP / file).read_text() for file in files if (TOP / file).is_file()]
+        for name in re.findall(r"`([^`]+)`", line.split("|")[2]):
+            if not any(re.search(rf"(?<![\w'-]){re.escape(name)}(?![\w'-])\s*[:({{]", text) for text in texts):
+                faults.append(f"DEFINITIONS.md:{number}: {name} isn't defined in {', '.join(files)}")
+
+
+def check_names():
+    """Names of code that a page gives stand somewhere in the sources."""
+    known = set()
+    for folder in ("crates", "bench", "tests", "tools", "edits"):
+        for path in (TOP / folder).rglob("*"):
+            if path.suffix in (".rt", ".antt", ".py", ".sh", ".edit", ".json"):
+                known.update(re.findall(r"\w+", path.read_text()))
+            known.update(re.findall(r"\w+", path.name) if "out" not in path.parts else [])
+    known.update(re.findall(r"\w+", (TOP / "crates.txt").read_text()))
+    for page in PAGES:
+        for number, line in parts_of(page) if page.name != "PROVED.md" else []:
+            if page.name == "DEFINITIONS.md" and line.startswith("|"):
+                line = line.rsplit("|", 2)[0]  # without the source, which names other projects' code
+            for name in re.findall(r"`([A-Za-z_][\w:]*)`", line):
+                for part in name.split("::"):
+                    if "_" in part and not part.isupper() and part not in known | KIT:
+                        faults.append(f"{page.name}:{number}: `{name}` stands nowhere in the sources")
+
+
+def check_map():
+    """Each crate of crates.txt stands in the map."""
+    shown = set(re.findall(r"\w+", (TOP / "docs" / "MAP.md").read_text()))
+    for line in (TOP / "crates.txt").read_text().splitlines():
+        name = line.split("#")[0].split(":")[0].strip()
+        if name and name.split()[0] not in shown:
+            faults.append(f"MAP.md: {name} is missing")
+
+
+def check_example():
+    """The report that the pages show is the one that the stored run of fund_cli prints."""
+    printed = (TOP / "crates" / "fund_cli" / "stdout").read_text()
+    for page in (TOP / "README.md", TOP / "docs" / "FORMATS.md"):
+        if f"```\n{printed}```" not in page.read_text():
+            faults.append(f"{page.name}: the report isn't that of crates/fund_cli/stdout")
+
+
+for page in PAGES:
+    check_links(page)
+    if page.name != "PROVED.md":
+        check_words(page)
+check_definitions()
+check_names()
+check_map()
+check_example()
+print("\n".join(faults) or "the pages are in order")
+sys.exit(1 if faults else 0)
