@@ -9,6 +9,7 @@ mod numbers;
 mod plain;
 mod shelves;
 mod sinks;
+mod system;
 
 use fund_base::Memory;
 use std::alloc::Global;
@@ -39,5 +40,6 @@ fn main(rt: HostRuntime) -> io::Result<()> {
     }
     plain::show(&rt)?;
     shelves::show(&rt)?;
-    sinks::show(&rt)
+    sinks::show(&rt)?;
+    system::show(&rt)
 }

@@ -4,10 +4,13 @@
 //! - `walk KIND LO HI WEIGHT ITEMS TRIES`: after the last of the numbers of tries whether the walk is done, its best, that
 //!   one's score, the tries that were made, and the letters; where it stands after each of them, made in pieces; and at
 //!   how many of these positions a walk that is restored there goes on to the same end
+//! - `tails KIND LO HI WEIGHT ITEMS`: of each place and the one behind the last, the later value and the least weight, and
+//!   of each place the end of its run of twins
 //! - `restore KIND LO HI WEIGHT ITEMS CHOSEN NEXT BEST TRIES STATE LETTERS`: what a walk that is restored there comes to in
 //!   1,000 tries, or that there is none
 #![tactic(auto)]
 
+mod tails;
 mod walk;
 mod walks;
 
@@ -74,6 +77,10 @@ fn restored(alloc: Global, columns: &[&str]) -> Result<String, Memory> {
 fn answer(alloc: Global, columns: &[&str]) -> Result<String, Memory> {
     match columns {
         ["walk", problem @ .., tries] => walk_of(alloc, problem, tries),
+        ["tails", problem @ ..] => match problem_in(alloc, problem)? {
+            Some(problem) => tails::tails_text(alloc, &problem),
+            None => no_problem(alloc),
+        },
         ["restore", columns @ ..] => restored(alloc, columns),
         _ => Ok(String::from_str(alloc, "no such row")?),
     }
