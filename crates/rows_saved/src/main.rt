@@ -1,0 +1,60 @@
+//! Reads rows, each a verb and its columns with tabs between them, and prints what each comes to. What it must print was
+//! worked out apart from this program. In a text `\n`, `\t` and `\\` are a line feed, a tab and a backslash, `\xHH` is the
+//! byte HH, and `-` alone is the empty text.
+//!
+//! - `text TEXT`: the saved position, and below it what is written of it, where that is another text; or where the bytes
+//!   leave the grammar
+#![tactic(auto)]
+
+mod escape;
+mod shown;
+
+use escape::{escaped, unescaped};
+use fund_base::Memory;
+use search_keep::{read_saved, write_saved};
+use shown::{fault_text, saved_text};
+use std::alloc::Global;
+use std::io;
+use std::io::{BufRead, BufReader};
+
+/// What a text comes to.
+fn told(alloc: Global, column: &str) -> Result<String, Memory> {
+    let bytes = unescaped(alloc, column.as_bytes())?;
+    let saved = match read_saved(alloc, bytes.as_slice()) {
+        Ok(saved) => saved,
+        Err(fault) => return fault_text(alloc, fault),
+    };
+    let mut out = String::from_str(alloc, "ok\t")?;
+    out.push_str(saved_text(alloc, &saved)?.as_str())?;
+    let written = write_saved(alloc, &saved)?;
+    if written.as_slice() != bytes.as_slice() {
+        out.push_str("\nwritten ")?;
+        out.push_str(escaped(alloc, written.as_slice())?.as_str())?;
+    }
+    Ok(out)
+}
+
+/// What the columns of a row come to.
+fn answer(alloc: Global, columns: &[&str]) -> Result<String, Memory> {
+    match columns {
+        ["text", text] => told(alloc, text),
+        _ => Ok(String::from_str(alloc, "no such row")?),
+    }
+}
+
+/// What a line comes to.
+fn line_answer(alloc: Global, line: &str) -> Result<String, Memory> {
+    let columns: Vec<&str> = line.split('\t').collect(alloc)?;
+    answer(alloc, &columns)
+}
+
+fn main(rt: HostRuntime) -> io::Result<()> {
+    let alloc = rt.alloc();
+    for line in BufReader::new(alloc, rt.reader())?.lines(alloc) {
+        match line_answer(alloc, line?.as_str()) {
+            Ok(text) => println!(rt; "{text}")?,
+            Err(Memory) => println!(rt; "out of memory")?,
+        }
+    }
+    Ok(())
+}

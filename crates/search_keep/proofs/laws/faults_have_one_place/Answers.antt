@@ -1,0 +1,5 @@
+use Rattle.search_keep.proofs.WrittenLaws.{one_place}
+use Rattle.search_keep.proofs.laws.faults_have_one_place.Goals as goal
+
+pub returns : goal.returns
+returns c = one_place
