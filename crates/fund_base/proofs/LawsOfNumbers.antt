@@ -112,7 +112,7 @@ bytes_reads n = record { takes = bytes_takes n; again = bytes_again n }
 -- ---- CompactSize
 
 -- a list from its first byte
-opened : (bytes : List ℕ) (lead : ℕ) → 1 ≤ length bytes → slice_index bytes 0 ≡ lead → bytes ≡ lead ∷ drop 1 bytes
+pub opened : (bytes : List ℕ) (lead : ℕ) → 1 ≤ length bytes → slice_index bytes 0 ≡ lead → bytes ≡ lead ∷ drop 1 bytes
 opened [] lead some first = absurd (omega arith)
 opened (b ∷ bytes) lead some first = ap (λ (x : ℕ). x ∷ bytes) first
 
@@ -153,15 +153,15 @@ pub compact1 : (n : ℕ) → n < 253 → compact n ≡ n ∷ []
 unfolding compact
 compact1 n lt = rw (lt-ltb n 253 lt) refl
 
-compact3 : (n : ℕ) → 253 ≤ n → n < 65536 → compact n ≡ 253 ∷ to_le_bytes w16 n
+pub compact3 : (n : ℕ) → 253 ≤ n → n < 65536 → compact n ≡ 253 ∷ to_le_bytes w16 n
 unfolding compact
 compact3 n le lt = rw (le-ltb n 253 le, lt-ltb n 65536 lt) refl
 
-compact5 : (n : ℕ) → 65536 ≤ n → n < 4294967296 → compact n ≡ 254 ∷ to_le_bytes w32 n
+pub compact5 : (n : ℕ) → 65536 ≤ n → n < 4294967296 → compact n ≡ 254 ∷ to_le_bytes w32 n
 unfolding compact
 compact5 n le lt = rw (le-ltb n 253 (omega arith), le-ltb n 65536 le, lt-ltb n 4294967296 lt) refl
 
-compact9 : (n : ℕ) → 4294967296 ≤ n → compact n ≡ 255 ∷ to_le_bytes w64 n
+pub compact9 : (n : ℕ) → 4294967296 ≤ n → compact n ≡ 255 ∷ to_le_bytes w64 n
 unfolding compact
 compact9 n le = rw (le-ltb n 253 (omega arith), le-ltb n 65536 (omega arith), le-ltb n 4294967296 le) refl
 

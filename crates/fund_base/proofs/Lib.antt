@@ -1,3 +1,4 @@
+pub mod Asking
 pub mod Counts
 pub mod Decimals
 pub mod Laws
@@ -7,3 +8,4 @@ pub mod OutpointLaws
 pub mod Outside
 pub mod Parts
 pub mod Repeat
+pub mod Spellings

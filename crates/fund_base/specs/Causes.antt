@@ -1,12 +1,13 @@
 -- What an object of the outside tells of itself: its content, and how often it failed.
-use Rattle.std.specs.Prelude.{ℕ, ◌≡◌, ◌≢◌, ◌≤◌, ◌+◌, ◌-◌, ◌^◌, ◌++◌, ◌⊎◌, ◌↔◌, List, length, min, take, drop}
+use Rattle.std.specs.Prelude.{ℕ, ◌≡◌, ◌≢◌, ◌≤◌, ◌+◌, ◌-◌, ◌^◌, [], ◌∷◌, ◌++◌, ◌⊎◌, ◌↔◌, List, length, min, replicate, take, drop}
 
 -- Files by name, where a name that no file has stands for no bytes; how often a read and how often a
--- write of each name has failed.
+-- write of each name has failed; and the name that each read asked for, in the order of the reads.
 pub record ShelfView : Type 0 where
   pub files : List ℕ → List ℕ
   pub reads : List ℕ → ℕ
   pub writes : List ℕ → ℕ
+  pub asked : List (List ℕ)
 
 -- All bytes that were taken, in order; how often a put failed; how often one found no memory.
 pub record SinkView : Type 0 where
@@ -32,6 +33,12 @@ pub record OnlyReads (told : Type 0) (before now : ShelfView) : Type 0 where
   pub same : told → now.files ≡ before.files
   pub reads : NeverFall before.reads now.reads
   pub writes : now.writes ≡ before.writes
+
+-- Between two moments a shelf was asked for these names and for no others: for the first any number of times, then for
+-- the second, and so on. Any number may be none.
+abbrev pub Asks : List (List ℕ) → (before now : List (List ℕ)) → Type 0
+Asks [] before now = now ≡ before
+Asks (name ∷ names) before now = (times : ℕ) × Asks names (before ++ replicate times name) now
 
 -- neither count of a sink fell
 pub record CountsNeverFall (before now : SinkView) : Type 0 where

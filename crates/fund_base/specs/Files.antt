@@ -1,5 +1,5 @@
 -- Files in memory, told by name.
-use Rattle.std.specs.Prelude.{ℕ, List, [], ◌∷◌, Option, Some, None, Vec, String, string_bytes, bytes_eq, count_by, unwrap_or, if◌then◌else◌}
+use Rattle.std.specs.Prelude.{ℕ, List, [], ◌∷◌, Option, Some, None, map, Vec, String, string_bytes, bytes_eq, count_by, unwrap_or, if◌then◌else◌}
 use Rattle.std.specs.declared.alloc.Global.{Global}
 
 -- the bytes of the first file that has the name
@@ -10,6 +10,10 @@ file_of (file ∷ files) name = if bytes_eq (string_bytes file.0) name then Some
 -- its bytes, and none where no file has the name
 abbrev pub bytes_of : List (String Global × Vec ℕ Global) → List ℕ → List ℕ
 bytes_of files name = unwrap_or (file_of files name) []
+
+-- the names of a list, as bytes
+abbrev pub names_in : List (String Global) → List (List ℕ)
+names_in names = map string_bytes names
 
 -- how often a name is listed
 abbrev pub times : List ℕ → List (String Global) → ℕ

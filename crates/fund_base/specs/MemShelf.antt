@@ -2,15 +2,16 @@
 use Rattle.std.specs.Prelude.{ℕ, ◌||◌, Bool, List, Option, is_none}
 use Rattle.fund_base.specs.Causes.{ShelfView}
 use Rattle.fund_base.specs.Failures.{FailurePlan, is_due}
-use Rattle.fund_base.specs.Files.{file_of, bytes_of, times}
+use Rattle.fund_base.specs.Files.{file_of, bytes_of, names_in, times}
 use Rattle.fund_base.specs.declared.mem_shelf.MemShelf.{MemShelf}
 
--- its files, and how often a read and how often a write of each name has failed
+-- its files, how often a read and how often a write of each name has failed, and the names that were asked for
 abbrev pub view_of : MemShelf → ShelfView
 view_of shelf = record {
   files = bytes_of shelf.files.items;
   reads = λ name. times name shelf.failed_reads.items;
   writes = λ name. times name shelf.failed_writes.items;
+  asked = names_in shelf.asked.items;
 }
 
 -- the bytes of its file of that name

@@ -9,8 +9,8 @@ use std::fs;
 use std::io::{self, Read, Seek, SeekFrom};
 use std::rt::Files;
 
-/// The files of the system, by path. Each call opens the file anew. It tells nothing of their content,
-/// and each of its two counts stands for every name.
+/// The files of the system, by path. Each call opens the file anew. It tells nothing of their content nor of the names
+/// that were asked for, and each of its two counts stands for every name.
 #[derive(Debug, Drop)]
 pub struct FileShelf<R: Files + Drop> {
     rt: R,
@@ -23,7 +23,7 @@ impl<R: Files + Drop> FileShelf<R> {
 
     /// The files that `rt` reaches, without a failure so far.
     pub fn new(rt: R) -> FileShelf<R>
-        ensures { view_of result ≡ record { files = λ _. []; reads = λ _. 0; writes = λ _. 0 } }
+        ensures { view_of result ≡ record { files = λ _. []; reads = λ _. 0; writes = λ _. 0; asked = [] } }
     {
         FileShelf {
             rt,
@@ -71,6 +71,7 @@ impl<R: Files + Drop> Shelf for FileShelf<R> {
         ensures cause { IsErrOf result Fault.Failed → Rose ((view_of self.old).writes name.now) ((view_of self.new).writes name.now) }
         ensures unfailed { OnOk result ((view_of self.new).writes ≡ (view_of self.old).writes) }
         ensures short { IsErrOf result Fault.Memory → (view_of self.new).writes ≡ (view_of self.old).writes }
+        ensures asked { (view_of self.new).asked ≡ (view_of self.old).asked }
 
         // Whatever the system's error is, it is told as a failure.
         ensures counted { IsErrOf result Fault.Failed → (view_of self.new).writes name.now ≡ one_more ((view_of self.old).writes name.now) }

@@ -1,7 +1,7 @@
 //! Files in memory, of which some reads and writes fail.
 
-ghost use Rattle.std.specs.Prelude.{◌≡◌, ◌≢◌, ◌≤◌, ◌+◌, List, ℕ, length, option_copied, IfOk, OnOk, OnErr, IsErrOf, IsTrue, IsFalse};
-ghost use Rattle.fund_base.specs.Causes.{Rose, NeverFall, IsRead, SameElsewhere};
+ghost use Rattle.std.specs.Prelude.{◌≡◌, ◌≢◌, ◌≤◌, ◌+◌, List, ℕ, [], ◌∷◌, ◌++◌, length, option_copied, Err, IfOk, OnOk, OnErr, IsErrOf, IsTrue, IsFalse};
+ghost use Rattle.fund_base.specs.Causes.{Asks, Rose, NeverFall, IsRead, SameElsewhere};
 ghost use Rattle.fund_base.specs.Failures.{is_due, after_call};
 ghost use Rattle.fund_base.specs.Files.{file_of, bytes_of, times};
 
@@ -10,7 +10,8 @@ use crate::shelf::{Fault, Shelf};
 use crate::store;
 use std::alloc::Global;
 
-/// Files in memory whose failures are told beforehand. A read of a missing file fails too.
+/// Files in memory whose failures are told beforehand. A read of a missing file fails too. It keeps the name of each
+/// read, for which memory may be short.
 #[derive(Debug, Drop)]
 pub struct MemShelf {
     alloc: Global,
@@ -20,6 +21,8 @@ pub struct MemShelf {
     // The name of each read and of each write that failed.
     failed_reads: Vec<String>,
     failed_writes: Vec<String>,
+    // The name that each read asked for.
+    asked: Vec<String>,
 }
 
 impl MemShelf {
@@ -33,7 +36,7 @@ impl MemShelf {
         read_fails: Vec<u64>,
         write_fails: Vec<u64>,
     ) -> MemShelf
-        ensures view { view_of result ≡ record { files = bytes_of files.items; reads = λ _. 0; writes = λ _. 0 } }
+        ensures view { view_of result ≡ record { files = bytes_of files.items; reads = λ _. 0; writes = λ _. 0; asked = [] } }
         ensures files { file_in result ≡ file_of files.items }
         ensures reads { read_plan result ≡ record { numbers = read_fails.items; next = 0 } }
         ensures writes { write_plan result ≡ record { numbers = write_fails.items; next = 0 } }
@@ -45,6 +48,7 @@ impl MemShelf {
             writes: Failures::new(write_fails),
             failed_reads: Vec::new(alloc),
             failed_writes: Vec::new(alloc),
+            asked: Vec::new(alloc),
         }
     }
 
@@ -92,6 +96,8 @@ impl Shelf for MemShelf {
         ensures short { IsErrOf result Fault.Memory → (view_of self.new).reads ≡ (view_of self.old).reads }
         ensures counted { IsErrOf result Fault.Failed → (view_of self.new).reads name.now ≡ (view_of self.old).reads name.now + 1 }
         ensures alone { (other : List ℕ) → other ≢ name.now → (view_of self.new).reads other ≡ (view_of self.old).reads other }
+        ensures asked { Asks (name.now ∷ []) (view_of self.old).asked (view_of self.new).asked }
+        ensures once { result ≢ Err Fault.Memory → (view_of self.new).asked ≡ (view_of self.old).asked ++ name.now ∷ [] }
 
         // Want of memory may take the place of a failure that is due.
         ensures failed { IsErrOf result Fault.Failed → IsTrue (read_fails self.old name.now) }
@@ -99,7 +105,9 @@ impl Shelf for MemShelf {
         ensures read_plan { read_plan self.new ≡ after_call (read_plan self.old) }
         ensures write_plan { write_plan self.new ≡ write_plan self.old }
     {
-        if self.reads.strike() {
+        let is_due = self.reads.strike();
+        store::ask(self.alloc, &mut self.asked, name)?;
+        if is_due {
             return Err(failure(self.alloc, &mut self.failed_reads, name));
         }
         match store::find(self.files.as_slice(), name) {
@@ -119,6 +127,7 @@ impl Shelf for MemShelf {
         ensures short { IsErrOf result Fault.Memory → (view_of self.new).writes ≡ (view_of self.old).writes }
         ensures counted { IsErrOf result Fault.Failed → (view_of self.new).writes name.now ≡ (view_of self.old).writes name.now + 1 }
         ensures alone { (other : List ℕ) → other ≢ name.now → (view_of self.new).writes other ≡ (view_of self.old).writes other }
+        ensures asked { (view_of self.new).asked ≡ (view_of self.old).asked }
 
         // Want of memory may take the place of a failure that is due.
         ensures failed { IsErrOf result Fault.Failed → IsTrue (is_due (write_plan self.old)) }

@@ -14,11 +14,14 @@ pub struct Sat {
 }
 
 impl Model for Sat {
+    ghost use Rattle.std.specs.Prelude.{◌≤◌, ℕ};
+    ghost use Rattle.fund_base.specs.declared.money.TheConstants.{MAX_MONEY};
+
     ghost Value = { ℕ };
 
     ghost view = { λ s. s.amount };
 
-    ghost invariant = { λ s. s.amount ≤ 2_100_000_000_000_000 };
+    ghost invariant = { λ s. s.amount ≤ MAX_MONEY };
 
     ghost inverse = { λ n. record { amount = n } };
 }

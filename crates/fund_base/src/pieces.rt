@@ -1,7 +1,8 @@
-//! Whole files read, and whole texts put, piece by piece.
+//! Files read, and whole texts put, piece by piece.
 
-ghost use Rattle.std.specs.Prelude.{◌≡◌, ◌≢◌, ◌≤◌, ◌<◌, ◌++◌, vec_len, length, IfOk, OnOk, IsErrOf, Err};
-ghost use Rattle.fund_base.specs.Causes.{Rose, NeverFall, HasPart};
+ghost use Rattle.std.specs.Prelude.{◌≡◌, ◌≢◌, ◌≤◌, ◌<◌, [], ◌∷◌, ◌++◌, vec_len, length, IfOk, OnOk, IsErrOf, Err};
+ghost use Rattle.fund_base.specs.Causes.{Asks, Rose, NeverFall, HasPart};
+ghost use Rattle.fund_base.specs.Pieces.{IsFront, IsSeen};
 
 use crate::shelf::{Fault, Shelf};
 use crate::sink::Sink;
@@ -44,8 +45,40 @@ impl From<AllocError> for ReadError {
     }
 }
 
-/// Reads the whole file `name`, of at most `limit` bytes. Each read asks for 131,072 bytes, so that a
-/// shelf which gives what it is asked for is read 129 times for 16 MiB.
+/// The first bytes of a file, and whether it has more than these.
+#[derive(Debug, Drop)]
+pub struct Front {
+    pub bytes: Vec<u8>,
+    pub longer: bool,
+}
+
+/// Reads the first bytes of the file `name`, at most `most`, and whether it has more. [`Fault::Failed`] comes only where
+/// the count of failed reads of that name rose; without it no count does. It asks for that name alone.
+pub fn read_front<H: Shelf>(
+    alloc: Global,
+    shelf: &mut H,
+    name: &str,
+    most: usize,
+) -> Result<Front, Fault>
+    requires { most ≤ 1073741824 }
+    ensures front { H.tells → IfOk result (IsFront most ((H.view shelf.old).files name.now)) }
+    ensures bound { IfOk result (λ front. vec_len front.bytes ≤ most) }
+    ensures same { H.tells → (H.view shelf.new).files ≡ (H.view shelf.old).files }
+    ensures reads { NeverFall (H.view shelf.old).reads (H.view shelf.new).reads }
+    ensures writes { (H.view shelf.new).writes ≡ (H.view shelf.old).writes }
+    ensures cause { IsErrOf result Fault.Failed → Rose ((H.view shelf.old).reads name.now) ((H.view shelf.new).reads name.now) }
+    ensures unfailed { result ≢ Err Fault.Failed → (H.view shelf.new).reads ≡ (H.view shelf.old).reads }
+    ensures asked { H.tells → Asks (name.now ∷ []) (H.view shelf.old).asked (H.view shelf.new).asked }
+{
+    let mut piece = room(alloc)?;
+    let mut bytes = read_pieces(alloc, shelf, name, most, &mut piece)?;
+    let longer = bytes.len() > most;
+    bytes.truncate(most);
+    Ok(Front { bytes, longer })
+}
+
+/// Reads the whole file `name`, of at most `limit` bytes. [`ReadError::TooLong`] comes exactly where it has more, failed
+/// reads and memory aside. It asks for that name alone.
 pub fn read_whole<H: Shelf>(
     alloc: Global,
     shelf: &mut H,
@@ -62,9 +95,13 @@ pub fn read_whole<H: Shelf>(
     ensures writes { (H.view shelf.new).writes ≡ (H.view shelf.old).writes }
     ensures cause { IsErrOf result ReadError.Failed → Rose ((H.view shelf.old).reads name.now) ((H.view shelf.new).reads name.now) }
     ensures unfailed { result ≢ Err ReadError.Failed → (H.view shelf.new).reads ≡ (H.view shelf.old).reads }
+    ensures asked { H.tells → Asks (name.now ∷ []) (H.view shelf.old).asked (H.view shelf.new).asked }
 {
-    let mut piece = room(alloc)?;
-    read_pieces(alloc, shelf, name, limit, &mut piece)
+    let front = read_front(alloc, shelf, name, limit)?;
+    if front.longer {
+        return Err(ReadError::TooLong);
+    }
+    Ok(front.bytes)
 }
 
 // Room for one piece.
@@ -74,34 +111,33 @@ fn room(alloc: Global) -> Result<Vec<u8>, AllocError>
     vec![in alloc; 0u8; PIECE]
 }
 
-// Reads a whole file by way of `piece`.
+// Reads a file by way of `piece` to its end, or until it is longer than what is kept of it.
 fn read_pieces<H: Shelf>(
     alloc: Global,
     shelf: &mut H,
     name: &str,
-    limit: usize,
+    most: usize,
     piece: &mut [u8],
-) -> Result<Vec<u8>, ReadError>
-    requires limit { limit ≤ 1073741824 }
+) -> Result<Vec<u8>, Fault>
+    requires most { most ≤ 1073741824 }
     requires room { 0 < length piece.old }
-    ensures bytes { H.tells → IfOk result (λ bytes. bytes.items ≡ (H.view shelf.old).files name.now) }
-    ensures bound { IfOk result (λ bytes. vec_len bytes ≤ limit) }
-    ensures too_long { H.tells → IsErrOf result ReadError.TooLong → limit < length ((H.view shelf.old).files name.now) }
+    ensures bytes { H.tells → IfOk result (λ bytes. IsSeen most ((H.view shelf.old).files name.now) bytes.items) }
     ensures same { H.tells → (H.view shelf.new).files ≡ (H.view shelf.old).files }
     ensures reads { NeverFall (H.view shelf.old).reads (H.view shelf.new).reads }
     ensures writes { (H.view shelf.new).writes ≡ (H.view shelf.old).writes }
-    ensures cause { IsErrOf result ReadError.Failed → Rose ((H.view shelf.old).reads name.now) ((H.view shelf.new).reads name.now) }
-    ensures unfailed { result ≢ Err ReadError.Failed → (H.view shelf.new).reads ≡ (H.view shelf.old).reads }
+    ensures cause { IsErrOf result Fault.Failed → Rose ((H.view shelf.old).reads name.now) ((H.view shelf.new).reads name.now) }
+    ensures unfailed { result ≢ Err Fault.Failed → (H.view shelf.new).reads ≡ (H.view shelf.old).reads }
+    ensures asked { H.tells → Asks (name.now ∷ []) (H.view shelf.old).asked (H.view shelf.new).asked }
 {
     let mut bytes = Vec::new(alloc);
-    'reading: while bytes.len() <= limit {
+    'reading: while bytes.len() <= most {
         let count = shelf.read_at(name, bytes.len() as u64, piece)?;
         if count == 0 {
             return Ok(bytes);
         }
         bytes.extend_from_slice(&piece[..count])?;
     }
-    Err(ReadError::TooLong)
+    Ok(bytes)
 }
 
 /// Puts all of `bytes`. After an error a first part of them has been put.

@@ -1,7 +1,7 @@
 //! Files as the tool reads and writes them.
 
-ghost use Rattle.std.specs.Prelude.{◌≡◌, ◌≤◌, List, ℕ, length, IfOk, OnOk, IsErrOf};
-ghost use Rattle.fund_base.specs.Causes.{ShelfView, Rose, NeverFall, IsRead, SameElsewhere};
+ghost use Rattle.std.specs.Prelude.{◌≡◌, ◌≢◌, ◌≤◌, List, ℕ, [], ◌∷◌, ◌++◌, length, Err, IfOk, OnOk, IsErrOf};
+ghost use Rattle.fund_base.specs.Causes.{ShelfView, Asks, Rose, NeverFall, IsRead, SameElsewhere};
 
 use std::alloc::AllocError;
 
@@ -25,12 +25,13 @@ impl From<AllocError> for Fault {
 }
 
 /// Files by name. It counts for each name how often a read and how often a write failed; at the
-/// greatest `u64` a count stays. A call that doesn't fail changes no count.
+/// greatest `u64` a count stays. A call that doesn't fail changes no count. Where it tells its files it also tells the
+/// name that each read asked for, in order.
 pub trait Shelf {
     /// Whether it tells what its files hold. The clauses on content hold where it does.
     ghost tells: { Type 0 };
 
-    /// What it holds, and its counts of failures.
+    /// What it holds, its counts of failures, and the names that were asked for.
     ghost view: { Self → ShelfView };
 
     /// Reads bytes of the file `name` from place `at` on to the front of `buf`, and answers how many:
@@ -45,7 +46,11 @@ pub trait Shelf {
         ensures writes { (view self.new).writes ≡ (view self.old).writes }
         ensures cause { IsErrOf result Fault.Failed → Rose ((view self.old).reads name.now) ((view self.new).reads name.now) }
         ensures unfailed { OnOk result ((view self.new).reads ≡ (view self.old).reads) }
-        ensures short { IsErrOf result Fault.Memory → (view self.new).reads ≡ (view self.old).reads };
+        ensures short { IsErrOf result Fault.Memory → (view self.new).reads ≡ (view self.old).reads }
+
+        // It asks for this name alone, and once unless memory is short.
+        ensures asked { tells → Asks (name.now ∷ []) (view self.old).asked (view self.new).asked }
+        ensures once { tells → result ≢ Err Fault.Memory → (view self.new).asked ≡ (view self.old).asked ++ name.now ∷ [] };
 
     /// Makes `bytes` the whole content of the file `name`. Where it fails that file's content is open.
     fn write_file(&mut self, name: &str, bytes: &[u8]) -> Result<(), Fault>
@@ -56,5 +61,6 @@ pub trait Shelf {
         ensures writes { NeverFall (view self.old).writes (view self.new).writes }
         ensures cause { IsErrOf result Fault.Failed → Rose ((view self.old).writes name.now) ((view self.new).writes name.now) }
         ensures unfailed { OnOk result ((view self.new).writes ≡ (view self.old).writes) }
-        ensures short { IsErrOf result Fault.Memory → (view self.new).writes ≡ (view self.old).writes };
+        ensures short { IsErrOf result Fault.Memory → (view self.new).writes ≡ (view self.old).writes }
+        ensures asked { (view self.new).asked ≡ (view self.old).asked };
 }

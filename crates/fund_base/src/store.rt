@@ -1,8 +1,8 @@
 //! Files in memory, the newest of a name first.
 
-ghost use Rattle.std.specs.Prelude.{◌≡◌, ◌≤◌, length, option_copied, OnOk, OnErr};
+ghost use Rattle.std.specs.Prelude.{◌≡◌, ◌≤◌, [], ◌∷◌, ◌++◌, length, option_copied, OnOk, OnErr};
 ghost use Rattle.fund_base.specs.Causes.{IsRead, SameElsewhere};
-ghost use Rattle.fund_base.specs.Files.{file_of, bytes_of};
+ghost use Rattle.fund_base.specs.Files.{file_of, bytes_of, names_in};
 
 use std::alloc::{AllocError, Global};
 
@@ -49,5 +49,14 @@ pub fn replace(
     let name = String::from_str(alloc, name)?;
     let bytes = Vec::from_slice(alloc, bytes)?;
     files.insert(0, (name, bytes))?;
+    Ok(())
+}
+
+/// Adds a name to those that were asked for. Where memory is short they are as before.
+pub fn ask(alloc: Global, asked: &mut Vec<String>, name: &str) -> Result<(), AllocError>
+    ensures ok { OnOk result (names_in asked.new.items ≡ names_in asked.old.items ++ name.now ∷ []) }
+    ensures err { OnErr result (asked.new.items ≡ asked.old.items) }
+{
+    asked.push(String::from_str(alloc, name)?)?;
     Ok(())
 }

@@ -1,5 +1,6 @@
 use Rattle.std.proofs.Common.{ℕ, List, ◌∙◌, subst}
 use Rattle.fund_base.specs.Causes.{IsRead}
+use Rattle.fund_base.proofs.Asking.{asks_again}
 use Rattle.fund_base.proofs.Parts.{read_more}
 use Rattle.fund_base.proofs.pieces.read_pieces.Goals as goal
 
@@ -11,4 +12,14 @@ reading-preserved g c = record {
   same = λ told. c.in_ok-count.ensures.same told ∙ c.reading.invariant.same told;
   reads = c.in_ok-count.ensures.unfailed ∙ c.reading.invariant.reads;
   writes = c.in_ok-count.ensures.writes ∙ c.reading.invariant.writes;
+  asked = λ told. asks_again _ _ _ _ (c.reading.invariant.asked told) (c.in_ok-count.ensures.asked told);
 }
+
+pub returns-in_err-count-clause-asked : goal.returns-in_err-count-clause-asked
+returns-in_err-count-clause-asked g c = λ told. asks_again _ _ _ _ (c.reading.invariant.asked told) (c.in_err-count.ensures.asked told)
+
+pub returns-then-count-eq0-clause-asked : goal.returns-then-count-eq0-clause-asked
+returns-then-count-eq0-clause-asked g c = λ told. asks_again _ _ _ _ (c.reading.invariant.asked told) (c.in_ok-count.ensures.asked told)
+
+pub returns-in_err-extend_from_slice-clause-asked : goal.returns-in_err-extend_from_slice-clause-asked
+returns-in_err-extend_from_slice-clause-asked g c = λ told. asks_again _ _ _ _ (c.reading.invariant.asked told) (c.in_ok-count.ensures.asked told)

@@ -1,4 +1,5 @@
-use Rattle.std.proofs.Common.{◌≡◌, ◌+◌, ◌-◌, take, vec_len}
+use Rattle.std.proofs.Common.{◌≡◌, [], ◌∷◌, ◌+◌, ◌-◌, take, vec_len}
+use Rattle.fund_base.specs.Causes.{Asks}
 use Rattle.fund_base.proofs.pieces.read_pieces.Given as goal
 
 abbrev pub invariant-reading : goal.invariant-reading
@@ -7,7 +8,8 @@ invariant-reading g l = record {
   same : g.H.Shelf.tells → (g.H.Shelf.view l.shelf).files ≡ (g.H.Shelf.view l.initial.shelf).files;
   reads : (g.H.Shelf.view l.shelf).reads ≡ (g.H.Shelf.view l.initial.shelf).reads;
   writes : (g.H.Shelf.view l.shelf).writes ≡ (g.H.Shelf.view l.initial.shelf).writes;
+  asked : g.H.Shelf.tells → Asks (l.name ∷ []) (g.H.Shelf.view l.initial.shelf).asked (g.H.Shelf.view l.shelf).asked;
 }
 
 abbrev pub decreases-reading : goal.decreases-reading
-decreases-reading g l = l.limit + 1 - vec_len l.bytes
+decreases-reading g l = l.most + 1 - vec_len l.bytes
