@@ -7,14 +7,14 @@ use Rattle.std.proofs.lemmas.Bool.{and_parts}
 use Rattle.std.proofs.lemmas.List.Elements.{All-from_recursion, recursion_from_All}
 use Rattle.closing_log.specs.declared.log.Stage.{Stage}
 use Rattle.closing_log.specs.declared.part.Head.{Head}
-use Rattle.closing_log.specs.declared.part.Mark.{Mark}
-use Rattle.closing_log.specs.declared.part.Mark.TheVariants as marks
+use Rattle.closing_log.specs.declared.part.Lead.{Lead}
+use Rattle.closing_log.specs.declared.part.Lead.TheVariants as leads
 use Rattle.closing_log.specs.declared.part.Part.{Part}
 use Rattle.closing_log.specs.declared.part.Part.TheVariants.{End, Open, Closed}
 use Rattle.closing_log.specs.Exact.{StopsAt, NoneGoesOn}
 use Rattle.closing_log.specs.Log.{PlainSection}
 use Rattle.closing_log.specs.LogText.{IsLetter, IsAnswer, HasSmallPlaces, IsClosed, IsOpen, head_text, open_text, closed_text, answer_text, stage_word}
-use Rattle.closing_log.specs.Reading.{word_at, choice_at, is_letter, head_at, section_rest, section_of, open_of, mark_word, mark_at, end_of, marked_at, part_at}
+use Rattle.closing_log.specs.Reading.{word_at, choice_at, is_letter, head_at, section_rest, section_of, open_of, lead_word, lead_at, end_of, led_at, part_at}
 use Rattle.closing_log.proofs.Exactness.{Piece, Law, Then, then_law, law_as}
 use Rattle.closing_log.proofs.WordLaws.{IsOneOf, choice_piece}
 use Rattle.closing_log.proofs.AnswerLaws.{IsAnswerText}
@@ -23,30 +23,30 @@ use Rattle.closing_log.proofs.LetterLaws.{AreLetters, Rest, open_rest, closed_re
 
 -- ---- what a part begins with
 
-abbrev InMarks : Mark → Type 0
-InMarks m = Unit {0}
+abbrev InLeads : Lead → Type 0
+InLeads m = Unit {0}
 
-each_mark : (P : Mark → Type 0) → AllByRecursion P (marks.Ends ∷ marks.Begins ∷ []) → (m : Mark) → InMarks m → P m
-each_mark P all marks.Ends is = all.0
-each_mark P all marks.Begins is = all.1.0
+each_lead : (P : Lead → Type 0) → AllByRecursion P (leads.Ends ∷ leads.Begins ∷ []) → (m : Lead) → InLeads m → P m
+each_lead P all leads.Ends is = all.0
+each_lead P all leads.Begins is = all.1.0
 
-mark_again : (m : Mark) (rest : List ℕ) → InMarks m → choice_at mark_word (marks.Ends ∷ marks.Begins ∷ []) (mark_word m ++ rest) (mark_word m ++ rest) ≡ Ok (m, rest)
+lead_again : (m : Lead) (rest : List ℕ) → InLeads m → choice_at lead_word (leads.Ends ∷ leads.Begins ∷ []) (lead_word m ++ rest) (lead_word m ++ rest) ≡ Ok (m, rest)
 unfolding choice_at word_at
-mark_again marks.Ends rest is = refl
-mark_again marks.Begins rest is = refl
+lead_again leads.Ends rest is = refl
+lead_again leads.Begins rest is = refl
 
-mark_piece : Piece mark_at (IsOneOf mark_word InMarks)
-mark_piece = choice_piece mark_word InMarks (marks.Ends ∷ marks.Begins ∷ []) (tt, (tt, tt)) each_mark mark_again (record { more = codes "end\n"; value = marks.Ends; means = (tt, refl) })
+lead_piece : Piece lead_at (IsOneOf lead_word InLeads)
+lead_piece = choice_piece lead_word InLeads (leads.Ends ∷ leads.Begins ∷ []) (tt, (tt, tt)) each_lead lead_again (record { more = codes "end\n"; value = leads.Ends; means = (tt, refl) })
 
-abbrev Marked : Mark → List ℕ → Part × List ℕ → Type 0
-Marked marks.Ends bytes y = (bytes ≡ []) × (y ≡ (End, []))
-Marked marks.Begins bytes y = Then IsHead Rest bytes y
+abbrev Led : Lead → List ℕ → Part × List ℕ → Type 0
+Led leads.Ends bytes y = (bytes ≡ []) × (y ≡ (End, []))
+Led leads.Begins bytes y = Then IsHead Rest bytes y
 
-end_takes : (bytes : List ℕ) (y : Part × List ℕ) → end_of bytes ≡ Ok y → Marked marks.Ends bytes y
+end_takes : (bytes : List ℕ) (y : Part × List ℕ) → end_of bytes ≡ Ok y → Led leads.Ends bytes y
 end_takes [] y e = (refl, let same : (End, []) ≡ y = cc in sym same)
 end_takes (b ∷ rest) y e = absurd cc
 
-end_stops : (bytes stop : List ℕ) → end_of bytes ≡ Err stop → StopsAt (Marked marks.Ends) bytes stop
+end_stops : (bytes stop : List ℕ) → end_of bytes ≡ Err stop → StopsAt (Led leads.Ends) bytes stop
 end_stops [] stop e = absurd cc
 end_stops (b ∷ rest) stop e =
     let is : b ∷ rest ≡ stop = cc in
@@ -54,10 +54,10 @@ end_stops (b ∷ rest) stop e =
       front = [];
       parts = is;
       begins = record { more = []; value = (End, []); means = (refl, refl) };
-      never = subst (λ (s : List ℕ). NoneGoesOn (Marked marks.Ends) [] s) is (λ begins. let h : b ∷ begins.more ≡ [] = begins.means.0 in absurd cc);
+      never = subst (λ (s : List ℕ). NoneGoesOn (Led leads.Ends) [] s) is (λ begins. let h : b ∷ begins.more ≡ [] = begins.means.0 in absurd cc);
     }
 
-end_law : (n : ℕ) → Law n end_of (Marked marks.Ends)
+end_law : (n : ℕ) → Law n end_of (Led leads.Ends)
 end_law n = record {
   takes = λ bytes y le e. end_takes bytes y e;
   again = λ bytes y le m. ap end_of m.0 ∙ ap (λ (z : Part × List ℕ). Ok z) (sym m.1);
@@ -65,9 +65,9 @@ end_law n = record {
   some = record { more = []; value = (End, []); means = (refl, refl) };
 }
 
-marked_law : (n : ℕ) (m : Mark) → Law n (marked_at m) (Marked m)
-marked_law n marks.Ends = end_law n
-marked_law n marks.Begins = then_law n n head_at IsHead section_rest Rest (λ text x m. omega arith) head_piece (rest_law n)
+led_law : (n : ℕ) (m : Lead) → Law n (led_at m) (Led m)
+led_law n leads.Ends = end_law n
+led_law n leads.Begins = then_law n n head_at IsHead section_rest Rest (λ text x m. omega arith) head_piece (rest_law n)
 
 -- ---- a part of the text
 
@@ -156,16 +156,16 @@ to_section bytes front back y h f b parts first second head (closed_rest c cs re
     } in
     subst (λ (p : Part). IsPart bytes (p, y.1)) (sym m.is) made
 
-to_part_of : (bytes : List ℕ) (y : Part × List ℕ) (m : Mark) (front back : List ℕ) → bytes ≡ front ++ back → front ≡ mark_word m → Marked m back y → IsPart bytes y
-to_part_of bytes y marks.Ends front back parts first others =
+to_part_of : (bytes : List ℕ) (y : Part × List ℕ) (m : Lead) (front back : List ℕ) → bytes ≡ front ++ back → front ≡ lead_word m → Led m back y → IsPart bytes y
+to_part_of bytes y leads.Ends front back parts first others =
     subst (IsPart bytes) (sym others.1) (parts ∙ ap (λ t. t ++ back) first ∙ ap (λ t. codes "end\n" ++ t) others.0, refl)
-to_part_of bytes y marks.Begins front back parts first others = to_section bytes front back y others.value others.front others.back parts first others.parts others.first others.others
+to_part_of bytes y leads.Begins front back parts first others = to_section bytes front back y others.value others.front others.back parts first others.parts others.first others.others
 
-to_part : (bytes : List ℕ) (y : Part × List ℕ) → Then (IsOneOf mark_word InMarks) Marked bytes y → IsPart bytes y
+to_part : (bytes : List ℕ) (y : Part × List ℕ) → Then (IsOneOf lead_word InLeads) Led bytes y → IsPart bytes y
 to_part bytes y t = to_part_of bytes y t.value t.front t.back t.parts t.first.1 t.others
 
 from_closed : (bytes rest text : List ℕ) → bytes ≡ text ++ rest → (row : ℕ) (stage : Stage) (digest letters : List ℕ) (answer : Option (List ℕ))
-    → IsClosed text (record { row = row; stage = stage; digest = digest; letters = letters; answer = answer }) → Then (IsOneOf mark_word InMarks) Marked bytes (Closed (record { row = row; stage = stage; digest = digest; letters = letters; answer = answer }), rest)
+    → IsClosed text (record { row = row; stage = stage; digest = digest; letters = letters; answer = answer }) → Then (IsOneOf lead_word InLeads) Led bytes (Closed (record { row = row; stage = stage; digest = digest; letters = letters; answer = answer }), rest)
 from_closed bytes rest text parts row stage digest [] answer i = absurd (omega (arith, i.can.some))
 from_closed bytes rest text parts row stage digest (c ∷ cs) answer i =
     let whole : bytes ≡ codes "section " ++ ((decimal row ++ (codes " " ++ (stage_word stage ++ (codes " " ++ (i.digits ++ codes "\ntokens "))))) ++ ((c ∷ cs) ++ 10 ∷ ((codes "answer " ++ (answer_text answer ++ codes "\n")) ++ rest))) =
@@ -174,7 +174,7 @@ from_closed bytes rest text parts row stage digest (c ∷ cs) answer i =
     ∙ ap (λ t. head_text i.digits row stage ++ t) (append_assoc (c ∷ cs) (codes "\nanswer " ++ (answer_text answer ++ codes "\n")) rest)
     ∙ append_assoc (codes "section ") (decimal row ++ (codes " " ++ (stage_word stage ++ (codes " " ++ (i.digits ++ codes "\ntokens "))))) ((c ∷ cs) ++ ((codes "\nanswer " ++ (answer_text answer ++ codes "\n")) ++ rest)) in
     record {
-      value = marks.Begins;
+      value = leads.Begins;
       front = codes "section ";
       back = (decimal row ++ (codes " " ++ (stage_word stage ++ (codes " " ++ (i.digits ++ codes "\ntokens "))))) ++ ((c ∷ cs) ++ 10 ∷ ((codes "answer " ++ (answer_text answer ++ codes "\n")) ++ rest));
       parts = whole;
@@ -203,9 +203,9 @@ from_closed bytes rest text parts row stage digest (c ∷ cs) answer i =
       };
     }
 
-from_part : (bytes : List ℕ) (y : Part × List ℕ) → IsPart bytes y → Then (IsOneOf mark_word InMarks) Marked bytes y
+from_part : (bytes : List ℕ) (y : Part × List ℕ) → IsPart bytes y → Then (IsOneOf lead_word InLeads) Led bytes y
 from_part bytes (End, rest) p = record {
-  value = marks.Ends;
+  value = leads.Ends;
   front = codes "end\n";
   back = [];
   parts = p.0;
@@ -215,7 +215,7 @@ from_part bytes (End, rest) p = record {
 from_part bytes (Open o, rest) p =
     let i = p.0 in
     record {
-      value = marks.Begins;
+      value = leads.Begins;
       front = codes "section ";
       back = (decimal o.row ++ (codes " " ++ (stage_word o.stage ++ (codes " " ++ (i.digits ++ codes "\ntokens "))))) ++ o.letters;
       parts = i.lines ∙ append_assoc (codes "section ") (decimal o.row ++ (codes " " ++ (stage_word o.stage ++ (codes " " ++ (i.digits ++ codes "\ntokens "))))) o.letters;
@@ -234,5 +234,5 @@ from_part bytes (Closed s, rest) p = from_closed bytes rest p.text p.parts s.row
 pub part_law : (n : ℕ) → Law n part_at IsPart
 unfolding part_at
 part_law n =
-    law_as n part_at (Then (IsOneOf mark_word InMarks) Marked) IsPart to_part from_part
-    (then_law n n mark_at (IsOneOf mark_word InMarks) marked_at Marked (λ text x m. omega arith) mark_piece (marked_law n))
+    law_as n part_at (Then (IsOneOf lead_word InLeads) Led) IsPart to_part from_part
+    (then_law n n lead_at (IsOneOf lead_word InLeads) led_at Led (λ text x m. omega arith) lead_piece (led_law n))

@@ -3,4 +3,5 @@ pub mod Exact
 pub mod Gives
 pub mod Log
 pub mod LogText
+pub mod MarkWord
 pub mod Reading

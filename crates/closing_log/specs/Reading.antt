@@ -9,8 +9,8 @@ use Rattle.fund_base.specs.Parsing.{◌>>=◌}
 use Rattle.closing_log.specs.declared.log.Stage.{Stage}
 use Rattle.closing_log.specs.declared.log.Stage.TheVariants.{Changeless, LeanBig, LeanSmall}
 use Rattle.closing_log.specs.declared.part.Head.{Head}
-use Rattle.closing_log.specs.declared.part.Mark.{Mark}
-use Rattle.closing_log.specs.declared.part.Mark.TheVariants.{Ends, Begins}
+use Rattle.closing_log.specs.declared.part.Lead.{Lead}
+use Rattle.closing_log.specs.declared.part.Lead.TheVariants.{Ends, Begins}
 use Rattle.closing_log.specs.declared.part.Part.{Part}
 use Rattle.closing_log.specs.declared.part.Part.TheVariants.{End, Open, Closed}
 use Rattle.closing_log.specs.Log.{PlainSection, PlainOpen, PlainLog}
@@ -142,24 +142,24 @@ section_rest h bytes = letters_at bytes >>= letters_rest h
 
 -- ---- the whole
 
-abbrev pub mark_word : Mark → List ℕ
-mark_word Ends = codes "end\n"
-mark_word Begins = codes "section "
+abbrev pub lead_word : Lead → List ℕ
+lead_word Ends = codes "end\n"
+lead_word Begins = codes "section "
 
-abbrev pub mark_at : List ℕ → Result (Mark × List ℕ) (List ℕ)
-mark_at bytes = choice_at mark_word (Ends ∷ Begins ∷ []) bytes bytes
+abbrev pub lead_at : List ℕ → Result (Lead × List ℕ) (List ℕ)
+lead_at bytes = choice_at lead_word (Ends ∷ Begins ∷ []) bytes bytes
 
 -- nothing stands behind the last line
 abbrev pub end_of : List ℕ → Result (Part × List ℕ) (List ℕ)
 end_of [] = Ok (End, [])
 end_of (b ∷ rest) = Err (b ∷ rest)
 
-abbrev pub marked_at : Mark → List ℕ → Result (Part × List ℕ) (List ℕ)
-marked_at Ends bytes = end_of bytes
-marked_at Begins bytes = head_at bytes >>= λ h. section_rest h.0 h.1
+abbrev pub led_at : Lead → List ℕ → Result (Part × List ℕ) (List ℕ)
+led_at Ends bytes = end_of bytes
+led_at Begins bytes = head_at bytes >>= λ h. section_rest h.0 h.1
 
 unfoldable pub part_at : List ℕ → Result (Part × List ℕ) (List ℕ)
-part_at bytes = mark_at bytes >>= λ m. marked_at m.0 m.1
+part_at bytes = lead_at bytes >>= λ m. led_at m.0 m.1
 
 -- a part, and what is read behind a section
 abbrev pub body_rest : List PlainSection → (PlainSection → List ℕ → Result PlainLog (List ℕ × ℕ)) → Result (Part × List ℕ) (List ℕ) → Result PlainLog (List ℕ × ℕ)

@@ -15,20 +15,20 @@ pub(crate) struct Head {
 
 /// What stands at the beginning of a part: the last line, or a section's first word.
 #[derive(Clone, Copy)]
-pub(crate) enum Mark {
+pub(crate) enum Lead {
     Ends,
     Begins,
 }
 
-impl Worded for Mark {
-    ghost use Rattle.closing_log.specs.Reading.{mark_word};
+impl Worded for Lead {
+    ghost use Rattle.closing_log.specs.Reading.{lead_word};
 
-    ghost text = { mark_word };
+    ghost text = { lead_word };
 
     fn word(self) -> &'static str {
         match self {
-            Mark::Ends => "end\n",
-            Mark::Begins => "section ",
+            Lead::Ends => "end\n",
+            Lead::Begins => "section ",
         }
     }
 }

@@ -6,12 +6,12 @@ ghost use Rattle.closing_log.specs.declared.fault.LogTextFault.TheVariants as fa
 ghost use Rattle.closing_log.specs.Gives.{Gives, IsFault, Reads, Tells};
 ghost use Rattle.closing_log.specs.Log.{PlainLog};
 ghost use Rattle.closing_log.specs.LogText.{IsLogText};
-ghost use Rattle.closing_log.specs.Reading.{answer_at, closing_at, head_at, is_letter, letters_at, log_at, mark_at, part_at, section_rest, stage_at, searched};
+ghost use Rattle.closing_log.specs.Reading.{answer_at, closing_at, head_at, is_letter, letters_at, log_at, lead_at, part_at, section_rest, stage_at, searched};
 
 use crate::fault::{LineFault, LogTextFault};
 use crate::lines::{read_choice, read_digest, read_number, read_places, read_word};
 use crate::log::{LogText, OpenSection, Section, Stage};
-use crate::part::{Head, Mark, Part};
+use crate::part::{Head, Lead, Part};
 use fund_base::Places;
 use std::alloc::Global;
 
@@ -127,13 +127,13 @@ fn read_section(alloc: Global, head: Head, bytes: &[u8]) -> Result<(Part, &[u8])
 fn read_part(alloc: Global, bytes: &[u8]) -> Result<(Part, &[u8]), LineFault<'_>>
     ensures { Gives (λ x. (x.0, x.1.now)) result (part_at bytes.now) }
 {
-    let (mark, rest) = read_choice(bytes, &[Mark::Ends, Mark::Begins])?;
-    match mark {
-        Mark::Ends => match rest {
+    let (lead, rest) = read_choice(bytes, &[Lead::Ends, Lead::Begins])?;
+    match lead {
+        Lead::Ends => match rest {
             [] => Ok((Part::End, rest)),
             _ => Err(LineFault::Form(rest)),
         },
-        Mark::Begins => {
+        Lead::Begins => {
             let (head, rest) = read_head(rest)?;
             read_section(alloc, head, rest)
         }
