@@ -97,7 +97,7 @@ each_once script cs =
       | inr none ↦ found ∙ ap (flat_map formed) none.0 ∙ sym (ap parts_of none.1 ∙ parts_of_none)
     ]
 
-are_parts : (group : Bool) (cs : List Candidate) → AreParts group cs (parts_in group cs)
+pub are_parts : (group : Bool) (cs : List Candidate) → AreParts group cs (parts_in group cs)
 are_parts true cs = record { filled = filled cs (scripts_of cs); each = λ script. each_once script cs }
 are_parts false cs = refl
 

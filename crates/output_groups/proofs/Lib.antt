@@ -13,6 +13,7 @@ pub mod PartLaws
 pub mod PlaceLaws
 pub mod PoolLaws
 pub mod ScriptLaws
+pub mod SortLaws
 pub mod TakenLaws
 pub mod UniqueLaws
 pub mod ValueLaws

@@ -6,5 +6,6 @@ pub mod Ladder
 pub mod Measures
 pub mod PlainPool
 pub mod Pool
+pub mod PoolOf
 pub mod Runs
 pub mod Taken

@@ -13,6 +13,7 @@ ghost use Rattle.output_groups.specs.Ladder.{GrowLaxer, IsLaxer, ladder_of};
 ghost use Rattle.output_groups.specs.Measures.{IsGroup, least_of, value_of};
 ghost use Rattle.output_groups.specs.PlainPool.{PlainPool};
 ghost use Rattle.output_groups.specs.Pool.{IsPool, CountsKept, group_cmp, keeps};
+ghost use Rattle.output_groups.specs.PoolOf.{pool_of};
 ghost use Rattle.output_groups.specs.Taken.{IsTaken};
 ghost use Rattle.output_groups.specs.declared.part.Part.{Part};
 ghost use Rattle.output_groups.specs.declared.rows.Row.{Row};
@@ -27,6 +28,15 @@ pub fn one_pool()
         group_cmp rate long_term g h ≡ Equal → g ≡ h }
     ensures count { (group : Bool) (row : Row) (rate : ℕ) (cs : List Candidate) (m n : ℕ) →
         CountsKept group row rate cs m → CountsKept group row rate cs n → m ≡ n }
+{}
+
+/// The pool of a row, as a function of the candidates, the row, the rates and the grouping, is the pool of that row, and
+/// of candidates the only one.
+pub fn pool_is_one()
+    ensures pool { (group : Bool) (row : Row) (rate long_term : ℕ) (cs : List Candidate) →
+        IsPool group row rate long_term cs (pool_of group row rate long_term cs) }
+    ensures only { (group : Bool) (row : Row) (rate long_term : ℕ) (cs : List Candidate) (p : PlainPool) →
+        AreCandidates cs → IsPool group row rate long_term cs p → p ≡ pool_of group row rate long_term cs }
 {}
 
 /// The value of a group is the sum of its coins' effective values.

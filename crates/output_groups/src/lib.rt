@@ -14,7 +14,7 @@ mod rows;
 pub use fault::PoolFault;
 pub use group::Group;
 pub use laws::{
-    counts_kept, least_stands_first, one_pool, rows_grow_laxer, rows_take_groups,
+    counts_kept, least_stands_first, one_pool, pool_is_one, rows_grow_laxer, rows_take_groups,
     scripts_stand_in_hundreds, values_are_effective,
 };
 pub use row_pool::{RowPool, pool};

@@ -1,11 +1,12 @@
 //! The pool of a row.
 
-ghost use Rattle.std.specs.Prelude.{◌≤◌, ℕ, IfOk, IfErr, All};
+ghost use Rattle.std.specs.Prelude.{◌≡◌, ◌≤◌, ℕ, IfOk, IfErr, All};
 ghost use Rattle.fund_base.specs.Candidates.{AreCandidates};
 ghost use Rattle.pick_problem.specs.Pool.{AreItems};
 ghost use Rattle.output_groups.specs.Ladder.{Meets};
 ghost use Rattle.output_groups.specs.Measures.{IsGroup};
 ghost use Rattle.output_groups.specs.Pool.{AreOnce, IsPool, IsDue, CountsKept};
+ghost use Rattle.output_groups.specs.PoolOf.{pool_of};
 
 use crate::fault::PoolFault;
 use crate::forming::{parts, useful};
@@ -65,6 +66,7 @@ pub fn pool(
     requires rate { rate ≤ 100_000_000 }
     requires long_term { long_term ≤ 100_000_000 }
     ensures pool { IfOk result (λ p. IsPool group row.now rate long_term candidates.now p) }
+    ensures value { IfOk result (λ p. p ≡ pool_of group row.now rate long_term candidates.now) }
     ensures items { IfOk result (λ p. AreItems p.items) }
     ensures groups { IfOk result (λ p. All (IsGroup rate) p.groups) }
     ensures once { IfOk result (λ p. AreOnce candidates.now p.groups) }

@@ -16,6 +16,7 @@ use Rattle.output_groups.proofs.CountLaws.{one_count}
 use Rattle.output_groups.proofs.GroupLaws.{parts_fine}
 use Rattle.output_groups.proofs.ItemLaws.{items_fit, kept_lt, sorted_right}
 use Rattle.output_groups.proofs.OnceLaws.{pool_once}
+use Rattle.output_groups.proofs.SortLaws.{only_pool}
 use Rattle.output_groups.proofs.PoolLaws.{pool_groups, pool_is, pool_meets}
 use Rattle.output_groups.proofs.row_pool.pool.Goals as goal
 
@@ -35,6 +36,9 @@ returns-clause-pool c =
     let P : List Candidate → Type 0 = λ cs. AreParts c.args.group cs c.in_ok-parts.parts.items in
     pool_is c.args.group c.args.row.now c.args.rate c.args.long_term c.args.candidates.now c.in_ok-parts.parts.items c.in_ok-groups.groups.items c.sort_unstable_by_key.new.self.items c.in_ok-pool.pool (subst P c.in_ok-coins.ensures c.in_ok-parts.ensures) c.in_ok-groups.ensures.groups c.in_ok-groups.ensures.measures
     c.sort_unstable_by_key.ensures.permutation (sorted c) c.in_ok-pool.ensures.items c.in_ok-pool.ensures.groups
+
+pub returns-clause-value : goal.returns-clause-value
+returns-clause-value c = only_pool c.args.group c.args.row.now c.args.rate c.args.long_term c.args.candidates.now c.in_ok-pool.pool c.requires.candidates (returns-clause-pool c)
 
 pub returns-clause-items : goal.returns-clause-items
 returns-clause-items c =
