@@ -1,10 +1,10 @@
 pub mod Trees
-pub mod Fronts
 pub mod TreeLaws
 pub mod BlockLaws
 pub mod FeedLaws
 pub mod Limits
 pub mod FileLaws
 pub mod Failing
+pub mod OwnFaults
 pub mod Refusals
 pub mod Refused

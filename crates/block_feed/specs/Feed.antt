@@ -1,5 +1,5 @@
 -- The feed: where it stands, and what it gives next.
-use Rattle.std.specs.Prelude.{ℕ, ◌≡◌, ◌≢◌, ◌+◌, ◌≤◌, ◌<◌, ◌⊎◌, Bool, List, [], ◌∷◌, length, take, drop, nat_lt, Option, Some, None, IfSome, Result, Ok, Err}
+use Rattle.std.specs.Prelude.{ℕ, ◌≡◌, ◌≢◌, ◌+◌, ◌≤◌, ◌⊎◌, Bool, List, [], ◌∷◌, length, take, drop, nat_lt, Option, Some, None, IfSome, Result, Ok, Err}
 use Rattle.fund_base.specs.Parsing.{◌>>=◌}
 use Rattle.block_feed.specs.Block.{ChainBlock, height_after}
 use Rattle.block_feed.specs.BlockFile.{IsTail, IsBlockFile}
@@ -30,11 +30,6 @@ most = 1_073_741_824
 pub record IsFront (file : List ℕ) (front : FileFront) : Type 0 where
   pub bytes : front.bytes ≡ take most file
   pub longer : front.longer ≡ nat_lt most (length file)
-
--- Bytes that were read of a file from its first on: all of them, or more than are kept.
-pub record IsSeen (file bytes : List ℕ) : Type 0 where
-  pub front : bytes ≡ take (length bytes) file
-  pub enough : (length file ≤ length bytes) ⊎ (most < length bytes)
 
 -- Interim condition of a further call, until the feed reads on from its place: the name is the one that
 -- was read, and, where the shelf tells them, its bytes are still those.

@@ -1,13 +1,14 @@
 //! The feed of linked blocks.
 
-ghost use Rattle.std.specs.Prelude.{ℕ, ◌≡◌, ◌≢◌, ◌+◌, ◌≤◌, ◌<◌, ◌^◌, length, drop, take, List, Some, None, Ok, Err, IfOk, OnOk, IfErr, IfSome, IsErrOf, MatchOption, MatchResult};
-ghost use Rattle.fund_base.specs.Causes.{Rose, NeverFall};
+ghost use Rattle.std.specs.Prelude.{ℕ, ◌≡◌, ◌≢◌, ◌+◌, ◌≤◌, ◌<◌, ◌^◌, [], ◌∷◌, length, drop, take, List, Some, None, Ok, Err, IfOk, OnOk, IfErr, IfSome, IsErrOf, MatchOption, MatchResult};
+ghost use Rattle.fund_base.specs.Causes.{Asks, Rose, NeverFall};
 ghost use Rattle.fund_base.specs.Cursor.{IsBytes};
 ghost use Rattle.fund_base.specs.Parsing.{YieldsAll};
 ghost use Rattle.block_feed.specs.Block.{ChainBlock, IsLinked, Begins, height_after};
 ghost use Rattle.block_feed.specs.BlockFile.{IsBlockFile};
 ghost use Rattle.block_feed.specs.Feed.{IsSameFile, IsOutside, IsEnd, StandsBefore, IsFirst, next_in, next_of, Gives, Moves};
-ghost use Rattle.block_feed.specs.declared.fault.FeedFault.TheVariants.{Read, Limit, Memory};
+ghost use Rattle.block_feed.specs.declared.fault.FeedFault.TheVariants.{Tx, Read, Limit, Memory};
+ghost use Rattle.tx_codec.specs.declared.fault.TxFault.TheVariants.{Memory as NoMemory};
 
 use crate::block::Block;
 use crate::fault::FeedFault;
@@ -33,15 +34,16 @@ pub struct Feed {
 }
 
 impl Model for Feed {
-    ghost use Rattle.std.specs.Prelude.{◌≢◌, Some};
+    ghost use Rattle.std.specs.Prelude.{ℕ, ◌≢◌, Some};
+    ghost use Rattle.tx_codec.specs.declared.fault.TxFault.TheVariants.{Memory as NoMemory};
     ghost use Rattle.block_feed.specs.Feed.{FeedState};
-    ghost use Rattle.block_feed.specs.declared.fault.FeedFault.TheVariants.{Read, Memory};
+    ghost use Rattle.block_feed.specs.declared.fault.FeedFault.TheVariants.{Tx, Read, Memory};
 
     ghost Value = { FeedState };
 
     ghost view = { λ f. record { hash = f.hash; height = f.height; place = f.place; fault = f.fault; file = f.file } };
 
-    ghost invariant = { λ f. (f.fault ≢ Some Read) × (f.fault ≢ Some Memory) };
+    ghost invariant = { λ f. (f.fault ≢ Some Read) × (f.fault ≢ Some Memory) × ((at : ℕ) → f.fault ≢ Some (Tx at NoMemory)) };
 }
 
 /// What the bytes have from this place on, and nothing where they end before it.
@@ -98,6 +100,7 @@ impl Feed {
         }
     }
 
+    #[tactic(auto, using(crate::proofs::OwnFaults::next_never))]
     fn step(&mut self, alloc: Global, front: &Front) -> Result<Option<Block>, FeedFault>
         requires { self.old.fault ≡ None }
         ensures gives { Gives self.old self.new result (next_in front.now.longer front.now.bytes self.old.hash self.old.height self.old.place) }
@@ -108,6 +111,7 @@ impl Feed {
         ensures kept { IfErr result (λ e. e ≢ Memory → self.new.fault ≡ Some e) }
         ensures memory { IsErrOf result FeedFault.Memory → self.new ≡ self.old }
         ensures never_read { result ≢ Err Read }
+        ensures never_memory { (at : ℕ) → result ≢ Err (Tx at NoMemory) }
         ensures bytes { IsBytes front.now.bytes }
     {
         match next_block(alloc, front, &self.hash, self.height, self.place) {
@@ -127,6 +131,7 @@ impl Feed {
         }
     }
 
+    #[tactic(auto, using(fund_base::proofs::Asking::asks_none))]
     fn advance<H: Shelf>(
         &mut self,
         alloc: Global,
@@ -149,6 +154,8 @@ impl Feed {
         ensures same { H.tells → (H.view shelf.new).files ≡ (H.view shelf.old).files }
         ensures reads { NeverFall (H.view shelf.old).reads (H.view shelf.new).reads }
         ensures writes { (H.view shelf.new).writes ≡ (H.view shelf.old).writes }
+        ensures asked { H.tells → Asks (name.now ∷ []) (H.view shelf.old).asked (H.view shelf.new).asked }
+        ensures never_memory { (at : ℕ) → result ≢ Err (Tx at NoMemory) }
     {
         if let Some(fault) = self.fault {
             return Err(fault);
@@ -222,11 +229,15 @@ impl Feed {
         ensures cause { IsErrOf result FeedFault.Read → Rose ((H.view shelf.old).reads name.now) ((H.view shelf.new).reads name.now) }
         ensures unfailed { result ≢ Err Read → (H.view shelf.new).reads ≡ (H.view shelf.old).reads }
 
-        // The file that a further call reads, and what the call leaves of the shelf.
+        // A fault of a transaction is one of its text, and never that memory was short.
+        ensures never_memory { (at : ℕ) → result ≢ Err (Tx at NoMemory) }
+
+        // The file that a further call reads, what the call leaves of the shelf, and that it asks for this name alone.
         ensures may_go_on { IsSameFile H.tells self.new name.now ((H.view shelf.new).files name.now) }
         ensures same { H.tells → (H.view shelf.new).files ≡ (H.view shelf.old).files }
         ensures reads { NeverFall (H.view shelf.old).reads (H.view shelf.new).reads }
         ensures writes { (H.view shelf.new).writes ≡ (H.view shelf.old).writes }
+        ensures asked { H.tells → Asks (name.now ∷ []) (H.view shelf.old).asked (H.view shelf.new).asked }
     {
         self.advance(alloc, shelf, name)
     }
