@@ -3,13 +3,13 @@ use Rattle.std.proofs.Common.{◌≡◌, ◌∙◌, ℕ, Bool, true, false, cond
 use Rattle.std.specs.Prelude.{◌≢◌}
 use Rattle.block_feed.specs.Block.{ChainBlock}
 use Rattle.fund_plan.proofs.AnswerLaws.{answer_means}
-use Rattle.fund_plan.proofs.FaultLaws.{fault_found, none_found}
+use Rattle.fund_steps.proofs.FaultLaws.{fault_found, none_found}
 use Rattle.fund_plan.proofs.OnceLaws.{one_outcome}
 use Rattle.fund_plan.specs.Answer.{Answers, answer_of}
-use Rattle.fund_plan.specs.Faults.{fault_of}
-use Rattle.fund_plan.specs.Plan.{IsFault, IsPlan}
-use Rattle.fund_plan.specs.declared.fault.PlanFault.{PlanFault}
-use Rattle.fund_plan.specs.declared.fault.PlanFault.TheVariants as plans
+use Rattle.fund_steps.specs.Faults.{fault_of}
+use Rattle.fund_steps.specs.Plan.{IsFault, IsPlan}
+use Rattle.fund_steps.specs.declared.fault.PlanFault.{PlanFault}
+use Rattle.fund_steps.specs.declared.fault.PlanFault.TheVariants as plans
 use Rattle.fund_plan.specs.declared.outcome.Outcome.{Outcome as Answer}
 use Rattle.request_text.specs.PlainRequest.{PlainRequest}
 use Rattle.request_text.specs.declared.request.Method.{Method}

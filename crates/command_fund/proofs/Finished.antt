@@ -10,8 +10,8 @@ use Rattle.command_end.specs.Printed.{IsEnd, IsUnwritten, IsWithoutMemory}
 use Rattle.fund_payment.specs.Log.{log_text}
 use Rattle.command_end.specs.Names.{Sources}
 use Rattle.command_fund.specs.Names.{Payment}
-use Rattle.fund_plan.specs.declared.fault.PlanFault.{PlanFault}
-use Rattle.fund_plan.specs.declared.fault.PlanFault.TheVariants as plans
+use Rattle.fund_steps.specs.declared.fault.PlanFault.{PlanFault}
+use Rattle.fund_steps.specs.declared.fault.PlanFault.TheVariants as plans
 use Rattle.fund_files.specs.Cause.{FileCause}
 use Rattle.fund_files.specs.Cause as files
 use Rattle.command_end.specs.AnswerLines.{IsWanting}

@@ -5,10 +5,10 @@ use Rattle.block_feed.specs.Block.{ChainBlock}
 use Rattle.fund_base.specs.Causes.{ShelfView}
 use Rattle.fund_base.specs.declared.candidate.Candidate.{Candidate}
 use Rattle.fund_plan.specs.Answer.{Answers, answer_of}
-use Rattle.fund_plan.specs.Plan.{IsFault, IsPlan, PlainPlan}
+use Rattle.fund_steps.specs.Plan.{IsFault, IsPlan, PlainPlan}
 use Rattle.fund_plan.specs.Selection.{Selection}
-use Rattle.fund_plan.specs.declared.fault.PlanFault.{PlanFault}
-use Rattle.fund_plan.specs.declared.fault.PlanFault.TheVariants as plans
+use Rattle.fund_steps.specs.declared.fault.PlanFault.{PlanFault}
+use Rattle.fund_steps.specs.declared.fault.PlanFault.TheVariants as plans
 use Rattle.fund_plan.specs.declared.outcome.Outcome.{Outcome as Answer}
 use Rattle.fund_plan.specs.declared.outcome.Outcome.TheVariants as answers
 use Rattle.psbt_codec.specs.Psbt.{IsPsbt}

@@ -1,6 +1,6 @@
 -- Why a payment is refused, without where its words lie in memory; and with which status.
-use Rattle.fund_plan.specs.declared.fault.PlanFault.{PlanFault}
-use Rattle.fund_plan.specs.declared.fault.PlanFault.TheVariants as plans
+use Rattle.fund_steps.specs.declared.fault.PlanFault.{PlanFault}
+use Rattle.fund_steps.specs.declared.fault.PlanFault.TheVariants as plans
 use Rattle.fund_files.specs.Cause as files
 use Rattle.command_end.specs.Lines.{status_of_file}
 use Rattle.command_end.specs.declared.status.Status.{Status}

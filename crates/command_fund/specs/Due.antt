@@ -2,9 +2,9 @@
 use Rattle.std.specs.Prelude.{ℕ, Bool, true, false, List, is_some, if◌then◌else◌, Option, Some, None, option_map, Result, Ok, Err}
 use Rattle.fund_base.specs.declared.candidate.Candidate.{Candidate}
 use Rattle.fund_plan.specs.Answer.{answer_of}
-use Rattle.fund_plan.specs.Faults.{fault_of}
-use Rattle.fund_plan.specs.Plan.{PlainPlan}
-use Rattle.fund_plan.specs.declared.fault.PlanFault.{PlanFault}
+use Rattle.fund_steps.specs.Faults.{fault_of}
+use Rattle.fund_steps.specs.Plan.{PlainPlan}
+use Rattle.fund_steps.specs.declared.fault.PlanFault.{PlanFault}
 use Rattle.fund_plan.specs.declared.outcome.Outcome.{Outcome as Answer}
 use Rattle.fund_plan.specs.declared.outcome.Outcome.TheVariants as answers
 use Rattle.payment_states.specs.Candidates.{candidates_of}

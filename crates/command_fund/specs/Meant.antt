@@ -1,8 +1,8 @@
 -- What the refusal of a payment means by itself.
 use Rattle.std.specs.Prelude.{ℕ, ◌≡◌, ◌≢◌, ◌⊎◌, List, Some}
 use Rattle.block_feed.specs.Block.{ChainBlock}
-use Rattle.fund_plan.specs.Plan.{IsFault, IsPlan}
-use Rattle.fund_plan.specs.declared.fault.PlanFault.TheVariants as plans
+use Rattle.fund_steps.specs.Plan.{IsFault, IsPlan}
+use Rattle.fund_steps.specs.declared.fault.PlanFault.TheVariants as plans
 use Rattle.request_text.specs.PlainRequest.{PlainRequest}
 use Rattle.request_text.specs.declared.request.Method.TheVariants.{Manual}
 use Rattle.wallet_text.specs.PlainWallet.{PlainWallet}

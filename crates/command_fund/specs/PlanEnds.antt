@@ -1,10 +1,10 @@
 -- How a request ends, as one of the outcomes of the files.
 use Rattle.std.specs.Prelude.{ℕ, ◌≡◌, ◌≢◌, List, string_bytes}
 use Rattle.fund_plan.specs.Answer.{Answers}
-use Rattle.fund_plan.specs.Plan.{IsFault, IsPlan}
+use Rattle.fund_steps.specs.Plan.{IsFault, IsPlan}
 use Rattle.fund_plan.specs.Selection.{Selection}
-use Rattle.fund_plan.specs.declared.fault.PlanFault.{PlanFault}
-use Rattle.fund_plan.specs.declared.fault.PlanFault.TheVariants as plans
+use Rattle.fund_steps.specs.declared.fault.PlanFault.{PlanFault}
+use Rattle.fund_steps.specs.declared.fault.PlanFault.TheVariants as plans
 use Rattle.fund_plan.specs.declared.outcome.Outcome.TheVariants as answers
 use Rattle.psbt_codec.specs.Psbt.{IsPsbt}
 use Rattle.request_text.specs.PlainRequest.{PlainRequest}

@@ -3,7 +3,7 @@ use Rattle.std.specs.Prelude.{ℕ, ◌≡◌, ◌⊎◌, List, [], ◌++◌, cod
 use Rattle.fund_base.specs.Causes.{ShelfView, SinkView, Rose, HasPart}
 use Rattle.block_feed.specs.Block.{ChainBlock}
 use Rattle.fund_plan.specs.Answer.{Answers}
-use Rattle.fund_plan.specs.Plan.{IsPlan}
+use Rattle.fund_steps.specs.Plan.{IsPlan}
 use Rattle.fund_plan.specs.Selection.{Selection}
 use Rattle.fund_plan.specs.declared.outcome.Outcome.TheVariants as answers
 use Rattle.psbt_codec.specs.Psbt.{IsPsbt}

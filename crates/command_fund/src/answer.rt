@@ -17,7 +17,7 @@ use command_end::{
 use fault_text::plan_fault_words;
 use fund_base::{Memory, Sink};
 use fund_files::File;
-use fund_plan::PlanFault;
+use fund_steps::PlanFault;
 use std::alloc::Global;
 
 /// What a refusal says behind the word `fault`.

@@ -9,7 +9,8 @@ use crate::refusal::{Refusal, Stop};
 use fund_base::Memory;
 use fund_files::Held;
 use fund_payment::payment_report;
-use fund_plan::{Outcome, Plan, PlanFault};
+use fund_plan::{Outcome, Plan};
+use fund_steps::PlanFault;
 use request_text::{Method, Request};
 use std::alloc::Global;
 

@@ -3,7 +3,7 @@
 ghost use Rattle.std.specs.Prelude.{◌≡◌};
 
 use fund_files::{File, FileRefusal, Stop as FileStop};
-use fund_plan::PlanFault;
+use fund_steps::PlanFault;
 
 /// What is refused.
 #[derive(Debug, Drop)]

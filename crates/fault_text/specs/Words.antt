@@ -9,8 +9,8 @@ use Rattle.segwit_addr.specs.declared.fault.AddrFault.{AddrFault}
 use Rattle.segwit_addr.specs.declared.fault.AddrFault.TheVariants as addresses
 use Rattle.wallet_text.specs.declared.fault.WalletFault.{WalletFault}
 use Rattle.wallet_text.specs.declared.fault.WalletFault.TheVariants as wallets
-use Rattle.fund_plan.specs.declared.fault.PlanFault.{PlanFault}
-use Rattle.fund_plan.specs.declared.fault.PlanFault.TheVariants as plans
+use Rattle.fund_steps.specs.declared.fault.PlanFault.{PlanFault}
+use Rattle.fund_steps.specs.declared.fault.PlanFault.TheVariants as plans
 use Rattle.request_text.specs.declared.fault.RequestFault.{RequestFault}
 use Rattle.request_text.specs.declared.fault.RequestFault.TheVariants as requests
 use Rattle.fault_text.specs.Coin.{coin_text, shown_hash}

@@ -5,7 +5,7 @@ ghost use Rattle.fault_text.specs.Words.{plan_fault_words};
 
 use crate::coin::coin_text;
 use fund_base::Memory;
-use fund_plan::PlanFault;
+use fund_steps::PlanFault;
 use std::alloc::Global;
 
 /// A fault of a plan as its fault line says it behind the word `fault`: `input plan`, the variant's name and its field, a sum

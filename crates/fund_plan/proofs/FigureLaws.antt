@@ -9,13 +9,13 @@ use Rattle.fee_rates.specs.Fee.{fee_of, vsize_of}
 use Rattle.fee_rates.specs.Terms.{base_of, change_fee_of, change_spend_of}
 use Rattle.request_text.specs.PlainRequest.{PlainRequest, paid_to}
 use Rattle.wallet_text.specs.declared.wallet.Watch.{Watch}
-use Rattle.fund_plan.specs.Amounts.{fees_of, value_of}
+use Rattle.fund_steps.specs.Amounts.{fees_of, value_of}
 use Rattle.fund_plan.specs.Answer.{Answers}
 use Rattle.fund_plan.specs.Figures.{AddUp, figures_of, spending_of, waste_of}
 use Rattle.fund_plan.specs.Pays.{Pays, outputs_of, payment_of, payment_weight, raised_of}
-use Rattle.fund_plan.specs.Plan.{IsPlan, PlainPlan}
+use Rattle.fund_steps.specs.Plan.{IsPlan, PlainPlan}
 use Rattle.fund_plan.specs.Selection.{Selection}
-use Rattle.fund_plan.specs.Terms.{load_of, rates_of}
+use Rattle.fund_steps.specs.Terms.{load_of, rates_of}
 use Rattle.fund_plan.specs.declared.outcome.Outcome.TheVariants.{Funded}
 use Rattle.fund_plan.proofs.PaysLaws.{outputs_sum, pays_some, pays_within, sum_plain, sum_change}
 

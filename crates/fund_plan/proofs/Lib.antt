@@ -1,12 +1,7 @@
 pub mod AnswerLaws
-pub mod FaultLaws
 pub mod FigureLaws
 pub mod OnceLaws
 pub mod PaymentLaws
 pub mod PaysLaws
-pub mod SumLaws
-pub mod RowLaws
-pub mod SelectionLaws
 pub mod SignedLaws
-pub mod StepLaws
 pub mod WeightLaws

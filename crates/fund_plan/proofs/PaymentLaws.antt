@@ -15,12 +15,13 @@ use Rattle.request_text.specs.PlainRequest.{IsRequest, PlainRequest}
 use Rattle.request_text.specs.declared.request.Recipient.{Recipient}
 use Rattle.wallet_text.specs.WalletRules.{IsWatch}
 use Rattle.wallet_text.specs.declared.wallet.Watch.{Watch}
-use Rattle.fund_plan.specs.Amounts.{AreWithin}
-use Rattle.fund_plan.specs.Answer.{Answers, AreListed}
-use Rattle.fund_plan.specs.Plan.{IsPlan, PlainPlan}
-use Rattle.fund_plan.specs.Terms.{load_of}
+use Rattle.fund_steps.specs.Amounts.{AreWithin}
+use Rattle.fund_plan.specs.Answer.{Answers}
+use Rattle.fund_steps.specs.Listed.{AreListed}
+use Rattle.fund_steps.specs.Plan.{IsPlan, PlainPlan}
+use Rattle.fund_steps.specs.Terms.{load_of}
 use Rattle.fund_plan.specs.declared.outcome.Outcome.TheVariants.{Funded}
-use Rattle.fund_plan.proofs.OnceLaws.{listed_fit}
+use Rattle.fund_steps.proofs.OrderLaws.{listed_fit}
 use Rattle.fund_plan.specs.Pays.{change_outputs, outputs_of, payment_of, payment_weight, recipient_output, sequence_of, unsigned_input}
 use Rattle.fund_plan.specs.Selection.{Selection}
 use Rattle.fund_plan.proofs.PaysLaws.{outputs_sum, pays_within, pays_some}

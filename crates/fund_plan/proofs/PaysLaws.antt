@@ -18,14 +18,14 @@ use Rattle.fee_rates.proofs.FeeLaws.{weighed_parts, input_fee_parts, fee_below, 
 use Rattle.request_text.specs.PlainRequest.{PlainRequest, paid_to}
 use Rattle.request_text.specs.declared.request.Recipient.{Recipient}
 use Rattle.wallet_text.specs.declared.wallet.Watch.{Watch}
-use Rattle.fund_plan.specs.Amounts.{AreWithin, fees_of, value_of, weight_of}
+use Rattle.fund_steps.specs.Amounts.{AreWithin, fees_of, value_of, weight_of}
 use Rattle.fund_plan.specs.Answer.{IsSelection}
 use Rattle.fund_plan.specs.Figures.{cost_of, excess_of}
 use Rattle.fund_plan.specs.Pays.{Pays, change_outputs, outputs_of, payment_of, raised_of, recipient_output}
-use Rattle.fund_plan.specs.Presets.{presets_of}
-use Rattle.fund_plan.specs.Selection.{AreSorted}
-use Rattle.fund_plan.specs.Terms.{load_of, rates_of}
-use Rattle.fund_plan.specs.declared.presets.Presets.TheVariants.{Short, Plain, Change}
+use Rattle.fund_steps.specs.Presets.{presets_of}
+use Rattle.fund_steps.specs.Selection.{AreSorted}
+use Rattle.fund_steps.specs.Terms.{load_of, rates_of}
+use Rattle.fund_steps.specs.declared.presets.Presets.TheVariants.{Short, Plain, Change}
 
 pub sum_one : {X : Type 0} (f : X → ℕ) (x : X) → sum_by f (x ∷ []) ≡ f x
 sum_one f x = omega (arith, sum_by-cons f x [])

@@ -17,17 +17,17 @@ use Rattle.fee_rates.specs.Output.{output_size_of}
 use Rattle.fee_rates.proofs.FeeLaws.{fee_below, vsize_below}
 use Rattle.request_text.specs.PlainRequest.{PlainRequest}
 use Rattle.wallet_text.specs.declared.wallet.Watch.{Watch}
-use Rattle.fund_plan.specs.Amounts.{AreWithin, value_of, weight_of}
+use Rattle.fund_steps.specs.Amounts.{AreWithin, value_of, weight_of}
 use Rattle.fund_plan.specs.Answer.{Answers}
 use Rattle.fund_plan.specs.Figures.{figures_of}
 use Rattle.fund_plan.specs.Pays.{change_outputs, payment_of, payment_weight, recipient_output}
-use Rattle.fund_plan.specs.Plan.{IsPlan, PlainPlan}
+use Rattle.fund_steps.specs.Plan.{IsPlan, PlainPlan}
 use Rattle.fund_plan.specs.Selection.{Selection}
-use Rattle.fund_plan.specs.Terms.{load_of}
+use Rattle.fund_steps.specs.Terms.{load_of}
 use Rattle.fund_plan.specs.Weighed.{AreWithinDeclared}
 use Rattle.fund_plan.specs.declared.outcome.Outcome.TheVariants.{Funded}
 use Rattle.fund_plan.proofs.FigureLaws.{figures_agree}
-use Rattle.fund_plan.proofs.OnceLaws.{listed_fit}
+use Rattle.fund_steps.proofs.OrderLaws.{listed_fit}
 use Rattle.fund_plan.proofs.PaymentLaws.{recipients_few}
 use Rattle.fund_plan.proofs.PaysLaws.{sum_one}
 use Rattle.fund_plan.proofs.WeightLaws.{all_outputs, bare_len, base_is, change_counted, coins_weigh, inputs_bytes, inputs_count, outputs_count, recipients_size, size_of, sizes_few, sizes_of}

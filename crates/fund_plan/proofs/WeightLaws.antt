@@ -21,15 +21,15 @@ use Rattle.fee_rates.proofs.CompactLaws.{compact_len_is, output_text_length}
 use Rattle.request_text.specs.PlainRequest.{PlainRequest}
 use Rattle.request_text.specs.declared.request.Recipient.{Recipient}
 use Rattle.wallet_text.specs.declared.wallet.Watch.{Watch}
-use Rattle.fund_plan.specs.Amounts.{AreWithin, weight_of}
+use Rattle.fund_steps.specs.Amounts.{AreWithin, weight_of}
 use Rattle.fund_plan.specs.Answer.{Answers}
 use Rattle.fund_plan.specs.Weighed.{IsWeighed, signed_weight}
 use Rattle.fund_plan.specs.Pays.{change_outputs, payment_of, payment_weight, recipient_output, unsigned_input}
-use Rattle.fund_plan.specs.Plan.{IsPlan, PlainPlan}
+use Rattle.fund_steps.specs.Plan.{IsPlan, PlainPlan}
 use Rattle.fund_plan.specs.Selection.{Selection}
-use Rattle.fund_plan.specs.Terms.{load_of}
+use Rattle.fund_steps.specs.Terms.{load_of}
 use Rattle.fund_plan.specs.declared.outcome.Outcome.TheVariants.{Funded}
-use Rattle.fund_plan.proofs.OnceLaws.{listed_fit}
+use Rattle.fund_steps.proofs.OrderLaws.{listed_fit}
 use Rattle.fund_plan.proofs.PaymentLaws.{inputs_fit, recipients_few}
 use Rattle.fund_plan.proofs.PaysLaws.{sum_one}
 

@@ -1,26 +1,19 @@
 -- What the listed coins alone come to.
-use Rattle.std.specs.Prelude.{ℕ, ◌≡◌, ◌≤◌, ◌<◌, ◌&&◌, Bool, List, length, filter, All, Contains, Option, Some, None, IfSome}
+use Rattle.std.specs.Prelude.{ℕ, ◌≤◌, ◌<◌, List, length, Option, Some, None, IfSome}
 use Rattle.fund_base.specs.declared.candidate.Candidate.{Candidate}
 use Rattle.tx_codec.specs.Transaction.{Transaction}
 use Rattle.request_text.specs.PlainRequest.{PlainRequest}
-use Rattle.fund_plan.specs.Amounts.{AreWithin, value_of}
+use Rattle.fund_steps.specs.Listed.{AreListed, presets_in}
+use Rattle.fund_steps.specs.Amounts.{AreWithin, value_of}
 use Rattle.fund_plan.specs.Pays.{Pays, outputs_of, payment_of}
-use Rattle.fund_plan.specs.Plan.{IsEligible, PlainPlan, may_be_listed}
-use Rattle.fund_plan.specs.Presets.{presets_of}
-use Rattle.fund_plan.specs.Selection.{AreSorted, Selection, in_order, is_listed}
-use Rattle.fund_plan.specs.Terms.{load_of, rates_of}
+use Rattle.fund_steps.specs.Plan.{PlainPlan}
+use Rattle.fund_steps.specs.Presets.{presets_of}
+use Rattle.fund_plan.specs.Selection.{Selection}
+use Rattle.fund_steps.specs.Terms.{load_of, rates_of}
 use Rattle.fund_plan.specs.declared.outcome.Outcome.{Outcome}
 use Rattle.fund_plan.specs.declared.outcome.Outcome.TheVariants.{Funded, NoSelection}
-use Rattle.fund_plan.specs.declared.presets.Presets.{Presets}
-use Rattle.fund_plan.specs.declared.presets.Presets.TheVariants.{Short, Plain, Change}
-
--- The coins are those that the request lists: each is eligible and listed, one is at each listed outpoint, and they stand
--- in the order of their outpoints, each once.
-pub record AreListed (p : PlainPlan) (coins : List Candidate) : Type 0 where
-  pub eligible : All (IsEligible p) coins
-  pub only : All (λ (c : Candidate). Contains p.request.coins c.coin) coins
-  pub all : All (λ point. (c : Candidate) × Contains coins c × (c.coin ≡ point)) p.request.coins
-  pub sorted : AreSorted coins
+use Rattle.fund_steps.specs.declared.presets.Presets.{Presets}
+use Rattle.fund_steps.specs.declared.presets.Presets.TheVariants.{Short, Plain, Change}
 
 -- a transaction pays from these coins alone, with this change or with none
 abbrev pub PaysAlone : PlainPlan → List Candidate → Option ℕ → Transaction → Type 0
@@ -32,14 +25,6 @@ PaysAlone p coins amount t = Pays p.request p.change (load_of p.request p.change
 abbrev pub Answers : PlainPlan → Outcome → Type 0
 Answers p (Funded f) = AreListed p f.coins × PaysAlone p f.coins f.change (payment_of p.request p.change f)
 Answers p NoSelection = (coins : List Candidate) × AreListed p coins × ((amount : Option ℕ) (t : Transaction) → PaysAlone p coins amount t → ⊥)
-
--- a candidate that is listed, and may be
-abbrev pub is_preset : PlainRequest → Candidate → Bool
-is_preset r c = is_listed r.coins c.coin && may_be_listed r c
-
--- the listed coins that are eligible, in the order of their outpoints
-abbrev pub presets_in : PlainPlan → List Candidate
-presets_in p = in_order (filter (is_preset p.request) p.candidates)
 
 -- by how they pay
 abbrev pub by_presets : List Candidate → Presets → Outcome

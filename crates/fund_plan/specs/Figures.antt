@@ -7,10 +7,10 @@ use Rattle.fee_rates.specs.Terms.{base_of, change_fee_of, change_spend_of}
 use Rattle.fee_rates.specs.declared.terms.Load.{Load}
 use Rattle.request_text.specs.PlainRequest.{PlainRequest, paid_to}
 use Rattle.wallet_text.specs.declared.wallet.Watch.{Watch}
-use Rattle.fund_plan.specs.Amounts.{fees_of, value_of}
+use Rattle.fund_steps.specs.Amounts.{fees_of, value_of}
 use Rattle.fund_plan.specs.Pays.{due_of, outputs_of, payment_of, payment_weight}
 use Rattle.fund_plan.specs.Selection.{Selection}
-use Rattle.fund_plan.specs.Terms.{load_of, rates_of}
+use Rattle.fund_steps.specs.Terms.{load_of, rates_of}
 use Rattle.fund_plan.specs.declared.figures.Figures.{Figures}
 
 -- what it costs to spend coins now and not in the long run

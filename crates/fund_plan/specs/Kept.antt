@@ -4,10 +4,10 @@ use Rattle.fund_base.specs.declared.candidate.Candidate.{Candidate}
 use Rattle.fee_rates.specs.Terms.{AreRates, IsLoad}
 use Rattle.fee_rates.specs.declared.terms.Rates.{Rates}
 use Rattle.fee_rates.specs.declared.terms.Load.{Load}
-use Rattle.fund_plan.specs.Amounts.{AreWithin}
-use Rattle.fund_plan.specs.Answer.{presets_in}
-use Rattle.fund_plan.specs.Plan.{IsPlan, PlainPlan}
-use Rattle.fund_plan.specs.Terms.{load_of, rates_of}
+use Rattle.fund_steps.specs.Amounts.{AreWithin}
+use Rattle.fund_steps.specs.Listed.{presets_in}
+use Rattle.fund_steps.specs.Plan.{IsPlan, PlainPlan}
+use Rattle.fund_steps.specs.Terms.{load_of, rates_of}
 
 -- The plan keeps its rules, and these are its listed coins, the rates of its request, and what the payment is to carry, all
 -- within their bounds.

@@ -1,11 +1,6 @@
-pub mod Amounts
 pub mod Answer
-pub mod Faults
 pub mod Figures
 pub mod Kept
 pub mod Pays
-pub mod Plan
-pub mod Presets
 pub mod Selection
-pub mod Terms
 pub mod Weighed

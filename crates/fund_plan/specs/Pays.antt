@@ -10,9 +10,10 @@ use Rattle.fee_rates.specs.declared.terms.Load.{Load}
 use Rattle.request_text.specs.PlainRequest.{PlainRequest, paid_to}
 use Rattle.request_text.specs.declared.request.Recipient.{Recipient}
 use Rattle.wallet_text.specs.declared.wallet.Watch.{Watch}
-use Rattle.fund_plan.specs.Amounts.{fees_of, value_of, weight_of}
-use Rattle.fund_plan.specs.Selection.{AreSorted, Selection}
-use Rattle.fund_plan.specs.Terms.{rates_of}
+use Rattle.fund_steps.specs.Amounts.{fees_of, value_of, weight_of}
+use Rattle.fund_plan.specs.Selection.{Selection}
+use Rattle.fund_steps.specs.Selection.{AreSorted}
+use Rattle.fund_steps.specs.Terms.{rates_of}
 
 -- the sequence of each input: FFFFFFFD lets the payment be replaced, FFFFFFFE doesn't (BIP 125, 'Summary')
 abbrev pub sequence_of : (replaceable : Bool) → ℕ

@@ -6,7 +6,7 @@ use Rattle.tx_codec.specs.TransactionText.{input_text, stack_text}
 use Rattle.tx_codec.specs.Weight.{weight_of as text_weight}
 use Rattle.request_text.specs.PlainRequest.{PlainRequest}
 use Rattle.wallet_text.specs.declared.wallet.Watch.{Watch}
-use Rattle.fund_plan.specs.Amounts.{weight_of}
+use Rattle.fund_steps.specs.Amounts.{weight_of}
 use Rattle.fund_plan.specs.Pays.{payment_of}
 use Rattle.fund_plan.specs.Selection.{Selection}
 

@@ -2,17 +2,16 @@
 
 ghost use Rattle.std.specs.Prelude.{◌≡◌, ◌≤◌, ◌≤ℤ◌, pos, neg_ℤ, IfSome};
 ghost use Rattle.wallet_text.specs.WalletRules.{IsWatch};
-ghost use Rattle.fund_plan.specs.Amounts.{AreWithin};
+ghost use Rattle.fund_steps.specs.Amounts.{AreWithin};
 ghost use Rattle.fund_plan.specs.Answer.{IsSelection};
 ghost use Rattle.fund_plan.specs.Figures.{cost_of, figures_of, waste_of};
 ghost use Rattle.fund_plan.specs.Pays.{outputs_of, payment_weight};
-ghost use Rattle.fund_plan.specs.Terms.{load_of};
+ghost use Rattle.fund_steps.specs.Terms.{load_of};
 
-use crate::amounts::{fees, value};
 use crate::outcome::Funded;
-use crate::terms::{load, paid, rates};
 use fee_rates::{Terms, vsize};
 use fund_base::{Candidate, MAX_MONEY};
+use fund_steps::{fees, load, paid, rates, value};
 use request_text::Request;
 use wallet_text::Watch;
 
@@ -59,7 +58,7 @@ fn waste(request: &Request, change: &Watch, coins: &[Candidate], amount: Option<
 }
 
 /// The declared weight of the payment from these coins, in weight units.
-#[tactic(auto, unfolding(crate::specs::Terms::load_of))]
+#[tactic(auto, unfolding(fund_steps::specs::Terms::load_of))]
 fn weight(request: &Request, change: &Watch, coins: &[Candidate], amount: Option<u64>) -> u64
     requires change { IsWatch change.now }
     requires coins { AreWithin coins.now }

@@ -9,24 +9,15 @@ ghost use Rattle.tx_codec.specs.declared.tx.TxOut.{TxOut};
 ghost use Rattle.fee_rates.specs.Fee.{fee_of, vsize_of};
 ghost use Rattle.request_text.specs.PlainRequest.{PlainRequest};
 ghost use Rattle.wallet_text.specs.declared.wallet.Watch.{Watch};
-ghost use Rattle.fund_plan.specs.Amounts.{value_of};
+ghost use Rattle.fund_steps.specs.Amounts.{value_of};
 ghost use Rattle.fund_plan.specs.Answer.{Answers, answer_of};
 ghost use Rattle.fund_plan.specs.Figures.{AddUp, figures_of};
 ghost use Rattle.fund_plan.specs.Pays.{payment_of, payment_weight};
-ghost use Rattle.fund_plan.specs.Faults.{fault_of};
-ghost use Rattle.fund_plan.specs.Plan.{IsFault, IsPlan, PlainPlan};
+ghost use Rattle.fund_steps.specs.Plan.{IsPlan, PlainPlan};
 ghost use Rattle.fund_plan.specs.Selection.{Selection};
-ghost use Rattle.fund_plan.specs.Terms.{load_of};
+ghost use Rattle.fund_steps.specs.Terms.{load_of};
 ghost use Rattle.fund_plan.specs.Weighed.{AreWithinDeclared, IsWeighed, signed_weight};
-ghost use Rattle.fund_plan.specs.declared.fault.PlanFault.{PlanFault};
 ghost use Rattle.fund_plan.specs.declared.outcome.Outcome.{Outcome};
-
-/// The law of a plan's fault: one that keeps a plan from being made is the one that is worked out, and of a plan that
-/// keeps its rules none is. A call does nothing.
-pub fn faults_are_found()
-    ensures fault { (p : PlainPlan) (fault : PlanFault) → IsFault p fault → fault ≢ PlanFault.Memory → fault_of p ≡ Some fault }
-    ensures none { (p : PlainPlan) → IsPlan p → fault_of p ≡ None }
-{}
 
 /// That a plan has one outcome: what an outcome means settles the coins, the change, and whether there is a payment. A
 /// call does nothing.

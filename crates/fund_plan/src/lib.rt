@@ -3,23 +3,17 @@
 //! So far it spends exactly the coins that the request lists.
 #![tactic(auto)]
 
-mod amounts;
-mod fault;
 mod figures;
 mod laws;
 mod outcome;
 mod payment;
 mod plan;
-mod pools;
-mod presets;
-mod selection;
-mod terms;
 
-pub use fault::PlanFault;
 pub use figures::Figures;
+pub use fund_steps::PlanFault;
 pub use laws::{
-    answers_once, faults_are_found, figures_add_up, pays_in_text, reckons_the_outcome,
-    signed_pays_the_rate, weighs_as_declared,
+    answers_once, figures_add_up, pays_in_text, reckons_the_outcome, signed_pays_the_rate,
+    weighs_as_declared,
 };
 pub use outcome::{Funded, Outcome};
 pub use payment::unsigned;

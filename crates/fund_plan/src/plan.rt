@@ -5,17 +5,14 @@ ghost use Rattle.fund_base.specs.Candidates.{AreCandidates};
 ghost use Rattle.request_text.specs.declared.request.Method.TheVariants.{Manual};
 ghost use Rattle.wallet_text.specs.WalletRules.{IsWatch};
 ghost use Rattle.fund_plan.specs.Answer.{Answers, HasSelection, answer_of, by_presets};
-ghost use Rattle.fund_plan.specs.Plan.{HasEligible, IsFault, IsPlan, IsRoomy, IsWithin, ladder_in};
+ghost use Rattle.fund_steps.specs.Plan.{HasEligible, IsFault, IsPlan, IsRoomy, IsWithin, ladder_in};
 
-use crate::amounts::total;
-use crate::fault::PlanFault;
 use crate::outcome::{Funded, Outcome};
-use crate::pools::first_crowded;
-use crate::presets::{Presets, presets_alone};
-use crate::selection::{Parted, missing, split};
-use crate::terms::{load, rates};
 use fee_rates::{Load, Rates};
 use fund_base::{Candidate, MAX_MONEY, Memory};
+use fund_steps::{
+    Parted, PlanFault, Presets, first_crowded, load, missing, presets_alone, rates, split, total,
+};
 use request_text::Request;
 use std::alloc::Global;
 use std::marker::Model;
@@ -38,7 +35,7 @@ pub struct Plan {
 }
 
 impl Model for Plan {
-    ghost use Rattle.fund_plan.specs.Plan.{PlainPlan};
+    ghost use Rattle.fund_steps.specs.Plan.{PlainPlan};
     ghost use Rattle.fund_plan.specs.Kept.{IsKept};
 
     ghost Value = { PlainPlan };

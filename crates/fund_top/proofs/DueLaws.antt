@@ -2,7 +2,7 @@
 use Rattle.std.proofs.Common.{◌≡◌, ℕ, List, ap}
 use Rattle.block_feed.specs.Block.{ChainBlock}
 use Rattle.fund_plan.specs.Answer.{Answers}
-use Rattle.fund_plan.specs.Plan.{IsPlan}
+use Rattle.fund_steps.specs.Plan.{IsPlan}
 use Rattle.fund_plan.specs.declared.outcome.Outcome.{Outcome as Answer}
 use Rattle.request_text.specs.PlainRequest.{PlainRequest}
 use Rattle.request_text.specs.declared.request.Method.TheVariants.{Manual}

@@ -3,7 +3,7 @@
 ghost use Rattle.std.specs.Prelude.{◌≡◌, ℕ, List};
 ghost use Rattle.block_feed.specs.Block.{ChainBlock};
 ghost use Rattle.fund_plan.specs.Answer.{Answers};
-ghost use Rattle.fund_plan.specs.Plan.{IsPlan};
+ghost use Rattle.fund_steps.specs.Plan.{IsPlan};
 ghost use Rattle.fund_plan.specs.Selection.{Selection};
 ghost use Rattle.fund_plan.specs.declared.outcome.Outcome.TheVariants as answers;
 ghost use Rattle.request_text.specs.PlainRequest.{PlainRequest};

@@ -1,6 +1,6 @@
 use Rattle.std.proofs.Common.{◌≡◌, ◌∙◌, ap, sym, subst, string_bytes}
 use Rattle.request_text.specs.PlainRequest.{PlainRequest}
-use Rattle.fund_plan.specs.Plan.{IsPlan}
+use Rattle.fund_steps.specs.Plan.{IsPlan}
 use Rattle.command_fund.specs.Due.{is_manual}
 use Rattle.command_fund.proofs.PlanLaws.{concluded_none, concluded_paid, unchosen_stops}
 use Rattle.command_fund.proofs.funding.conclude.Goals as goal

@@ -3,7 +3,7 @@ use Rattle.std.proofs.Common.{arith, rules, ap, ◌∙◌}
 use Rattle.std.proofs.lemmas.Int.{ints}
 use Rattle.fee_rates.specs.Terms.{target_of}
 use Rattle.fund_plan.specs.Figures.{cost_of}
-use Rattle.fund_plan.specs.Terms.{load_of, rates_of}
+use Rattle.fund_steps.specs.Terms.{load_of, rates_of}
 use Rattle.fund_plan.proofs.PaysLaws.{by_excess}
 use Rattle.fund_plan.proofs.figures.waste.Goals as goal
 use mir.Syntax.{w128}

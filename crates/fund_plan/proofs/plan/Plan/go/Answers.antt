@@ -1,10 +1,10 @@
 use Rattle.std.proofs.Common.{◌≡◌, ◌∙◌, sym, ap, subst, List}
 use Rattle.std.proofs.lemmas.Result.{IfOk-weaker}
 use Rattle.fund_base.specs.declared.candidate.Candidate.{Candidate}
-use Rattle.fund_plan.specs.Amounts.{AreWithin}
+use Rattle.fund_steps.specs.Amounts.{AreWithin}
 use Rattle.fund_plan.specs.Answer.{Answers, HasSelection, answer_of, by_presets}
 use Rattle.fund_plan.specs.Kept.{IsKept}
-use Rattle.fund_plan.specs.Plan.{PlainPlan}
+use Rattle.fund_steps.specs.Plan.{PlainPlan}
 use Rattle.fund_plan.specs.declared.outcome.Outcome.{Outcome}
 use Rattle.fund_plan.proofs.AnswerLaws.{answer_fits, answer_means, kept_answer}
 use Rattle.fund_plan.proofs.plan.Plan.go.Goals as goal

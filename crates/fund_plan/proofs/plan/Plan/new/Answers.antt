@@ -4,16 +4,16 @@ use Rattle.fund_base.specs.Candidates.{AreCandidates}
 use Rattle.fund_base.specs.declared.candidate.Candidate.{Candidate}
 use Rattle.request_text.specs.PlainRequest.{PlainRequest}
 use Rattle.wallet_text.specs.declared.wallet.Watch.{Watch}
-use Rattle.fund_plan.specs.Amounts.{AreWithin, value_of}
-use Rattle.fund_plan.specs.Answer.{is_preset}
+use Rattle.fund_steps.specs.Amounts.{AreWithin, value_of}
+use Rattle.fund_steps.specs.Listed.{is_preset}
 use Rattle.fund_plan.specs.Kept.{IsKept}
-use Rattle.fund_plan.specs.Plan.{HasEligible, IsPlan, IsRoomy, PlainPlan, ladder_in}
-use Rattle.fund_plan.specs.Selection.{is_listed}
-use Rattle.fund_plan.specs.Terms.{load_of}
-use Rattle.fund_plan.proofs.AnswerLaws.{all_eligible, is_missing, missing_is, plan_is}
-use Rattle.fund_plan.proofs.RowLaws.{filter_candidates}
-use Rattle.fund_plan.proofs.SelectionLaws.{taken_within}
-use Rattle.fund_plan.proofs.SumLaws.{value_within}
+use Rattle.fund_steps.specs.Plan.{HasEligible, IsPlan, IsRoomy, PlainPlan, ladder_in}
+use Rattle.fund_steps.specs.Selection.{is_listed}
+use Rattle.fund_steps.specs.Terms.{load_of}
+use Rattle.fund_steps.proofs.PresetLaws.{all_eligible, is_missing, missing_is, plan_is}
+use Rattle.fund_steps.proofs.RowLaws.{filter_candidates}
+use Rattle.fund_steps.proofs.SelectionLaws.{taken_within}
+use Rattle.fund_steps.proofs.SumLaws.{value_within}
 use Rattle.fund_plan.proofs.plan.Plan.new.Goals as goal
 
 pub total-sum-requires : goal.total-sum-requires

@@ -1,8 +1,0 @@
-use Rattle.fund_plan.proofs.FaultLaws.{fault_found, none_found}
-use Rattle.fund_plan.proofs.laws.faults_are_found.Goals as goal
-
-pub returns-clause-fault : goal.returns-clause-fault
-returns-clause-fault c = fault_found
-
-pub returns-clause-none : goal.returns-clause-none
-returns-clause-none c = none_found

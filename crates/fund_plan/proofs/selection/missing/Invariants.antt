@@ -1,6 +1,0 @@
-use Rattle.std.proofs.Common.{◌≡◌, drop}
-use Rattle.fund_plan.specs.Selection.{first_missing}
-use Rattle.fund_plan.proofs.selection.missing.Given as goal
-
-abbrev pub invariant-loop-point : goal.invariant-loop-point
-invariant-loop-point l = first_missing l.coins (drop l.point-index l.points) ≡ first_missing l.coins l.points

@@ -1,0 +1,92 @@
+-- What plans are made from, and which requests none is made for.
+use Rattle.std.specs.Prelude.{ℕ, ◌≡◌, ◌≢◌, ◌≤◌, ◌<◌, ◌⊎◌, ◌||◌, Bool, List, ◌∷◌, ◌++◌, All, Contains, IsTrue, None}
+use Rattle.fund_base.specs.Candidates.{AreCandidates}
+use Rattle.fund_base.specs.declared.candidate.Candidate.{Candidate}
+use Rattle.fund_base.specs.declared.outpoint.OutPoint.{OutPoint}
+use Rattle.output_groups.specs.Ladder.{ladder_of}
+use Rattle.output_groups.specs.Pool.{CountsKept}
+use Rattle.output_groups.specs.declared.rows.Row.{Row}
+use Rattle.request_text.specs.PlainRequest.{PlainRequest, IsRequest}
+use Rattle.wallet_text.specs.WalletRules.{IsWatch}
+use Rattle.wallet_text.specs.declared.wallet.Watch.{Watch}
+use Rattle.fund_steps.specs.Amounts.{value_of}
+use Rattle.fund_steps.specs.Selection.{unlisted}
+use Rattle.fund_steps.specs.declared.fault.PlanFault.{PlanFault}
+use Rattle.fund_steps.specs.declared.fault.PlanFault.TheVariants.{Total, NotEligible, TooMany, Memory}
+
+-- a request, where its change is paid, and the coins that may be spent
+pub record PlainPlan : Type 0 where
+  pub request : PlainRequest
+  pub change : Watch
+  pub candidates : List Candidate
+
+-- A coin that the request may list: it is a candidate, and safe unless the request takes unsafe ones.
+pub record IsEligible (p : PlainPlan) (c : Candidate) : Type 0 where
+  pub candidate : Contains p.candidates c
+  pub safe : IsTrue c.safe ⊎ IsTrue p.request.include_unsafe
+
+-- the same, of a candidate as a test
+abbrev pub may_be_listed : PlainRequest → Candidate → Bool
+may_be_listed r c = c.safe || r.include_unsafe
+
+-- such a coin is at an outpoint
+abbrev pub HasEligible : PlainPlan → OutPoint → Type 0
+HasEligible p point = (c : Candidate) × IsEligible p c × (c.coin ≡ point)
+
+-- no such coin is there
+abbrev pub HasNone : PlainPlan → OutPoint → Type 0
+HasNone p point = (c : Candidate) → IsEligible p c → c.coin ≢ point
+
+-- the first listed outpoint at which no such coin is
+pub record IsFirstMissing (p : PlainPlan) (point : OutPoint) : Type 0 where
+  pub front : List OutPoint
+  pub rest : List OutPoint
+  pub parts : p.request.coins ≡ front ++ point ∷ rest
+  pub before : All (HasEligible p) front
+  pub missing : HasNone p point
+
+-- the candidates are worth at most 21,000,000 bitcoin together
+abbrev pub IsWithin : PlainPlan → Type 0
+IsWithin p = value_of p.candidates ≤ 2_100_000_000_000_000
+
+-- the rows of the ladder
+abbrev pub ladder_in : PlainPlan → List Row
+ladder_in p = ladder_of p.request.zero_conf p.request.include_unsafe
+
+-- the row keeps n groups of the candidates that the request doesn't list
+abbrev pub KeepsGroups : PlainPlan → Row → ℕ → Type 0
+KeepsGroups p row n = CountsKept p.request.group row p.request.rate (unlisted p.request.coins p.candidates) n
+
+-- the row keeps at most 10,000 groups
+abbrev pub IsRoomy : PlainPlan → Row → Type 0
+IsRoomy p row = (n : ℕ) → KeepsGroups p row n → n ≤ 10_000
+
+-- the first row of the ladder that keeps more, by its number, and how many it keeps
+pub record IsFirstCrowded (p : PlainPlan) (number n : ℕ) : Type 0 where
+  pub front : List Row
+  pub row : Row
+  pub rest : List Row
+  pub parts : ladder_in p ≡ front ++ row ∷ rest
+  pub before : All (IsRoomy p) front
+  pub number_is : row.number ≡ number
+  pub keeps : KeepsGroups p row n
+  pub many : 10_000 < n
+
+-- What keeps a plan from being made. Total: the candidates are worth this much together, which is more than 21,000,000
+-- bitcoin. Not eligible: they aren't, and this is the first listed outpoint at which no eligible coin is. Too many: each
+-- has one, and this is the first row of the ladder that keeps more than 10,000 groups.
+abbrev pub IsFault : PlainPlan → PlanFault → Type 0
+IsFault p (Total sum) = (sum ≡ value_of p.candidates) × (2_100_000_000_000_000 < sum)
+IsFault p (NotEligible point) = IsWithin p × IsFirstMissing p point
+IsFault p (TooMany number n) = IsWithin p × All (HasEligible p) p.request.coins × IsFirstCrowded p number n
+IsFault p Memory = Unit {0}
+
+-- The rules that each plan keeps: those of its parts, and that no fault is there.
+pub record IsPlan (p : PlainPlan) : Type 0 where
+  pub request : IsRequest p.request
+  pub bump : p.request.bump ≡ None
+  pub change : IsWatch p.change
+  pub candidates : AreCandidates p.candidates
+  pub within : IsWithin p
+  pub eligible : All (HasEligible p) p.request.coins
+  pub roomy : All (IsRoomy p) (ladder_in p)

@@ -1,0 +1,94 @@
+//! What a request has to pay for, where its coins are given.
+
+ghost use Rattle.std.specs.Prelude.{◌≡◌, ◌≤◌, ◌≤ℤ◌, pos, sum_by, length, min};
+ghost use Rattle.fee_rates.specs.Output.{output_size_of};
+ghost use Rattle.fee_rates.specs.Terms.{AreRates, IsLoad};
+ghost use Rattle.request_text.specs.PlainRequest.{paid_to};
+ghost use Rattle.request_text.specs.declared.request.Recipient.{Recipient};
+ghost use Rattle.wallet_text.specs.WalletRules.{IsWatch};
+ghost use Rattle.fund_steps.specs.Amounts.{AreWithin};
+ghost use Rattle.fund_steps.specs.Terms.{load_of, rates_of};
+
+use crate::amounts::{effective, weight};
+use fee_rates::{Load, Rates, dust, output_size};
+use fund_base::{Candidate, MAX_MONEY};
+use request_text::{Recipient, Request};
+use wallet_text::Watch;
+
+/// What counts for a greater sum of sizes and a greater number of recipients: no payment of so many is within its
+/// weight.
+const MOST_COUNTED: u64 = 1_000_000_000;
+
+/// The rates of a request.
+pub fn rates(request: &Request) -> Rates
+    ensures value { result ≡ rates_of request.now }
+    ensures fit { AreRates result }
+{
+    request.keeps_rules();
+    Rates {
+        rate: request.rate,
+        long_term: request.long_term,
+        discard: request.discard,
+        change_target: request.change_target,
+    }
+}
+
+/// What the recipients get together, in satoshi.
+pub fn paid(request: &Request) -> u64
+    ensures value { result ≡ paid_to request.now.recipients }
+    ensures most { result ≤ MAX_MONEY }
+{
+    request.keeps_rules();
+    request
+        .recipients
+        .iter()
+        .map(|recipient| recipient.amount)
+        .sum()
+}
+
+/// The sizes of the recipients' outputs together, in bytes.
+fn outputs_size(recipients: &[Recipient]) -> u64
+    ensures value { result ≡ min (sum_by (λ (q : Recipient). output_size_of q.script) recipients.now) 1_000_000_000 }
+    ensures most { result ≤ MOST_COUNTED }
+{
+    let mut size = 0;
+    for recipient in recipients {
+        size = output_size(&recipient.script)
+            .saturating_add(size)
+            .min(MOST_COUNTED);
+    }
+    size
+}
+
+/// The number of the recipients.
+fn count(recipients: &[Recipient]) -> u64
+    ensures value { result ≡ min (length recipients.now) 1_000_000_000 }
+    ensures most { result ≤ MOST_COUNTED }
+{
+    (recipients.len() as u64).min(MOST_COUNTED)
+}
+
+/// The payment of a request from coins, beside which none is chosen, as its fee is reckoned.
+#[tactic(auto, using(crate::proofs::SumLaws::weights_within), unfolding(crate::specs::Terms::load_of))]
+pub fn load(request: &Request, change: &Watch, coins: &[Candidate]) -> Load
+    requires change { IsWatch change.now }
+    requires coins { AreWithin coins.now }
+    ensures value { result ≡ load_of request.now change.now coins.now }
+    ensures fit { IsLoad result }
+    ensures worth { result.preset_effective ≤ℤ pos MAX_MONEY }
+{
+    request.keeps_rules();
+    Load {
+        paid: paid(request),
+        outputs: outputs_size(&request.recipients),
+        count: count(&request.recipients),
+        coins: coins.len() as u64,
+        preset_effective: effective(request.rate, coins),
+        preset_weight: weight(coins),
+        has_presets: !coins.is_empty(),
+        burden: 0,
+        change_size: output_size(&change.script),
+        change_weight: change.weight,
+        change_dust: dust(&change.script),
+    }
+}
