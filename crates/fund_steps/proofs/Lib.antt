@@ -1,7 +1,10 @@
 pub mod FaultLaws
 pub mod OrderLaws
 pub mod PresetLaws
+pub mod ReachLaws
 pub mod RowLaws
 pub mod SelectionLaws
 pub mod StepLaws
 pub mod SumLaws
+pub mod TermLaws
+pub mod WholeLaws

@@ -1,7 +1,13 @@
 pub mod Amounts
+pub mod Basis
 pub mod Faults
+pub mod Kept
 pub mod Listed
+pub mod Making
 pub mod Plan
 pub mod Presets
+pub mod Reached
+pub mod Searches
 pub mod Selection
 pub mod Terms
+pub mod Turns

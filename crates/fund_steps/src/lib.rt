@@ -9,11 +9,13 @@ mod pools;
 mod presets;
 mod selection;
 mod terms;
+mod turns;
 
 pub use amounts::{effective, fees, total, value, weight};
 pub use fault::PlanFault;
-pub use laws::faults_are_found;
+pub use laws::{faults_are_found, no_answer_where_nothing_does, steps_stand_in_columns};
 pub use pools::{Crowded, first_crowded};
 pub use presets::{Presets, presets_alone};
 pub use selection::{Parted, missing, split};
 pub use terms::{load, paid, rates};
+pub use turns::Turn;

@@ -1,6 +1,6 @@
 //! What a request has to pay for, where its coins are given.
 
-ghost use Rattle.std.specs.Prelude.{◌≡◌, ◌≤◌, ◌≤ℤ◌, pos, sum_by, length, min};
+ghost use Rattle.std.specs.Prelude.{◌≡◌, ◌≤◌, ◌≤ℤ◌, pos, neg_ℤ, sum_by, length, min};
 ghost use Rattle.fee_rates.specs.Output.{output_size_of};
 ghost use Rattle.fee_rates.specs.Terms.{AreRates, IsLoad};
 ghost use Rattle.request_text.specs.PlainRequest.{paid_to};
@@ -76,6 +76,10 @@ pub fn load(request: &Request, change: &Watch, coins: &[Candidate]) -> Load
     ensures value { result ≡ load_of request.now change.now coins.now }
     ensures fit { IsLoad result }
     ensures worth { result.preset_effective ≤ℤ pos MAX_MONEY }
+    // bounds, for those who make steps
+    ensures low { neg_ℤ (pos 1_000_000_000_000_000) ≤ℤ result.preset_effective }
+    ensures dust { result.change_dust ≤ 31_000 }
+    ensures few { result.coins ≤ 100_000 }
 {
     request.keeps_rules();
     Load {
