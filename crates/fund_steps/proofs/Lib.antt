@@ -1,4 +1,5 @@
 pub mod FaultLaws
+pub mod MakingLaws
 pub mod OrderLaws
 pub mod PresetLaws
 pub mod ReachLaws

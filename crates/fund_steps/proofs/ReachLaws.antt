@@ -85,7 +85,6 @@ positive b r none =
 -- ---- one row
 
 module _ (b : Basis) (r : PlainRow) (t : ArePositive (terms_in b r)) (is : AreOf b.request.rate b.request.long_term r.pool) where
-
   abbrev problem : Stage → PlainProblem
   problem s = problem_by (terms_in b r) r.pool.items s
 
@@ -137,10 +136,10 @@ module _ (b : Basis) (r : PlainRow) (t : ArePositive (terms_in b r)) (is : AreOf
   plain_barren : IsProblem (problem stage.Changeless) → IsBarren stage.Changeless → (q : List ℕ) → IsChoice r.pool q → DoesPlain b r q → ⊥
   plain_barren fine none q c h =
       let part = window_part (problem stage.Changeless) fine refl q
-        (subst (λ (n : ℕ). Rising n 0 q) (sym as_many) c.rising)
-        (omega (arith, ints, value_is stage.Changeless q refl, h.low, abs_of (terms_in b r).target t.target))
-        (omega (arith, ints, value_is stage.Changeless q refl, h.high, abs_of (terms_in b r).hi hi_some))
-        (omega (arith, weight_is stage.Changeless q refl, h.light))
+      (subst (λ (n : ℕ). Rising n 0 q) (sym as_many) c.rising)
+      (omega (arith, ints, value_is stage.Changeless q refl, h.low, abs_of (terms_in b r).target t.target))
+      (omega (arith, ints, value_is stage.Changeless q refl, h.high, abs_of (terms_in b r).hi hi_some))
+      (omega (arith, weight_is stage.Changeless q refl, h.light))
       in none part.0 part.2
 
   change_barren : IsBarren stage.LeanSmall → (q : List ℕ) → IsChoice r.pool q → DoesChange b r q → ⊥
@@ -201,7 +200,6 @@ unfolding pool_of
 pool_items b row = refl
 
 module _ (b : Basis) (seed : List ℕ) (auto : b.request.method ≡ Auto) (bare : b.presets ≡ []) where
-
   searched : is_given b ≡ false
   unfolding load_of
   searched = ap (λ (cs : List Candidate). not (length cs == 0) && int_le (target_of (rates_of b.request) (load_alone b)) (pos 0)) bare

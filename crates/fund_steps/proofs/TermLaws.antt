@@ -1,7 +1,7 @@
 -- The terms of rows, by those of the presets alone.
 use Rattle.std.specs.Prelude.{ℕ, ℤ, pos, neg_ℤ, ◌≡◌, ◌≢◌, ◌&&◌, int_le, ◌+◌, ◌≤◌, ◌≤ℤ◌, Bool, true, false, cond, length, nat_le, nat_lt, if◌then◌else◌}
 use Rattle.std.specs.Int.{int_max}
-use Rattle.std.proofs.Common.{arith, refl}
+use Rattle.std.proofs.Common.{List, ◌<◌, length, arith, refl}
 use Rattle.std.proofs.lemmas.Bool.{cond_both, le-leb, leb-true}
 use Rattle.std.proofs.lemmas.Int.{ints, int_max_is}
 use Rattle.fund_base.specs.CompactSize.{compact}
@@ -11,9 +11,10 @@ use Rattle.fee_rates.specs.Fee.{fee_of, vsize_of, input_fee_of}
 use Rattle.fee_rates.specs.Terms.{AreRates, IsLoad, base_of, raw_of, small_of, target_of, terms_of}
 use Rattle.fee_rates.specs.declared.terms.Load.{Load}
 use Rattle.fee_rates.specs.declared.terms.Rates.{Rates}
-use Rattle.fund_steps.specs.Making.{AreSearchable}
+use Rattle.fund_steps.specs.Making.{AreReady, AreSearchable}
 use Rattle.fund_steps.specs.Presets.{presets_of}
 use Rattle.fund_steps.specs.Searches.{is_met, load_with}
+use Rattle.fund_steps.specs.declared.turns.Turn.{Turn}
 use Rattle.fund_steps.specs.declared.presets.Presets.TheVariants.{Short}
 
 -- ---- more coins at hand leave no less to bring
@@ -88,6 +89,25 @@ searchable r l rates load low dust some =
       change_fee = fee;
       change_spend = spend;
     }
+
+loaded : (l : Load) (n : ℕ) → IsLoad l → IsLoad (load_with l n)
+loaded l n h = record {
+  paid = h.paid;
+  outputs = h.outputs;
+  count = h.count;
+  preset_low = h.preset_low;
+  preset_high = h.preset_high;
+  preset_weight = h.preset_weight;
+  burden = h.burden;
+  change_size = h.change_size;
+  change_weight = h.change_weight;
+}
+
+-- the terms of a row that has a stage are such
+pub row_searchable : (r : Rates) (l : Load) (us : List Turn) (n : ℕ) → AreReady r l us → 0 < length us → AreSearchable (terms_of r (load_with l n))
+row_searchable r l us n h some =
+    let target = target_grows r l n in
+    searchable r (load_with l n) h.rates (loaded l n h.load) h.low h.dust (omega (arith, ints, target, h.some some))
 
 -- ---- presets that don't bring all that is needed
 

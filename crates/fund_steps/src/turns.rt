@@ -85,13 +85,7 @@ fn turns(method: Method, high: bool) -> &'static [Turn]
     ensures stages { All (λ u. HasSteps u.stage) result.now }
 {
     match method {
-        Method::Auto => {
-            if high {
-                &AUTO_HIGH[..]
-            } else {
-                &AUTO[..]
-            }
-        }
+        Method::Auto => { if high { &AUTO_HIGH[..] } else { &AUTO[..] } }
         Method::Changeless => &CHANGELESS[..],
         Method::Weight => &WEIGHT[..],
         Method::Draw => &DRAW[..],

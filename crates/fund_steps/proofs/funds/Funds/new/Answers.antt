@@ -1,0 +1,116 @@
+use Rattle.std.specs.Prelude.{All, filter, not}
+use Rattle.std.proofs.Common.{◌≡◌, ◌≤◌, ◌∙◌, refl, sym, ap, subst, arith, List, Vec, Global}
+use Rattle.fund_base.specs.Candidates.{AreCandidates}
+use Rattle.fund_base.specs.declared.candidate.Candidate.{Candidate}
+use Rattle.request_text.specs.PlainRequest.{PlainRequest}
+use Rattle.wallet_text.specs.declared.wallet.Watch.{Watch}
+use Rattle.fund_steps.specs.Amounts.{AreWithin, value_of}
+use Rattle.fund_steps.specs.Listed.{is_preset}
+use Rattle.fund_steps.specs.Kept.{IsKept}
+use Rattle.fund_steps.specs.Plan.{HasEligible, IsPlan, IsRoomy, PlainPlan, ladder_in}
+use Rattle.fund_steps.specs.Selection.{in_order, is_listed}
+use Rattle.fund_steps.specs.Basis.{basis_of}
+use Rattle.fund_steps.specs.Searches.{steps_of}
+use Rattle.fund_steps.specs.Terms.{load_of}
+use Rattle.fund_steps.proofs.PresetLaws.{all_eligible, is_missing, missing_is, plan_is}
+use Rattle.fund_steps.proofs.RowLaws.{filter_candidates}
+use Rattle.fund_steps.proofs.SelectionLaws.{taken_within}
+use Rattle.fund_steps.proofs.MakingLaws.{load_is_alone, steps_are}
+use Rattle.fund_steps.proofs.SumLaws.{value_within}
+use Rattle.fund_steps.proofs.funds.Funds.new.Goals as goal
+
+-- listed candidates of so much are within their bounds
+fit_of : (r : PlainRequest) (cs presets : List Candidate) → presets ≡ in_order (filter (is_preset r) cs) → AreCandidates cs → value_of cs ≤ 2_100_000_000_000_000 → AreWithin presets
+fit_of r cs presets is h few = subst AreWithin (sym is) (taken_within (is_preset r) cs h few)
+
+pub total-sum-requires : goal.total-sum-requires
+total-sum-requires c = rw c.deref.ensures.value (value_within c.args.candidates.items c.requires.candidates)
+
+pub returns-in-Some-clause-fault : goal.returns-in-Some-clause-fault
+returns-in-Some-clause-fault c =
+    let p : PlainPlan = record { request = c.args.request.now; change = c.args.change.now; candidates = c.args.candidates.items } in
+    let few : value_of c.deref.result.now ≤ 2_100_000_000_000_000 = omega (arith, c.if-sum-from.false, c.from.ensures, c.total-sum.ensures) in
+    let points = c.deref-3.ensures.value ∙ ap (λ (q : PlainRequest). q.coins) c.request.view_is in
+    let missing = missing_is p c.in_ok-point.field-0 c.deref-2.result.now c.deref-3.result.now c.in_ok-point.ensures (c.deref-2.ensures.value ∙ c.in_ok-presets.ensures.listed) points in
+    (subst (λ (l : List Candidate). value_of l ≤ 2_100_000_000_000_000) c.deref.ensures.value few, is_missing p c.in-Some.point (sym missing ∙ c.in-Some.is))
+
+pub load-load-requires-clause-coins : goal.load-load-requires-clause-coins
+load-load-requires-clause-coins c =
+    let few : value_of c.deref.result.now ≤ 2_100_000_000_000_000 = omega (arith, c.if-sum-from.false, c.from.ensures, c.total-sum.ensures) in
+    let within = subst (λ (l : List Candidate). value_of l ≤ 2_100_000_000_000_000) c.deref.ensures.value few in
+    rw c.deref-4.ensures.value (fit_of c.args.request.now c.args.candidates.items c.in_ok-presets.field-0.listed.items c.in_ok-presets.ensures.listed c.requires.candidates within)
+
+pub add_rows-requires-clause-coins : goal.add_rows-requires-clause-coins
+add_rows-requires-clause-coins c =
+    let rest = c.deref-5.ensures.value ∙ c.in_ok-presets.ensures.rest in
+    subst AreCandidates (sym rest) (filter_candidates (λ x. not (is_listed c.args.request.now.coins x.coin)) c.args.candidates.items c.requires.candidates)
+
+pub returns-in-Some-2-clause-fault : goal.returns-in-Some-2-clause-fault
+returns-in-Some-2-clause-fault c =
+    let p : PlainPlan = record { request = c.args.request.now; change = c.args.change.now; candidates = c.args.candidates.items } in
+    let few : value_of c.deref.result.now ≤ 2_100_000_000_000_000 = omega (arith, c.if-sum-from.false, c.from.ensures, c.total-sum.ensures) in
+    let points = c.deref-3.ensures.value ∙ ap (λ (q : PlainRequest). q.coins) c.request.view_is in
+    let missing = missing_is p c.in_ok-point.field-0 c.deref-2.result.now c.deref-3.result.now c.in_ok-point.ensures (c.deref-2.ensures.value ∙ c.in_ok-presets.ensures.listed) points in
+    let rest = c.deref-5.ensures.value ∙ c.in_ok-presets.ensures.rest in
+    let first = rw c.in-Some-2.is at (c.in_ok-row.ensures.first p refl (sym rest)) in
+    (subst (λ (l : List Candidate). value_of l ≤ 2_100_000_000_000_000) c.deref.ensures.value few, all_eligible p (sym missing ∙ c.in_default.is), first)
+
+abbrev plain : PlainRequest → Watch → List Candidate → PlainPlan
+plain r w cs = record { request = r; change = w; candidates = cs }
+
+-- what the sum was tested for
+within : (c : goal.After-rates) → value_of c.args.candidates.items ≤ 2_100_000_000_000_000
+within c =
+    let few : value_of c.deref.result.now ≤ 2_100_000_000_000_000 = omega (arith, c.if-sum-from.false, c.from.ensures, c.total-sum.ensures) in
+    subst (λ (l : List Candidate). value_of l ≤ 2_100_000_000_000_000) c.deref.ensures.value few
+
+-- the parts keep the rules of a plan
+made : (c : goal.After-rates) → IsPlan (plain c.args.request.now c.args.change.now c.args.candidates.items)
+made c =
+    let p = plain c.args.request.now c.args.change.now c.args.candidates.items in
+    let points = c.deref-3.ensures.value ∙ ap (λ (q : PlainRequest). q.coins) c.request.view_is in
+    let missing = missing_is p c.in_ok-point.field-0 c.deref-2.result.now c.deref-3.result.now c.in_ok-point.ensures (c.deref-2.ensures.value ∙ c.in_ok-presets.ensures.listed) points in
+    let rest = c.deref-5.ensures.value ∙ c.in_ok-presets.ensures.rest in
+    let roomy : All (IsRoomy p) (ladder_in p) = c.in_ok-row.ensures.none p refl (sym rest) c.in_default-2.is in
+    plan_is p c.keeps_rules.ensures c.requires.bump c.requires.change c.requires.candidates (within c) (sym missing ∙ c.in_default.is) roomy
+
+-- what is kept of the parts is what they are
+seen : (c : goal.After-rates) → plain c.args.request.now c.args.change.now c.args.candidates.items ≡ plain c.of.result.value c.of-2.result.value c.of-all.result.value.items
+seen c =
+    ap (λ (r : PlainRequest). plain r c.args.change.now c.args.candidates.items) (sym c.of.ensures)
+    ∙ ap (λ (w : Watch). plain c.of.result.value w c.args.candidates.items) (sym c.of-2.ensures)
+    ∙ ap (λ (v : Vec Candidate Global). plain c.of.result.value c.of-2.result.value v.items) (sym c.of-all.ensures)
+
+pub invariant_of-funds : goal.invariant_of-funds
+invariant_of-funds c =
+    let presets = c.in_ok-presets.field-0.listed.items in
+    let load = c.load-load.ensures.value ∙ ap (load_of c.args.request.now c.args.change.now) c.deref-4.ensures.value in
+    subst (λ (p : PlainPlan). IsKept p presets c.in_ok-presets.field-0.rest.items c.rates.result c.load-load.result) (seen c) (record {
+      plan = made c;
+      presets_are = c.in_ok-presets.ensures.listed;
+      rest_is = c.in_ok-presets.ensures.rest;
+      rates_are = c.rates.ensures.value;
+      load_is = load;
+      presets_fit = fit_of c.args.request.now c.args.candidates.items presets c.in_ok-presets.ensures.listed c.requires.candidates (within c);
+      rates_fit = c.rates.ensures.fit;
+      load_fits = c.load-load.ensures.fit;
+      worth = c.load-load.ensures.worth;
+    })
+
+pub returns-clause-eligible : goal.returns-clause-eligible
+returns-clause-eligible c = subst (λ (p : PlainPlan). All (HasEligible p) p.request.coins) (seen c) (made c).eligible
+
+pub returns-clause-roomy : goal.returns-clause-roomy
+returns-clause-roomy c = subst (λ (p : PlainPlan). All (IsRoomy p) (ladder_in p)) (seen c) (made c).roomy
+
+pub returns-clause-steps : goal.returns-clause-steps
+returns-clause-steps c =
+    let p = plain c.args.request.now c.args.change.now c.args.candidates.items in
+    let presets = c.in_ok-presets.field-0.listed.items in
+    let load = c.load-load.ensures.value ∙ ap (load_of c.args.request.now c.args.change.now) c.deref-4.ensures.value in
+    let rest = c.deref-5.ensures.value ∙ c.in_ok-presets.ensures.rest in
+    let alone = load_is_alone p presets c.load-load.result load c.in_ok-presets.ensures.listed in
+    let stepped = rw c.new-steps.ensures.items at (c.in_ok-row.ensures.steps c.in_default-2.is) in
+    stepped
+    ∙ steps_are (basis_of p) c.load-load.result c.deref-5.result.now c.row_turns-turns.result.now alone rest c.row_turns-turns.ensures.value
+    ∙ ap (λ (q : PlainPlan). steps_of (basis_of q)) (seen c)

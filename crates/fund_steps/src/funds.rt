@@ -1,0 +1,155 @@
+//! What a payment of a request is made from.
+
+ghost use Rattle.std.specs.Prelude.{◌≡◌, All, IfErr, IfOk, None};
+ghost use Rattle.fund_base.specs.Candidates.{AreCandidates};
+ghost use Rattle.wallet_text.specs.WalletRules.{IsWatch};
+ghost use Rattle.search_run.specs.Step.{AreSteps};
+ghost use Rattle.fund_steps.specs.Basis.{basis_of, given_in};
+ghost use Rattle.fund_steps.specs.Plan.{HasEligible, IsFault, IsPlan, IsRoomy, IsWithin, ladder_in};
+ghost use Rattle.fund_steps.specs.Amounts.{AreWithin};
+ghost use Rattle.fund_steps.specs.Listed.{presets_in};
+ghost use Rattle.fund_steps.specs.Searches.{steps_of};
+ghost use Rattle.fund_steps.specs.Selection.{unlisted};
+
+use crate::amounts::total;
+use crate::fault::PlanFault;
+use crate::pools::add_rows;
+use crate::presets::{Presets, presets_alone};
+use crate::selection::{Parted, missing, split};
+use crate::terms::{load, rates};
+use crate::turns::row_turns;
+use fee_rates::{Load, Rates};
+use fund_base::{Candidate, MAX_MONEY};
+use request_text::Request;
+use search_run::Step;
+use std::alloc::Global;
+use std::marker::Model;
+use std::snapshot::Snapshot;
+use wallet_text::Watch;
+
+/// What a payment of a request is made from: the coins that each payment spends, those that may be added, the rates, and
+/// what the payment is to carry. It is seen as the plan: the request, the script that its change is paid to, and the
+/// candidates. It keeps the rules that [`Funds::keeps_rules`] states.
+#[derive(Drop)]
+pub struct Funds {
+    // what the plan was made from takes no memory
+    request: Snapshot<Request>,
+    change: Snapshot<Watch>,
+    candidates: Snapshot<Vec<Candidate>>,
+    // the listed coins, in the order of their outpoints, and the candidates that aren't listed
+    presets: Vec<Candidate>,
+    rest: Vec<Candidate>,
+    rates: Rates,
+    load: Load,
+}
+
+impl Model for Funds {
+    ghost use Rattle.fund_steps.specs.Plan.{PlainPlan};
+    ghost use Rattle.fund_steps.specs.Kept.{IsKept};
+
+    ghost Value = { PlainPlan };
+
+    ghost view = { λ p. record { request = p.request.value; change = p.change.value; candidates = p.candidates.value.items } };
+
+    ghost invariant = { λ p. IsKept (record { request = p.request.value; change = p.change.value; candidates = p.candidates.value.items }) p.presets.items p.rest.items p.rates p.load };
+}
+
+/// What a payment is made from, and the steps of the run that chooses coins for it.
+#[derive(Drop)]
+pub struct Prepared {
+    pub funds: Funds,
+    pub steps: Vec<Step>,
+}
+
+impl Funds {
+    /// What a payment of a request that replaces none is made from, and the steps of its run. The change script keeps the
+    /// rules of a wallet's, and the candidates are at most 100,000, each outpoint once.
+    ///
+    /// The steps go through the rows of the request's ladder in order, and in each through the stages of its method, each
+    /// with the problem of the row's pool. There are none with `manual`, and none where coins are listed that bring all
+    /// that is needed. The pool of a row is made once, and dropped when its steps are made.
+    ///
+    /// [`PlanFault::Total`] comes exactly where the candidates are worth more than 21,000,000 bitcoin together. Otherwise
+    /// [`PlanFault::NotEligible`] comes exactly where the request lists an outpoint at which there is no candidate that is
+    /// safe, or that may be unsafe because the request says `include_unsafe`; it shows the first such outpoint. Otherwise
+    /// [`PlanFault::TooMany`] comes exactly where a row of the request's ladder keeps more than 10,000 groups of the
+    /// candidates that it doesn't list; it shows the first such row.
+    pub fn new(
+        alloc: Global,
+        request: &Request,
+        change: &Watch,
+        candidates: Vec<Candidate>,
+    ) -> Result<Prepared, PlanFault>
+        requires bump { request.now.bump ≡ None }
+        requires change { IsWatch change.now }
+        requires candidates { AreCandidates candidates.items }
+        ensures made { IfOk result (λ s. s.funds ≡ record { request = request.now; change = change.now; candidates = candidates.items }) }
+        ensures steps { IfOk result (λ s. s.steps.items ≡ steps_of (basis_of s.funds)) }
+        ensures fine { IfOk result (λ s. AreSteps s.steps.items) }
+        ensures within { IfOk result (λ s. IsWithin s.funds) }
+        ensures eligible { IfOk result (λ s. All (HasEligible s.funds) s.funds.request.coins) }
+        ensures roomy { IfOk result (λ s. All (IsRoomy s.funds) (ladder_in s.funds)) }
+        ensures fault { IfErr result (IsFault (record { request = request.now; change = change.now; candidates = candidates.items })) }
+    {
+        let sum = total(&candidates);
+        if sum > u128::from(MAX_MONEY) {
+            return Err(PlanFault::Total(sum));
+        }
+        let all = Snapshot::of(&candidates);
+        let Parted {
+            listed: presets,
+            rest,
+        } = split(alloc, request, candidates)?;
+        if let Some(point) = missing(alloc, &presets, &request.coins)? {
+            return Err(PlanFault::NotEligible(point));
+        }
+        let load = load(request, change, &presets);
+        let turns = row_turns(request, &load);
+        let mut steps = Vec::new(alloc);
+        if let Some(row) = add_rows(alloc, request, &rest, &load, turns, &mut steps)? {
+            return Err(PlanFault::TooMany(row.number, row.groups));
+        }
+        request.keeps_rules();
+        let funds = Funds {
+            request: Snapshot::of(request),
+            change: Snapshot::of(change),
+            candidates: all,
+            presets,
+            rest,
+            rates: rates(request),
+            load,
+        };
+        Ok(Prepared { funds, steps })
+    }
+
+    /// That the funds keep the rules of a plan: those of the request, of the change script and of the candidates; that the
+    /// candidates are worth at most 21,000,000 bitcoin together; that at each listed outpoint there is a candidate that
+    /// the request may list; and that each row of the ladder keeps at most 10,000 groups of the others. A call does nothing.
+    pub fn keeps_rules(&self)
+        ensures { IsPlan self.now }
+    {
+        let _ = &self.rates;
+    }
+
+    /// The coins that each payment spends, in the order of their outpoints: those that the request lists.
+    pub fn presets(&self) -> &[Candidate]
+        ensures value { result.now ≡ presets_in self.now }
+        ensures fit { AreWithin result.now }
+    {
+        self.presets.as_slice()
+    }
+
+    /// The coins that may be added to them: the candidates that the request doesn't list.
+    pub fn rest(&self) -> &[Candidate]
+        ensures { result.now ≡ unlisted self.now.request.coins self.now.candidates }
+    {
+        self.rest.as_slice()
+    }
+
+    /// Whether the coins that each payment spends pay alone, and how.
+    pub fn alone(&self) -> Presets
+        ensures { result ≡ given_in (basis_of self.now) }
+    {
+        presets_alone(&self.rates, &self.load)
+    }
+}

@@ -1,0 +1,172 @@
+//! The steps of one row.
+
+ghost use Rattle.std.specs.Prelude.{◌≡◌, ◌≤◌, ◌++◌, List, All, pos, unsigned_abs, ◌≤ℤ◌, length, map, sum_by, IfOk, OnOk};
+ghost use Rattle.fee_rates.specs.Terms.{AreRates, IsLoad, terms_of};
+ghost use Rattle.fund_base.specs.declared.candidate.Candidate.{Candidate};
+ghost use Rattle.pick_problem.specs.Pool.{AreItems};
+ghost use Rattle.pick_problem.specs.Problem.{IsProblem};
+ghost use Rattle.search_run.specs.Step.{AreSteps, IsStep};
+ghost use Rattle.fund_steps.specs.Making.{AreReady, AreSearchable, IsSearchablePool, steps_with};
+ghost use Rattle.fund_steps.specs.Searches.{ending_by, load_with, problem_by, sizes_of, step_by};
+ghost use Rattle.fund_steps.specs.Turns.{HasSteps};
+
+use crate::turns::Turn;
+use closing_log::Stage;
+use fee_rates::{Load, Rates, Terms};
+use fund_base::Memory;
+use output_groups::{Group, Row, RowPool};
+use pick_problem::{Item, Kind, Problem};
+use search_run::Step;
+use std::alloc::Global;
+
+/// How many coins each group has.
+fn sizes(alloc: Global, groups: &[Group]) -> Result<Vec<u8>, Memory>
+    requires { All (λ (g : List Candidate). length g ≤ 100) groups.now }
+    ensures { IfOk result (λ v. v.items ≡ sizes_of groups.now) }
+{
+    let mut sizes = Vec::new(alloc);
+    for group in groups {
+        sizes.push(group.as_slice().len() as u8)?;
+    }
+    Ok(sizes)
+}
+
+/// How many coins the groups have together.
+fn coins(groups: &[Group]) -> u64
+    requires few { length groups.now ≤ 10_000 }
+    requires each { All (λ (g : List Candidate). length g ≤ 100) groups.now }
+    ensures value { result ≡ sum_by (λ (g : List Candidate). length g) groups.now }
+    ensures most { result ≤ 1_000_000 }
+{
+    let mut sum = 0;
+    for group in groups {
+        sum += group.as_slice().len() as u64;
+    }
+    sum
+}
+
+/// The search for a payment without change.
+fn plain_problem(terms: &Terms, items: Vec<Item>) -> Problem
+    requires terms { AreSearchable terms.now }
+    requires items { AreItems items.items }
+    ensures value { result ≡ problem_by terms.now items.items Stage.Changeless }
+    ensures problem { IsProblem result }
+{
+    let problem = Problem::new(
+        items,
+        terms.target as u64,
+        terms.hi as u64,
+        terms.plain_limit,
+        Kind::Changeless,
+    );
+    let _ = problem.items();
+    problem
+}
+
+/// The search for a payment with change, from an amount on.
+fn change_problem(items: Vec<Item>, lo: i128, most_weight: u64) -> Problem
+    requires some { pos 1 ≤ℤ lo }
+    requires fits { lo ≤ℤ pos 18_446_744_073_709_551_615 }
+    requires items { AreItems items.items }
+    ensures value { result ≡ record { items = items.items; lo = unsigned_abs lo; hi = unsigned_abs lo; most_weight = most_weight; kind = Kind.Lean } }
+    ensures problem { IsProblem result }
+{
+    let lo = lo as u64;
+    let problem = Problem::new(items, lo, lo, most_weight, Kind::Lean);
+    let _ = problem.items();
+    problem
+}
+
+/// What is looked for at a stage of a row.
+fn problem(alloc: Global, terms: &Terms, items: &[Item], stage: Stage) -> Result<Problem, Memory>
+    requires terms { AreSearchable terms.now }
+    requires items { AreItems items.now }
+    ensures value { IfOk result (λ p. p ≡ problem_by terms.now items.now stage) }
+    ensures problem { IfOk result IsProblem }
+{
+    let items = Vec::from_slice(alloc, items)?;
+    let problem = match stage {
+        Stage::Changeless => plain_problem(terms, items),
+        Stage::LeanSmall => change_problem(items, terms.small, terms.change_limit),
+        Stage::Presets | Stage::LeanBig | Stage::Draw | Stage::Wide => change_problem(
+            items,
+            terms.big,
+            terms.change_limit,
+        ),
+    };
+    Ok(problem)
+}
+
+/// What making and spending a change costs, where the results of a stage have one.
+fn ending(terms: &Terms, stage: Stage) -> u64
+    requires { AreSearchable terms.now }
+    ensures value { result ≡ ending_by terms.now stage }
+    ensures most { result ≤ 1_000_000_000_000_000_000 }
+{
+    match stage {
+        Stage::Changeless => 0,
+        Stage::Presets | Stage::LeanBig | Stage::Draw | Stage::LeanSmall | Stage::Wide => {
+            terms.change_fee + terms.change_spend
+        }
+    }
+}
+
+/// The step of a row at a stage, by the row's terms.
+fn step(
+    alloc: Global,
+    terms: &Terms,
+    row: &Row,
+    pool: &RowPool,
+    turn: &Turn,
+) -> Result<Step, Memory>
+    requires terms { AreSearchable terms.now }
+    requires pool { IsSearchablePool pool.now }
+    requires stage { HasSteps turn.now.stage }
+    ensures value { IfOk result (λ s. s ≡ step_by terms.now (record { row = row.now; pool = pool.now }) turn.now) }
+    ensures step { IfOk result IsStep }
+{
+    let problem = problem(alloc, terms, &pool.items, turn.stage)?;
+    let sizes = sizes(alloc, &pool.groups)?;
+    let ending = ending(terms, turn.stage);
+    Ok(Step::new(row.number, turn.stage, problem, ending, sizes, turn.last))
+}
+
+/// The terms of a payment from the presets and from a row's pool: all coins of both count.
+fn row_terms(rates: &Rates, load: &Load, pool: &RowPool) -> Terms
+    requires rates { AreRates rates.now }
+    requires load { IsLoad load.now }
+    requires few { load.now.coins ≤ 100_000 }
+    requires pool { IsSearchablePool pool.now }
+    ensures { result ≡ terms_of rates.now (load_with load.now (sum_by (λ (g : List Candidate). length g) pool.now.groups)) }
+{
+    let coins = coins(&pool.groups);
+    Terms::new(
+        rates,
+        &Load {
+            coins: load.coins + coins,
+            ..*load
+        },
+    )
+}
+
+/// Adds the steps of a row with this pool.
+pub fn add_steps(
+    alloc: Global,
+    rates: &Rates,
+    load: &Load,
+    row: &Row,
+    pool: &RowPool,
+    turns: &[Turn],
+    steps: &mut Vec<Step>,
+) -> Result<(), Memory>
+    requires ready { AreReady rates.now load.now turns.now }
+    requires pool { IsSearchablePool pool.now }
+    ensures steps { OnOk result (steps.new.items ≡ steps.old.items ++ steps_with rates.now load.now turns.now (record { row = row.now; pool = pool.now })) }
+    ensures fine { OnOk result (AreSteps steps.old.items → AreSteps steps.new.items) }
+{
+    let terms = row_terms(rates, load, pool);
+    for turn in turns {
+        steps.push(step(alloc, &terms, row, pool, turn)?)?;
+    }
+    Ok(())
+}
