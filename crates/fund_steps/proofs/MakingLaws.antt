@@ -99,7 +99,7 @@ rows_more f old now new rows i d lt was is =
 
 -- ---- what is made is what is defined
 
-alone_is : (p : PlainPlan) → load_of p.request p.change (presets_in p) ≡ load_alone (basis_of p)
+pub alone_is : (p : PlainPlan) → load_of p.request p.change (presets_in p) ≡ load_alone (basis_of p)
 unfolding load_of
 alone_is p = refl
 

@@ -1,15 +1,17 @@
 //! What a payment of a request is made from.
 
-ghost use Rattle.std.specs.Prelude.{◌≡◌, All, IfErr, IfOk, None};
+ghost use Rattle.std.specs.Prelude.{◌≡◌, ◌≤ℤ◌, pos, All, IfErr, IfOk, None};
 ghost use Rattle.fund_base.specs.Candidates.{AreCandidates};
+ghost use Rattle.fee_rates.specs.Terms.{AreRates, IsLoad};
 ghost use Rattle.wallet_text.specs.WalletRules.{IsWatch};
 ghost use Rattle.search_run.specs.Step.{AreSteps};
-ghost use Rattle.fund_steps.specs.Basis.{basis_of, given_in};
+ghost use Rattle.fund_steps.specs.Basis.{basis_of, given_in, load_alone};
 ghost use Rattle.fund_steps.specs.Plan.{HasEligible, IsFault, IsPlan, IsRoomy, IsWithin, ladder_in};
 ghost use Rattle.fund_steps.specs.Amounts.{AreWithin};
 ghost use Rattle.fund_steps.specs.Listed.{presets_in};
 ghost use Rattle.fund_steps.specs.Searches.{steps_of};
 ghost use Rattle.fund_steps.specs.Selection.{unlisted};
+ghost use Rattle.fund_steps.specs.Terms.{load_of, rates_of};
 
 use crate::amounts::total;
 use crate::fault::PlanFault;
@@ -141,9 +143,28 @@ impl Funds {
 
     /// The coins that may be added to them: the candidates that the request doesn't list.
     pub fn rest(&self) -> &[Candidate]
-        ensures { result.now ≡ unlisted self.now.request.coins self.now.candidates }
+        ensures value { result.now ≡ unlisted self.now.request.coins self.now.candidates }
+        ensures candidates { AreCandidates result.now }
     {
         self.rest.as_slice()
+    }
+
+    /// The rates of the request.
+    pub fn rates(&self) -> Rates
+        ensures value { result ≡ rates_of self.now.request }
+        ensures fit { AreRates result }
+    {
+        self.rates
+    }
+
+    /// What a payment from the coins that each payment spends is to carry, where no other is added.
+    pub fn load(&self) -> Load
+        ensures value { result ≡ load_of self.now.request self.now.change (presets_in self.now) }
+        ensures alone { result ≡ load_alone (basis_of self.now) }
+        ensures fit { IsLoad result }
+        ensures worth { result.preset_effective ≤ℤ pos MAX_MONEY }
+    {
+        self.load
     }
 
     /// Whether the coins that each payment spends pay alone, and how.

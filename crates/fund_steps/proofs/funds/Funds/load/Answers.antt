@@ -1,0 +1,18 @@
+use Rattle.std.proofs.Common.{◌∙◌, ap, subst}
+use Rattle.fund_steps.proofs.MakingLaws.{load_is_alone}
+use Rattle.fund_steps.specs.Kept.{IsKept}
+use Rattle.fund_steps.specs.Plan.{PlainPlan}
+use Rattle.fund_steps.specs.Terms.{load_of}
+use Rattle.fund_steps.proofs.funds.Funds.load.Goals as goal
+
+pub returns-clause-value : goal.returns-clause-value
+returns-clause-value c =
+    let i = c.self.inside in
+    let kept = subst (λ (p : PlainPlan). IsKept p i.presets.items i.rest.items i.rates i.load) c.self.view_is c.self.invariant in
+    kept.load_is ∙ ap (load_of c.args.self.now.request c.args.self.now.change) kept.presets_are
+
+pub returns-clause-alone : goal.returns-clause-alone
+returns-clause-alone c =
+    let i = c.self.inside in
+    let kept = subst (λ (p : PlainPlan). IsKept p i.presets.items i.rest.items i.rates i.load) c.self.view_is c.self.invariant in
+    load_is_alone c.args.self.now i.presets.items i.load kept.load_is kept.presets_are
