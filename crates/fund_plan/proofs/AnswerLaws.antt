@@ -1,16 +1,14 @@
 -- What the outcome of a plan means, and that it has one.
 use Rattle.std.specs.Prelude.{◌≡◌, List, filter, All, Some, None}
-use Rattle.std.proofs.Common.{refl, ap, ◌∙◌}
+use Rattle.std.proofs.Common.{sym, refl, ap, ◌∙◌}
 use Rattle.fund_base.specs.declared.candidate.Candidate.{Candidate}
 use Rattle.fund_steps.proofs.PresetLaws.{presets_listed}
 use Rattle.fee_rates.specs.declared.terms.Load.{Load}
-use Rattle.fee_rates.specs.declared.terms.Rates.{Rates}
 use Rattle.request_text.specs.PlainRequest.{PlainRequest}
 use Rattle.wallet_text.specs.declared.wallet.Watch.{Watch}
 use Rattle.fund_plan.specs.Answer.{Answers, HasSelection, answer_of, by_presets}
 use Rattle.fund_steps.specs.Listed.{AreListed, is_preset, presets_in}
 use Rattle.fund_steps.specs.Amounts.{AreWithin}
-use Rattle.fund_plan.specs.Kept.{IsKept}
 use Rattle.fund_steps.specs.Plan.{HasEligible, PlainPlan}
 use Rattle.fund_steps.specs.Presets.{presets_of}
 use Rattle.fund_steps.specs.Selection.{AreSorted}
@@ -18,6 +16,8 @@ use Rattle.fund_steps.specs.Terms.{load_of, rates_of}
 use Rattle.fund_steps.specs.declared.presets.Presets.{Presets}
 use Rattle.fund_steps.specs.declared.presets.Presets.TheVariants.{Short, Plain, Change}
 use Rattle.fund_plan.proofs.PaysLaws.{pays_none, pays_plain, pays_change, selection_is}
+use Rattle.fund_steps.proofs.MakingLaws.{alone_is}
+use Rattle.fund_steps.specs.Basis.{basis_of, given_in}
 use Rattle.fund_steps.proofs.SelectionLaws.{in_order_sorted}
 
 -- ---- what the outcome means
@@ -31,13 +31,14 @@ pub answer_means : (p : PlainPlan) → All (HasEligible p) p.request.coins → A
 unfolding answer_of
 answer_means p h = pays_as p (presets_in p) (presets_of (rates_of p.request) (load_of p.request p.change (presets_in p))) (presets_listed p h) refl
 
--- ---- what a plan holds tells its outcome
+-- ---- what the presets come to alone is the outcome
 
-pub kept_answer : (p : PlainPlan) (coins : List Candidate) (rates : Rates) (load : Load) (way : Presets) → IsKept p coins rates load → way ≡ presets_of rates load → by_presets coins way ≡ answer_of p
+pub alone_answer : (p : PlainPlan) (coins : List Candidate) (way : Presets) → coins ≡ presets_in p → way ≡ given_in (basis_of p) → by_presets coins way ≡ answer_of p
 unfolding answer_of
-kept_answer p coins rates load way h e =
-    let ways = e ∙ ap (λ (x : Rates). presets_of x load) h.rates_are ∙ ap (presets_of (rates_of p.request)) h.load_is in
-    ap (by_presets coins) ways ∙ ap (λ (xs : List Candidate). by_presets xs (presets_of (rates_of p.request) (load_of p.request p.change xs))) h.coins_are
+alone_answer p coins way is e =
+    ap (by_presets coins) e
+    ∙ ap (λ (l : Load). by_presets coins (presets_of (rates_of p.request) l)) (sym (alone_is p))
+    ∙ ap (λ (xs : List Candidate). by_presets xs (presets_of (rates_of p.request) (load_of p.request p.change (presets_in p)))) is
 
 fits_as : (r : PlainRequest) (w : Watch) (coins : List Candidate) (way : Presets) → AreWithin coins → AreSorted coins → presets_of (rates_of r) (load_of r w coins) ≡ way → HasSelection r (by_presets coins way)
 fits_as r w coins Short h sorted e = tt

@@ -8,15 +8,11 @@ ghost use Rattle.fund_plan.specs.Answer.{Answers, HasSelection, answer_of, by_pr
 ghost use Rattle.fund_steps.specs.Plan.{HasEligible, IsFault, IsPlan, IsRoomy, IsWithin, ladder_in};
 
 use crate::outcome::{Funded, Outcome};
-use fee_rates::{Load, Rates};
-use fund_base::{Candidate, MAX_MONEY, Memory};
-use fund_steps::{
-    Parted, PlanFault, Presets, first_crowded, load, missing, presets_alone, rates, split, total,
-};
+use fund_base::{Candidate, Memory};
+use fund_steps::{Funds, PlanFault, Prepared, Presets};
 use request_text::Request;
 use std::alloc::Global;
 use std::marker::Model;
-use std::snapshot::Snapshot;
 use wallet_text::Watch;
 
 /// How a request is funded: what it was made from is a request, the script that its change is paid to, and the
@@ -24,25 +20,15 @@ use wallet_text::Watch;
 #[derive(Drop)]
 pub struct Plan {
     alloc: Global,
-    // what the plan was made from takes no memory
-    request: Snapshot<Request>,
-    change: Snapshot<Watch>,
-    candidates: Snapshot<Vec<Candidate>>,
-    // the listed coins, in the order of their outpoints
-    coins: Vec<Candidate>,
-    rates: Rates,
-    load: Load,
+    funds: Funds,
 }
 
 impl Model for Plan {
     ghost use Rattle.fund_steps.specs.Plan.{PlainPlan};
-    ghost use Rattle.fund_plan.specs.Kept.{IsKept};
 
     ghost Value = { PlainPlan };
 
-    ghost view = { λ p. record { request = p.request.value; change = p.change.value; candidates = p.candidates.value.items } };
-
-    ghost invariant = { λ p. IsKept (record { request = p.request.value; change = p.change.value; candidates = p.candidates.value.items }) p.coins.items p.rates p.load };
+    ghost view = { λ p. p.funds };
 }
 
 /// The outcome of coins that pay so.
@@ -82,32 +68,8 @@ impl Plan {
         ensures roomy { IfOk result (λ p. All (IsRoomy p) (ladder_in p)) }
         ensures fault { IfErr result (IsFault (record { request = request.now; change = change.now; candidates = candidates.items })) }
     {
-        let sum = total(&candidates);
-        if sum > u128::from(MAX_MONEY) {
-            return Err(PlanFault::Total(sum));
-        }
-        let all = Snapshot::of(&candidates);
-        let Parted {
-            listed: coins,
-            rest,
-        } = split(alloc, request, candidates)?;
-        if let Some(point) = missing(alloc, &coins, &request.coins)? {
-            return Err(PlanFault::NotEligible(point));
-        }
-        if let Some(row) = first_crowded(alloc, request, &rest)? {
-            return Err(PlanFault::TooMany(row.number, row.groups));
-        }
-        request.keeps_rules();
-        let load = load(request, change, &coins);
-        Ok(Plan {
-            alloc,
-            request: Snapshot::of(request),
-            change: Snapshot::of(change),
-            candidates: all,
-            coins,
-            rates: rates(request),
-            load,
-        })
+        let Prepared { funds, .. } = Funds::new(alloc, request, change, candidates)?;
+        Ok(Plan { alloc, funds })
     }
 
     /// That the plan keeps its rules: those of the request, of the change script and of the candidates; that the
@@ -116,7 +78,7 @@ impl Plan {
     pub fn keeps_rules(&self)
         ensures { IsPlan self.now }
     {
-        let _ = &self.rates;
+        self.funds.keeps_rules();
     }
 
     /// What a plan of the method `manual` comes to: [`Outcome::Funded`] where the listed coins pay, all of them and no
@@ -129,7 +91,7 @@ impl Plan {
         ensures answers { IfOk result (Answers self.now) }
         ensures fits { IfOk result (HasSelection self.now.request) }
     {
-        let way = presets_alone(&self.rates, &self.load);
-        outcome(self.alloc, &self.coins, way)
+        self.keeps_rules();
+        outcome(self.alloc, self.funds.presets(), self.funds.alone())
     }
 }
