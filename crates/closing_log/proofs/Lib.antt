@@ -2,9 +2,11 @@ pub mod AnswerLaws
 pub mod BodyLaws
 pub mod CountLaws
 pub mod DigestLaws
+pub mod EitherLaws
 pub mod Exactness
 pub mod Feeding
 pub mod LetterLaws
+pub mod LineLaws
 pub mod LogLaws
 pub mod Loops
 pub mod NumberLaws
@@ -12,5 +14,6 @@ pub mod PartLaws
 pub mod PlaceLaws
 pub mod SectionLaws
 pub mod TextLaws
+pub mod WideLaws
 pub mod WordLaws
 pub mod WrittenLaws

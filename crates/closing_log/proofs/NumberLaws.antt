@@ -1,41 +1,29 @@
 -- Numbers and the byte behind them are read exactly.
-use Rattle.std.proofs.Common.{◌≡◌, ℕ, suc, ◌^◌, ◌≤◌, ◌<◌, Bool, true, false, cond, List, [], ◌∷◌, ◌++◌, length, get_or, take, Option, Some, None, Result, Ok, Err, ◌⊎◌, inl, inr, refl, sym, ap, subst, ◌∙◌, append_assoc, arith}
+use Rattle.std.proofs.Common.{◌≡◌, ℕ, suc, ◌^◌, ◌≤◌, ◌<◌, Bool, true, false, cond, List, [], ◌∷◌, ◌++◌, length, Option, Some, None, Result, Ok, Err, ◌⊎◌, inl, inr, refl, sym, ap, subst, ◌∙◌, append_assoc, arith}
 use Rattle.std.specs.Prelude.{is_some}
 use Rattle.std.specs.Fmt.{decimal}
-use Rattle.std.specs.Str.Parse.{AllDigits, digits_value}
-use Rattle.std.proofs.lemmas.List.{append-nil, length-append, take_at, append_cancel_left, nil_from_length}
-use Rattle.std.proofs.lemmas.Fmt.{decimal_is_IsNumeral, decimal_nonempty}
-use Rattle.std.proofs.lemmas.Str.Parse.{digit_at, digits_value-take-le}
+use Rattle.std.specs.Str.Parse.{AllDigits}
+use Rattle.std.proofs.lemmas.List.{append-nil, length-append, append_cancel_left, nil_from_length}
+use Rattle.std.proofs.lemmas.Fmt.{decimal_is_IsNumeral_wide}
+use Rattle.std.proofs.lemmas.Str.Parse.{digit_at}
 use Rattle.fund_base.specs.Decimal.{number_of}
-use Rattle.fund_base.proofs.Decimals.{found, only, begins, reads}
+use Rattle.fund_base.proofs.Decimals.{found}
 use Rattle.fund_base.proofs.Laws.{guard_met}
 use Rattle.closing_log.specs.Exact.{Begins, StopsAt, NoneGoesOn}
 use Rattle.closing_log.specs.Reading.{digits_at, end_at, number_end, number_at, is_one_of}
 use Rattle.closing_log.proofs.Exactness.{Piece, Held, overlap, one_on}
+use Rattle.closing_log.proofs.WideLaws.{wide_front, wide_nonempty, wide_only}
 
 -- ---- what begins a number
-
-digits_front : (front more : List ℕ) → AllDigits 10 (front ++ more) → AllDigits 10 front
-digits_front [] more all = tt
-digits_front (c ∷ front) more all = (all.0, digits_front front more all.1)
 
 some_true : {A : Type 0} (o : Option A) (x : A) → Some x ≡ o → is_some o ≡ true
 some_true {A = A} o x e = ap (λ (q : Option A). is_some q) (sym e)
 
-head_of_front : (front more : List ℕ) → 0 < length front → get_or (front ++ more) 0 0 ≡ get_or front 0 0
-head_of_front [] more some = absurd (omega arith)
-head_of_front (c ∷ front) more some = refl
-
 -- what begins the spelling of a number is a number that isn't greater
-pub number_front : (most n : ℕ) (front more : List ℕ) → most < 2 ^ 64 → n ≤ most → decimal n ≡ front ++ more → 0 < length front → is_some (number_of most front) ≡ true
+pub number_front : (most n : ℕ) (front more : List ℕ) → most < 10 ^ 64 → n ≤ most → decimal n ≡ front ++ more → 0 < length front → is_some (number_of most front) ≡ true
 number_front most n front more small le is some =
-    let k = decimal_is_IsNumeral n (omega arith) in
-    let b = begins n (front ++ more) (omega arith) (sym is) in
-    let lead : get_or front 0 0 ≡ 48 → length front ≡ 1 = λ h. omega (arith, some, b.1 (head_of_front front more some ∙ h), length-append front more) in
-    let all : AllDigits 10 front = digits_front front more (subst (AllDigits 10) is k.0.1) in
-    let cut : take (length front) (decimal n) ≡ front = ap (take (length front)) is ∙ take_at front more (length front) refl in
-    let below : digits_value 10 front ≤ most = omega (arith, le, k.1, ap (digits_value 10) cut, digits_value-take-le 10 (decimal n) (length front) (omega arith)) in
-    some_true (number_of most front) (digits_value 10 front) (reads most front (Some (digits_value 10 front)) small some lead (all, refl, below) tt)
+    let s = wide_front n front more (omega arith) is some in
+    some_true (number_of most front) s.number (sym (ap (number_of most) s.is ∙ wide_only most s.number small (omega (arith, s.le, le))))
 
 -- ---- the digits
 
@@ -67,18 +55,18 @@ last_is_digit : (front : List ℕ) (e : ℕ) → e < 48 → AllDigits 10 (front 
 last_is_digit [] e low all = omega (arith, low, digit_at (e ∷ []) 0 all (omega arith))
 last_is_digit (c ∷ front) e low all = last_is_digit front e low all.1
 
-not_with_of : (most : ℕ) (front : List ℕ) (e : ℕ) → most < 2 ^ 64 → e < 48 → (o : Option ℕ) → number_of most (front ++ e ∷ []) ≡ o → is_some o ≡ false
+not_with_of : (most : ℕ) (front : List ℕ) (e : ℕ) → most < 10 ^ 64 → e < 48 → (o : Option ℕ) → number_of most (front ++ e ∷ []) ≡ o → is_some o ≡ false
 not_with_of most front e small low None is = refl
 not_with_of most front e small low (Some v) is =
     let f = found most (front ++ e ∷ []) v is in
-    let k = decimal_is_IsNumeral v (omega arith) in
+    let k = decimal_is_IsNumeral_wide v (omega arith) in
     let all : AllDigits 10 (front ++ e ∷ []) = subst (AllDigits 10) (sym f.0) k.0.1 in
     absurd (last_is_digit front e low all)
 
-not_with : (most : ℕ) (front : List ℕ) (e : ℕ) → most < 2 ^ 64 → e < 48 → is_some (number_of most (front ++ e ∷ [])) ≡ false
+not_with : (most : ℕ) (front : List ℕ) (e : ℕ) → most < 10 ^ 64 → e < 48 → is_some (number_of most (front ++ e ∷ [])) ≡ false
 not_with most front e small low = not_with_of most front e small low (number_of most (front ++ e ∷ [])) refl
 
-digits_again : (most n : ℕ) (front more : List ℕ) (e : ℕ) (rest : List ℕ) → most < 2 ^ 64 → n ≤ most → e < 48 → decimal n ≡ front ++ more → digits_at most front (more ++ e ∷ rest) ≡ (decimal n, e ∷ rest)
+digits_again : (most n : ℕ) (front more : List ℕ) (e : ℕ) (rest : List ℕ) → most < 10 ^ 64 → n ≤ most → e < 48 → decimal n ≡ front ++ more → digits_at most front (more ++ e ∷ rest) ≡ (decimal n, e ∷ rest)
 unfolding digits_at
 digits_again most n front [] e rest small le low is =
     let over : is_some (number_of most (front ++ e ∷ [])) ≡ false = not_with most front e small low in
@@ -130,7 +118,7 @@ push_parts (c ∷ a) (d ∷ b) x y e =
     let heads : c ≡ d = cc in
     (let q = p.0 in cc, p.1)
 
-number_never_at : (most : ℕ) (ends front : List ℕ) (b : ℕ) (x : ℕ × ℕ) (more : List ℕ) → most < 2 ^ 64 → is_some (number_of most (front ++ b ∷ [])) ≡ false → (front ≡ decimal x.0 → b ≡ x.1 → ⊥) → x.0 ≤ most
+number_never_at : (most : ℕ) (ends front : List ℕ) (b : ℕ) (x : ℕ × ℕ) (more : List ℕ) → most < 10 ^ 64 → is_some (number_of most (front ++ b ∷ [])) ≡ false → (front ≡ decimal x.0 → b ≡ x.1 → ⊥) → x.0 ≤ most
     → (w : List ℕ) → front ++ b ∷ [] ≡ decimal x.0 ++ w → (front ++ b ∷ []) ++ more ≡ decimal x.0 ++ x.1 ∷ [] → ⊥
 number_never_at most ends front b x more small none other le [] is whole =
     let fits : is_some (number_of most (front ++ b ∷ [])) ≡ true = number_front most x.0 (front ++ b ∷ []) [] small le (sym (append-nil (front ++ b ∷ []) ∙ is ∙ append-nil (decimal x.0))) (omega (arith, length-append front (b ∷ []))) in
@@ -146,7 +134,7 @@ number_never_at most ends front b x more small none other le (c ∷ w) is whole 
     other parts.0 parts.1
 
 -- what a number and its end can't go on with
-number_never : (most : ℕ) (ends front : List ℕ) (b : ℕ) (x : ℕ × ℕ) (more : List ℕ) → most < 2 ^ 64 → is_some (number_of most (front ++ b ∷ [])) ≡ false → (front ≡ decimal x.0 → b ≡ x.1 → ⊥) → IsNumber most ends ((front ++ b ∷ []) ++ more) x → ⊥
+number_never : (most : ℕ) (ends front : List ℕ) (b : ℕ) (x : ℕ × ℕ) (more : List ℕ) → most < 10 ^ 64 → is_some (number_of most (front ++ b ∷ [])) ≡ false → (front ≡ decimal x.0 → b ≡ x.1 → ⊥) → IsNumber most ends ((front ++ b ∷ []) ++ more) x → ⊥
 number_never most ends front b x more small none other means =
     elim (overlap (decimal x.0) (front ++ b ∷ []) (x.1 ∷ []) more (sym means.text_is)) [
       | inl l ↦
@@ -156,7 +144,7 @@ number_never most ends front b x more small none other means =
       | inr l ↦ number_never_at most ends front b x more small none other means.small l.more l.is means.text_is
     ]
 
-number_no_more : (most : ℕ) (ends front stop : List ℕ) → most < 2 ^ 64 → NoMore most front stop → ((x : ℕ × ℕ) (b : ℕ) (r : List ℕ) → stop ≡ b ∷ r → x.0 ≤ most → front ≡ decimal x.0 → b ≡ x.1 → is_one_of ends x.1 ≡ true → ⊥) → NoneGoesOn (IsNumber most ends) front stop
+number_no_more : (most : ℕ) (ends front stop : List ℕ) → most < 10 ^ 64 → NoMore most front stop → ((x : ℕ × ℕ) (b : ℕ) (r : List ℕ) → stop ≡ b ∷ r → x.0 ≤ most → front ≡ decimal x.0 → b ≡ x.1 → is_one_of ends x.1 ≡ true → ⊥) → NoneGoesOn (IsNumber most ends) front stop
 number_no_more most ends front [] small none other = tt
 number_no_more most ends front (b ∷ r) small none other =
     λ begins. number_never most ends front b begins.value begins.more small none (λ f is. other begins.value b r refl begins.means.small f is begins.means.end) begins.means
@@ -177,11 +165,11 @@ unfolding end_at
 end_stops ends n [] stop e = (cc, tt)
 end_stops ends n (b ∷ rest) stop e = end_stopped ends n b rest stop (is_one_of ends b) refl e
 
-number_stops_of : (most : ℕ) (ends bytes stop : List ℕ) (d : List ℕ × List ℕ) → most < 2 ^ 64 → AreEnds ends → Digits most [] bytes d → (o : Option ℕ) → number_of most d.0 ≡ o → number_end ends d.1 o ≡ Err stop → StopsAt (IsNumber most ends) bytes stop
+number_stops_of : (most : ℕ) (ends bytes stop : List ℕ) (d : List ℕ × List ℕ) → most < 10 ^ 64 → AreEnds ends → Digits most [] bytes d → (o : Option ℕ) → number_of most d.0 ≡ o → number_end ends d.1 o ≡ Err stop → StopsAt (IsNumber most ends) bytes stop
 number_stops_of most ends bytes stop d small ok are None is e =
     let left : d.1 ≡ stop = cc in
     let empty : d.0 ≡ [] = elim are.good [ inl same ↦ same | inr fits ↦ absurd (let no : is_some (number_of most d.0) ≡ false = ap (λ o. is_some o) is in let both : true ≡ false = sym fits ∙ no in cc) ] in
-    let never : NoneGoesOn (IsNumber most ends) d.0 d.1 = number_no_more most ends d.0 d.1 small are.ended (λ x b r at le h same end. omega (arith, decimal_nonempty x.0 (omega arith), ap length (sym h ∙ empty))) in
+    let never : NoneGoesOn (IsNumber most ends) d.0 d.1 = number_no_more most ends d.0 d.1 small are.ended (λ x b r at le h same end. omega (arith, wide_nonempty x.0 (omega arith), ap length (sym h ∙ empty))) in
     record {
       front = [];
       parts = are.parts ∙ ap (λ (t : List ℕ). t ++ d.1) empty ∙ left;
@@ -199,20 +187,23 @@ number_stops_of most ends bytes stop d small ok are (Some n) is e =
       never = subst (λ (t : List ℕ). NoneGoesOn (IsNumber most ends) d.0 t) s.0 never;
     }
 
-number_again : (most : ℕ) (ends text rest : List ℕ) (x : ℕ × ℕ) → most < 2 ^ 64 → AreEnds ends → IsNumber most ends text x → number_at most ends (text ++ rest) ≡ Ok (x, rest)
+number_again : (most : ℕ) (ends text rest : List ℕ) (x : ℕ × ℕ) → most < 10 ^ 64 → AreEnds ends → IsNumber most ends text x → number_at most ends (text ++ rest) ≡ Ok (x, rest)
 unfolding number_at end_at
 number_again most ends text rest x small ok means =
     let whole : text ++ rest ≡ decimal x.0 ++ x.1 ∷ rest = ap (λ (t : List ℕ). t ++ rest) means.text_is ∙ one_on (decimal x.0) x.1 rest in
     let digits : digits_at most [] (text ++ rest) ≡ (decimal x.0, x.1 ∷ rest) = ap (digits_at most []) whole ∙ digits_again most x.0 [] (decimal x.0) x.1 rest small means.small (ok.low x.1 means.end) refl in
-    let number : number_of most (decimal x.0) ≡ Some x.0 = only most x.0 (decimal x.0) small means.small refl in
+    let number : number_of most (decimal x.0) ≡ Some x.0 = wide_only most x.0 small means.small in
     let end : is_one_of ends x.1 ≡ true = means.end in
     rw (digits, number, end) refl
 
-pub number_piece : (most : ℕ) (ends : List ℕ) → most < 2 ^ 64 → AreEnds ends → Piece (number_at most ends) (IsNumber most ends)
+pub wide_piece : (most : ℕ) (ends : List ℕ) → most < 10 ^ 64 → AreEnds ends → Piece (number_at most ends) (IsNumber most ends)
 unfolding number_at
-number_piece most ends small ok = record {
+wide_piece most ends small ok = record {
   takes = λ bytes x e. number_takes_of most ends bytes x (digits_at most [] bytes) (digits_are most [] bytes) (number_of most (digits_at most [] bytes).0) refl e;
   again = λ text rest x means. number_again most ends text rest x small ok means;
   stops = λ bytes stop e. number_stops_of most ends bytes stop (digits_at most [] bytes) small ok (digits_are most [] bytes) (number_of most (digits_at most [] bytes).0) refl e;
   some = number_begins most ends ok;
 }
+
+pub number_piece : (most : ℕ) (ends : List ℕ) → most < 2 ^ 64 → AreEnds ends → Piece (number_at most ends) (IsNumber most ends)
+number_piece most ends small ok = wide_piece most ends (omega (arith, small)) ok

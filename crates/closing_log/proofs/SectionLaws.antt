@@ -36,14 +36,14 @@ stage_again Wide rest is = absurd is
 pub stage_piece : Piece stage_at (IsOneOf stage_word IsSearched)
 stage_piece = choice_piece stage_word IsSearched searched (tt, (tt, (tt, tt))) each_searched stage_again (record { more = codes "changeless"; value = Changeless; means = (tt, refl) })
 
-abbrev row_ends : List ℕ
+abbrev pub row_ends : List ℕ
 row_ends = 32 ∷ []
 
-row_end : (e : ℕ) (t : Bool) → eqb 32 e ≡ t → is_one_of row_ends e ≡ true → e ≡ 32
+pub row_end : (e : ℕ) (t : Bool) → eqb 32 e ≡ t → is_one_of row_ends e ≡ true → e ≡ 32
 row_end e true is h = sym (eqb-true 32 e is)
 row_end e false is h = absurd (let no : is_one_of row_ends e ≡ false = rw is refl in let both : true ≡ false = sym h ∙ no in cc)
 
-row_ends_are : AreEnds row_ends
+pub row_ends_are : AreEnds row_ends
 row_ends_are = record { low = λ e h. let is : e ≡ 32 = row_end e (eqb 32 e) refl h in omega arith; one = 32; is_one = refl }
 
 -- the head of a section behind its first word

@@ -17,7 +17,7 @@ byte_at digest i small = elim (cases_lt i (length digest)) [
   | inr le ↦ let none : get_or digest i 0 ≡ 0 = get_or_past digest i 0 le in omega arith
 ]
 
-digest_written : (digest : List ℕ) → length digest ≡ 32 → All (λ b. b < 256) digest → IsDigest (encode_lower digest) digest
+pub digest_written : (digest : List ℕ) → length digest ≡ 32 → All (λ b. b < 256) digest → IsDigest (encode_lower digest) digest
 digest_written digest len small =
     let bytes : IsBytes digest = λ i. byte_at digest i small in
     let twice : length (encode_lower digest) ≡ 64 = omega (arith, length-encode_with lower_digits digest, len) in

@@ -1,6 +1,7 @@
 pub mod Behind
 pub mod Exact
 pub mod Gives
+pub mod Lines
 pub mod Log
 pub mod LogText
 pub mod MarkWord
