@@ -1,0 +1,10 @@
+pub mod ChoiceLaws
+pub mod CoinLaws
+pub mod FundedLaws
+pub mod LineLaws
+pub mod Loops
+pub mod ReportLaws
+pub mod StartLaws
+pub mod ToldLaws
+pub mod WideNumbers
+pub mod WrittenLaws

@@ -1,0 +1,5 @@
+pub mod NextWord
+pub mod PlainFunded
+pub mod Reading
+pub mod ReportText
+pub mod Told
