@@ -1,0 +1,89 @@
+//! Reads rows, each a verb and its columns with tabs between them, and prints what each comes to. What it must print was
+//! worked out apart from this program. In a text `\n`, `\t` and `\\` are a line feed, a tab and a backslash, `\xHH` is the
+//! byte HH, and `-` alone is the empty text.
+//!
+//! - `text TEXT`: the report, and below it what is written of it, where that is another text; or where the bytes leave
+//!   the grammar
+//! - `wide`: what is written of a run that stands at the stage `wide`, and below it what reading that comes to
+#![tactic(auto)]
+
+mod escape;
+mod shown;
+
+use closing_log::Stage;
+use escape::{escaped, unescaped};
+use fund_base::Memory;
+use fund_report::{Report, read_report, write_report};
+use shown::{fault_text, report_text};
+use std::alloc::Global;
+use std::io;
+use std::io::{BufRead, BufReader};
+
+/// The line of what was written.
+fn written_line(alloc: Global, written: &[u8]) -> Result<String, Memory> {
+    let mut out = String::from_str(alloc, "written ")?;
+    out.push_str(escaped(alloc, written)?.as_str())?;
+    Ok(out)
+}
+
+/// What bytes come to.
+fn read_told(alloc: Global, bytes: &[u8]) -> Result<String, Memory> {
+    let report = match read_report(alloc, bytes) {
+        Ok(report) => report,
+        Err(fault) => return fault_text(alloc, fault),
+    };
+    let mut out = String::from_str(alloc, "ok\t")?;
+    out.push_str(report_text(alloc, &report)?.as_str())?;
+    let written = write_report(alloc, &report)?;
+    if written.as_slice() != bytes {
+        out.push_str("\n")?;
+        out.push_str(written_line(alloc, written.as_slice())?.as_str())?;
+    }
+    Ok(out)
+}
+
+/// What a text comes to.
+fn told(alloc: Global, column: &str) -> Result<String, Memory> {
+    let bytes = unescaped(alloc, column.as_bytes())?;
+    read_told(alloc, bytes.as_slice())
+}
+
+/// What is written of a run at the wide search, and what that is read as.
+fn wide_told(alloc: Global) -> Result<String, Memory> {
+    let report = Report::Unfinished {
+        tries: 3,
+        row: 2,
+        stage: Stage::Wide,
+    };
+    let written = write_report(alloc, &report)?;
+    let mut out = written_line(alloc, written.as_slice())?;
+    out.push_str("\n")?;
+    out.push_str(read_told(alloc, written.as_slice())?.as_str())?;
+    Ok(out)
+}
+
+/// What the columns of a row come to.
+fn answer(alloc: Global, columns: &[&str]) -> Result<String, Memory> {
+    match columns {
+        ["text", text] => told(alloc, text),
+        ["wide"] => wide_told(alloc),
+        _ => Ok(String::from_str(alloc, "no such row")?),
+    }
+}
+
+/// What a line comes to.
+fn line_answer(alloc: Global, line: &str) -> Result<String, Memory> {
+    let columns: Vec<&str> = line.split('\t').collect(alloc)?;
+    answer(alloc, &columns)
+}
+
+fn main(rt: HostRuntime) -> io::Result<()> {
+    let alloc = rt.alloc();
+    for line in BufReader::new(alloc, rt.reader())?.lines(alloc) {
+        match line_answer(alloc, line?.as_str()) {
+            Ok(text) => println!(rt; "{text}")?,
+            Err(Memory) => println!(rt; "out of memory")?,
+        }
+    }
+    Ok(())
+}
