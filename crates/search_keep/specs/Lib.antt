@@ -1,3 +1,4 @@
 pub mod Reading
 pub mod SavedText
 pub mod Told
+pub mod Walks

@@ -8,7 +8,6 @@ mod laws;
 mod resuming;
 mod sections;
 mod step;
-mod walk;
 mod worked;
 
 pub use found::{Found, choose};
@@ -22,5 +21,4 @@ pub use resuming::{
 };
 pub use sections::{open_section, section};
 pub use step::Step;
-pub use walk::Walk;
 pub use worked::{worked_budgets, worked_columns, worked_resuming};

@@ -3,12 +3,12 @@
 ghost use Rattle.std.specs.Prelude.{◌≡◌, IfOk};
 ghost use Rattle.pick_problem.specs.Digest.{digest_of};
 ghost use Rattle.search_run.specs.Run.{all_letters, section_at};
-ghost use Rattle.search_run.specs.Walks.{search_of};
+ghost use Rattle.search_keep.specs.Walks.{search_of};
 
 use crate::step::Step;
-use crate::walk::Walk;
 use closing_log::{OpenSection, Section};
 use fund_base::{Memory, Places};
+use search_keep::Walk;
 use std::alloc::Global;
 
 /// The section of a search of a step that is done: its row and stage, the digest of its problem, all its letters, and
