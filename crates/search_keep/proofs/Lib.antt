@@ -1,5 +1,6 @@
 pub mod LineLaws
 pub mod MarkLaws
+pub mod ResumedLaws
 pub mod StartLaws
 pub mod StepLaws
 pub mod TextLaws

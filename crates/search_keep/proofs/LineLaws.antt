@@ -1,5 +1,5 @@
 -- Parts of lines are read exactly: what stands behind a word, what ends with a line feed, and numbers.
-use Rattle.std.proofs.Common.{◌≡◌, ℕ, zero, suc, ◌^◌, ◌≤◌, ◌<◌, Bool, true, false, eqb, List, [], ◌∷◌, ◌++◌, length, get_or, cond, Result, Ok, Err, inl, inr, refl, sym, ap, subst, ◌∙◌, append_assoc, arith, eqb-true, ne_eqb}
+use Rattle.std.proofs.Common.{◌≡◌, ℕ, zero, suc, ◌^◌, ◌≤◌, ◌<◌, Bool, true, false, eqb, List, [], ◌∷◌, ◌++◌, length, get_or, cond, Result, Ok, Err, refl, sym, ap, subst, ◌∙◌, append_assoc, arith, eqb-true, ne_eqb}
 use Rattle.std.specs.Prelude.{⊤, codes}
 use Rattle.std.specs.Fmt.{decimal}
 use Rattle.std.proofs.lemmas.Bool.{eqb-false}
@@ -7,8 +7,8 @@ use Rattle.std.proofs.lemmas.Fmt.{decimal_digit, decimal_nonempty, first_decimal
 use Rattle.std.proofs.lemmas.List.{length-append}
 use Rattle.fund_base.specs.Parsing.{◌>>=◌}
 use Rattle.closing_log.specs.Exact.{Begins, StopsAt, NoneGoesOn}
-use Rattle.closing_log.specs.Reading.{is_one_of, made_at, number_at, word_at}
-use Rattle.closing_log.proofs.Exactness.{Piece, Law, Held, Then, Made, then_law, made_law, law_as, law_of, piece_of, none_of}
+use Rattle.closing_log.specs.Reading.{is_one_of, number_at, word_at}
+use Rattle.closing_log.proofs.Exactness.{Piece, Held, Then, Made, then_law, made_law, law_as, law_of, piece_of, none_of}
 use Rattle.closing_log.proofs.PartLaws.{made_piece, piece_as}
 use Rattle.closing_log.proofs.WordLaws.{IsWord, word_piece}
 use Rattle.closing_log.proofs.NumberLaws.{IsNumber, AreEnds, number_piece}

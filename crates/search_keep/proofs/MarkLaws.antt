@@ -8,7 +8,7 @@ use Rattle.std.proofs.lemmas.Fmt.{decimal_is_IsNumeral}
 use Rattle.std.proofs.lemmas.List.{length-append}
 use Rattle.std.proofs.lemmas.Str.Parse.{digit_at}
 use Rattle.closing_log.specs.Exact.{Begins, StopsAt, NoneGoesOn}
-use Rattle.closing_log.specs.LogText.{HasSmallPlaces, IsAnswer, answer_text, places_text}
+use Rattle.closing_log.specs.LogText.{HasSmallPlaces, IsAnswer, answer_text}
 use Rattle.closing_log.specs.Reading.{made_at, places_at, word_at}
 use Rattle.closing_log.proofs.Exactness.{Piece, Held, Made, none_of}
 use Rattle.closing_log.proofs.PartLaws.{made_piece, piece_as}

@@ -1,5 +1,5 @@
 -- What stands behind the line that names the format.
-use Rattle.std.proofs.Common.{◌≡◌, ℕ, List, ◌++◌, Result, Ok, refl, ap, sym, subst}
+use Rattle.std.proofs.Common.{◌≡◌, ℕ, List, Result, Ok, ap, sym, subst}
 use Rattle.std.specs.Prelude.{⊤, codes}
 use Rattle.std.specs.Borrow.{Bor}
 use Rattle.fund_base.specs.Parsing.{◌>>=◌}

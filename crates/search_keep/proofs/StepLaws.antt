@@ -1,5 +1,5 @@
 -- Reading line after line.
-use Rattle.std.proofs.Common.{◌≡◌, ℕ, List, ◌∷◌, ◌++◌, Option, Result, Ok, Err, refl, ap, ◌∙◌}
+use Rattle.std.proofs.Common.{◌≡◌, ℕ, List, Option, Result, Ok, Err, ap, ◌∙◌}
 use Rattle.std.specs.Prelude.{⊤, codes}
 use Rattle.fund_base.specs.Parsing.{◌>>=◌}
 use Rattle.closing_log.specs.declared.fault.LineFault.{LineFault}
@@ -9,7 +9,6 @@ use Rattle.closing_log.specs.Gives.{Fails}
 use Rattle.closing_log.specs.Reading.{both_at, made_at, word_at}
 use Rattle.search_keep.specs.declared.lines.Start.{Start}
 use Rattle.search_keep.specs.Reading.{behind_at, best_at, chosen_at, job_at, next_at, parts_at, position_at, row_at, saved_of, stage_line, start_at, start_of, tries_at}
-use Rattle.search_keep.specs.SavedText.{PlainSaved}
 
 behind_is : {X : Type 0} (word : List ℕ) (item : List ℕ → Result (X × List ℕ) (List ℕ)) (bytes rest : List ℕ) (r : Result (X × List ℕ) (List ℕ)) → word_at word bytes ≡ Ok (tt, rest) → item rest ≡ r → behind_at word item bytes ≡ r
 behind_is word item bytes rest r first is = ap (λ (q : Result (⊤ × List ℕ) (List ℕ)). q >>= λ u. item u.1) first ∙ is

@@ -1,12 +1,12 @@
 -- The lines of a saved text are read exactly.
-use Rattle.std.proofs.Common.{◌≡◌, ℕ, ◌+◌, ◌≤◌, List, [], ◌∷◌, ◌++◌, length, Ok, Err, Option, refl, sym, ap, subst, ◌∙◌, append_assoc, arith}
-use Rattle.std.specs.Prelude.{codes, min}
+use Rattle.std.proofs.Common.{◌≡◌, ℕ, List, [], ◌∷◌, ◌++◌, Ok, Err, Option, refl, sym, ap, subst, ◌∙◌, append_assoc, arith}
+use Rattle.std.specs.Prelude.{codes}
 use Rattle.std.specs.Fmt.{decimal}
 use Rattle.std.proofs.lemmas.List.{append-nil}
 use Rattle.closing_log.specs.declared.log.Stage.{Stage}
 use Rattle.closing_log.specs.LogText.{IsDigest, IsSearched, answer_text, stage_word}
 use Rattle.closing_log.specs.Exact.{StopsAt, NoneGoesOn}
-use Rattle.closing_log.specs.Reading.{both_at, digest_at, stage_at}
+use Rattle.closing_log.specs.Reading.{digest_at, stage_at}
 use Rattle.closing_log.proofs.Exactness.{Piece, Law, Then, Made, then_law, law_as}
 use Rattle.closing_log.proofs.PartLaws.{Both, both_piece, made_piece}
 use Rattle.closing_log.proofs.DigestLaws.{digest_piece}

@@ -1,13 +1,14 @@
-//! Why a saved text couldn't be read. Three of the causes are those of going on from what is saved, which no call does yet.
+//! Why a saved text couldn't be read, or its search not be resumed.
 
 ghost use Rattle.std.specs.Prelude.{◌≡◌};
+ghost use Rattle.search_keep.specs.Resumed.{restore_fault};
 ghost use Rattle.search_keep.specs.declared.fault.SavedFault.TheVariants as faults;
 
 use fund_base::Memory;
+use pick_problem::RestoreFault;
 use std::alloc::{AllocError, AllocFailed};
 
-/// Why a saved text wasn't read, or why its search can't go on: no call gives the three causes of the second yet. Of several
-/// reasons the first in this order is told.
+/// Why a saved text wasn't read, or why its search can't go on. Of several reasons the first in this order is told.
 #[derive(Clone, Copy, Debug, PartialEq, Eq)]
 pub enum SavedFault {
     /// The bytes are no saved text. The place is that of the first byte at which no text goes on as the bytes do, or
@@ -17,7 +18,7 @@ pub enum SavedFault {
     JobElse([u8; 32], [u8; 32]),
     /// The job has made 10,000,000 tries or more.
     Spent,
-    /// No search of the problem with these letters stands at the position.
+    /// No search of the problem with these letters may stand at the position.
     IllFormed,
     /// There was not enough memory.
     Memory,
@@ -44,5 +45,16 @@ impl<T: Drop> From<AllocFailed<T>> for SavedFault {
 
     fn from(_e: AllocFailed<T>) -> SavedFault {
         SavedFault::Memory
+    }
+}
+
+impl From<RestoreFault> for SavedFault {
+    ghost from_gives = { λ fault e. e ≡ restore_fault fault };
+
+    fn from(fault: RestoreFault) -> SavedFault {
+        match fault {
+            RestoreFault::IllFormed => SavedFault::IllFormed,
+            RestoreFault::Memory => SavedFault::Memory,
+        }
     }
 }

@@ -84,7 +84,7 @@ impl Walk {
         ensures kind { kind_of self.new ≡ kind_of self.old }
         ensures open_ { (result ≡ progress.Open) ↔
             (((search_of self.new).walk.tries ≡ (search_of self.old).walk.tries + tries)
-             × ((search_of self.new).walk.done ≡ false)) }
+            × ((search_of self.new).walk.done ≡ false)) }
         ensures done { (result ≡ progress.Done) ↔ ((search_of self.new).walk.done ≡ true) }
         ensures spare { (search_of self.new).spare + (search_of self.new).walk.tries
             ≡ (search_of self.old).spare + (search_of self.old).walk.tries }

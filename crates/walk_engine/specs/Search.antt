@@ -1,5 +1,5 @@
 -- A search, as contracts see it.
-use Rattle.std.specs.Prelude.{◌≡◌, ℕ, ◌+◌, ◌-◌, ◌*◌, ◌<◌, ◌≤◌, ◌==◌, Bool, true, false, List, [], ◌++◌, length}
+use Rattle.std.specs.Prelude.{◌≡◌, ℕ, ◌+◌, ◌-◌, ◌*◌, ◌<◌, ◌≤◌, ◌==◌, Bool, true, false, List, [], ◌++◌, length, Option}
 use Rattle.std.specs.Prelude.{reverse, drop, take}
 use Rattle.std.specs.List.{count_by}
 use Rattle.pick_problem.specs.declared.position.Position.{Position}
@@ -78,6 +78,10 @@ pub record IsWellFormed (p : PlainProblem) (q : Position) (letters : List ℕ) :
   pub best : IsFit p q.best
   -- the tries are the number of I in the letters
   pub counted : q.tries ≡ tries_in letters
+
+-- an open position after these letters, with as many tries as they tell of
+abbrev pub open_at : List ℕ → ℕ → Option (List ℕ) → List ℕ → Position
+open_at chosen next best letters = record { chosen = chosen; next = next; best = best; tries = tries_in letters; done = false }
 
 -- the three of these rules that speak of an open position or of a done one
 pub record Stands (p : PlainProblem) (chosen : List ℕ) (at : ℕ) (done : Bool) : Type 0 where

@@ -13,4 +13,5 @@ mod stack;
 mod stop;
 mod ways;
 
+pub use position::may_stand;
 pub use search::Search;

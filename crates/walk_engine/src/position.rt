@@ -1,9 +1,9 @@
 //! Whether a search may stand at a position.
 
-ghost use Rattle.std.specs.Prelude.{◌≡◌, ◌↔◌, ◌<◌, ◌≤◌, IsTrue, length};
+ghost use Rattle.std.specs.Prelude.{◌≡◌, ◌↔◌, ◌<◌, ◌≤◌, IsTrue, List, length, ℕ};
 ghost use Rattle.pick_problem.specs.Admissible.{IsFit};
 ghost use Rattle.pick_problem.specs.Problem.{IsProblem, Rising};
-ghost use Rattle.walk_engine.specs.Search.{IsWellFormed, Stands, tries_in};
+ghost use Rattle.walk_engine.specs.Search.{IsWellFormed, Stands, open_at, tries_in};
 
 use fund_base::Places;
 use pick_problem::{Position, Problem};
@@ -81,4 +81,19 @@ pub(crate) fn is_well_formed(problem: &Problem, position: &Position, letters: &[
         return false;
     }
     position.tries == tries_in(letters)
+}
+
+/// Whether a search of the problem may stand at an open position with these chosen places, this next place and this
+/// best: a search can be restored from it after any letters, with as many tries as there are I among them. It takes no
+/// memory.
+pub fn may_stand(problem: &Problem, chosen: &[u32], next: u32, best: &Option<Places>) -> bool
+    ensures { (letters : List ℕ) → (IsTrue result ↔ IsWellFormed problem.now (open_at chosen.now next best.now letters) letters) }
+{
+    if !rise_below(chosen, next) {
+        return false;
+    }
+    if !stands(problem, chosen, next, false) {
+        return false;
+    }
+    is_fit(problem, best)
 }
