@@ -4,9 +4,12 @@
 //!
 //! - `text TEXT`: the saved position, and below it what is written of it, where that is another text; or where the bytes
 //!   leave the grammar
+//! - `resume TEXT JOB KIND LO HI WEIGHT ITEMS LETTERS TRIES`: where the search that goes on from a saved position stands
+//!   after so many tries, after these letters, JOB being the digest of the job now; or why it isn't resumed
 #![tactic(auto)]
 
 mod escape;
+mod resumed;
 mod shown;
 
 use escape::{escaped, unescaped};
@@ -38,6 +41,7 @@ fn told(alloc: Global, column: &str) -> Result<String, Memory> {
 fn answer(alloc: Global, columns: &[&str]) -> Result<String, Memory> {
     match columns {
         ["text", text] => told(alloc, text),
+        ["resume", text, columns @ ..] => resumed::told(alloc, text, columns),
         _ => Ok(String::from_str(alloc, "no such row")?),
     }
 }

@@ -7,7 +7,7 @@ use search_keep::{Saved, SavedFault};
 use std::alloc::Global;
 
 /// The places of a best selection, or `none`.
-fn best_text(alloc: Global, best: Option<&[u32]>) -> Result<String, Memory> {
+pub(crate) fn best_text(alloc: Global, best: Option<&[u32]>) -> Result<String, Memory> {
     match best {
         None => Ok(String::from_str(alloc, "none")?),
         Some(places) => places_text(alloc, places),
