@@ -53,11 +53,11 @@ none_front : (seed : List ℕ) (front rest : List PlainStep) (o : Option PlainFo
 none_front seed [] rest o h k = k
 none_front seed (x ∷ xs) rest o h k = none_first seed x (xs ++ rest) o h.0 (none_front seed xs rest o h.1 k)
 
-some_since_taken : (fs : List PlainFound) (f : PlainFound) → taken fs ≡ Some f → is_some_found fs ≡ true
+pub some_since_taken : (fs : List PlainFound) (f : PlainFound) → taken fs ≡ Some f → is_some_found fs ≡ true
 some_since_taken [] f e = absurd (cc)
 some_since_taken (g ∷ gs) f e = refl
 
-both_true : (a b : Bool) → a ≡ true → b ≡ true → (a && b) ≡ true
+pub both_true : (a b : Bool) → a ≡ true → b ≡ true → (a && b) ≡ true
 both_true true b e f = f
 both_true false b e f = absurd (cc)
 

@@ -62,7 +62,7 @@ along_weaker P Q seed at (s ∷ ss) f h = (f at s h.0, along_weaker P Q seed (an
 
 -- ---- where each answer is the best
 
-result_is : (b : Bool) (seed : List ℕ) (x : PlainStep) (r : Option (List ℕ)) → is_drawn x.stage ≡ b → IsResultBy b seed x r → IsResult seed x r
+pub result_is : (b : Bool) (seed : List ℕ) (x : PlainStep) (r : Option (List ℕ)) → is_drawn x.stage ≡ b → IsResultBy b seed x r → IsResult seed x r
 result_is b seed x r e h = subst (λ (c : Bool). IsResultBy c seed x r) (sym e) h
 
 -- choosing goes on behind a step with this result

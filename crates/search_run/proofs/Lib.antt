@@ -8,4 +8,5 @@ pub mod MadeLaws
 pub mod PositionLaws
 pub mod ResultLaws
 pub mod RunLaws
+pub mod SearchedLaws
 pub mod StandLaws

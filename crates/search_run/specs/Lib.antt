@@ -4,6 +4,7 @@ pub mod Found
 pub mod Kept
 pub mod Leads
 pub mod Run
+pub mod Searched
 pub mod Stands
 pub mod Step
 pub mod Walks

@@ -1,12 +1,14 @@
 //! Laws of runs and of their answer. A call of any of them does nothing.
 
-ghost use Rattle.std.specs.Prelude.{◌≡◌, ◌↔◌, ◌+◌, ◌≤◌, [], ◌∷◌, ℕ, List, Option, Some, None, Bool, false, true};
+ghost use Rattle.std.specs.Prelude.{◌≡◌, ◌↔◌, ◌+◌, ◌≤◌, [], ◌∷◌, ◌++◌, ℕ, List, Option, Some, None, Bool, false, true};
 ghost use Rattle.pick_problem.specs.Walk.{Walk, after_tries};
-ghost use Rattle.search_run.specs.Answer.{AreWhole, IsAnswer};
+ghost use Rattle.std.specs.List.{AllByRecursion};
+ghost use Rattle.search_run.specs.Answer.{AreWhole, HasNone, IsAnswer, IsFirstTaken};
 ghost use Rattle.search_run.specs.Found.{IsTaken, PlainFound, taken};
 ghost use Rattle.search_run.specs.Kept.{Along, first_search};
 ghost use Rattle.search_run.specs.Leads.{Leads, at_walk, behind};
 ghost use Rattle.search_run.specs.Run.{Past, Stand, end_of, go_on, made, over, run, tried};
+ghost use Rattle.search_run.specs.Searched.{AreSectionsOf};
 ghost use Rattle.search_run.specs.Stands.{IsEndOf, IsMadeAt, IsStand};
 ghost use Rattle.search_run.specs.Step.{AreSteps, PlainStep};
 
@@ -71,4 +73,14 @@ pub fn pieces_lead()
         (at_walk x rest (after_tries x.problem w n) before (tried past (made w (after_tries x.problem w n)))) }
     ensures more { (seed : List ℕ) (a b c : Stand) (k n : ℕ) → Leads seed a k b → Leads seed b n c →
         Leads seed a (k + n) c }
+{}
+
+/// The log of a run from the start that comes to its end: there is a section for each search up to and with the column
+/// from which the answer is taken, in their order, or for each search where none has a result. Its answer is the best of the
+/// search's problem, and its letters are accepted with that.
+pub fn logs_have_each_search()
+    ensures answered { (seed : List ℕ) (steps : List PlainStep) (n : ℕ) (f : PlainFound) → AreSteps steps →
+        (run seed steps n).left ≡ [] → (h : IsFirstTaken seed steps f) → AreSectionsOf (h.front ++ h.column) (run seed steps n).past.closed }
+    ensures none { (seed : List ℕ) (steps : List PlainStep) (n : ℕ) → AreSteps steps →
+        (run seed steps n).left ≡ [] → AllByRecursion (HasNone seed) steps → AreSectionsOf steps (run seed steps n).past.closed }
 {}

@@ -12,7 +12,7 @@ mod worked;
 
 pub use found::{Found, choose};
 pub use laws::{
-    ended_runs_have_the_answer, one_answer, one_result_is_taken, pieces_lead,
+    ended_runs_have_the_answer, logs_have_each_search, one_answer, one_result_is_taken, pieces_lead,
     results_are_admissible, runs_add_up, sections_are_accepted, unfinished_runs_have_tried,
 };
 pub use resuming::{
