@@ -43,11 +43,11 @@ use Rattle.payment_states.proofs.Paths.{any_has}
 
 -- ---- lists
 
-all_flat : {X Y : Type 0} (P : Y → Type 0) (f : X → List Y) (xs : List X) → ((x : X) → Contains xs x → All P (f x)) → All P (flat_map f xs)
+pub all_flat : {X Y : Type 0} (P : Y → Type 0) (f : X → List Y) (xs : List X) → ((x : X) → Contains xs x → All P (f x)) → All P (flat_map f xs)
 all_flat P f [] h = All-nil P
 all_flat P f (x ∷ xs) h = All-append P (f x) (flat_map f xs) (h x (0, omega arith, refl)) (all_flat P f xs (λ y c. h y (suc c.0, omega arith, c.2)))
 
-all_kept : {X : Type 0} (P : X → Type 0) (p : X → Bool) (xs : List X) → All P xs → All P (filter p xs)
+pub all_kept : {X : Type 0} (P : X → Type 0) (p : X → Bool) (xs : List X) → All P xs → All P (filter p xs)
 all_kept P p [] h = h
 all_kept {X = X} P p (x ∷ xs) h = by (p x) (all_kept P p xs (All-tail P x xs h))
   where
@@ -306,7 +306,7 @@ module _ (w : PlainWallet) (h : History) (rules : IsWallet w) (book : IsBookOf w
   no_coin : Coin
   no_coin = record { coin = record { txid = []; index = 0 }; value = 0; script = []; weight = 0; height = None; coinbase = false }
 
-  coins_apart : AllPairs (λ (a b : Coin). a.coin ≢ b.coin) (coins_of h)
+  pub coins_apart : AllPairs (λ (a b : Coin). a.coin ≢ b.coin) (coins_of h)
   coins_apart i j d lt in' =
       let p = apart_pairs (points (made_of h)) all_apart in
       let n = length-map (coins_of h) (λ (c : Coin). c.coin) in

@@ -15,6 +15,7 @@ pub mod KinSteps
 pub mod Known
 pub mod LeastSteps
 pub mod LookSteps
+pub mod MakerSteps
 pub mod Mine
 pub mod NumberSteps
 pub mod OfferSteps

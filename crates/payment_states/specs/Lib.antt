@@ -4,6 +4,7 @@ pub mod Causes
 pub mod Counts
 pub mod Graph
 pub mod Least
+pub mod Makers
 pub mod Offered
 pub mod Payments
 pub mod Steps

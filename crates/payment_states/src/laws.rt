@@ -6,14 +6,17 @@ ghost use Rattle.tx_codec.specs.Transaction.{Transaction};
 ghost use Rattle.tx_codec.specs.Txid.{txid_of};
 ghost use Rattle.tx_codec.specs.declared.tx.TxIn.{TxIn};
 ghost use Rattle.wallet_text.specs.PlainWallet.{PlainWallet};
-ghost use Rattle.wallet_text.specs.WalletRules.{AreDistinct, ParentsComeFirst};
+ghost use Rattle.wallet_text.specs.WalletRules.{AreDistinct, IsWallet, ParentsComeFirst};
+ghost use Rattle.coin_book.specs.Faults.{fault_of};
 ghost use Rattle.coin_book.specs.History.{History};
 ghost use Rattle.coin_book.specs.Spends.{has_input, height_of, spends_of};
 ghost use Rattle.fund_base.specs.declared.outpoint.OutPoint.{OutPoint};
 ghost use Rattle.coin_book.specs.declared.coin.Coin.{Coin};
-ghost use Rattle.payment_states.specs.Candidates.{ancestors, descendants, is_candidate, is_mine, is_pending, is_safe, pending_graph, replaces};
+ghost use Rattle.payment_states.specs.BookOf.{IsBookOf};
+ghost use Rattle.payment_states.specs.Candidates.{ancestors, candidates_of, descendants, is_candidate, is_mine, is_pending, is_safe, pending_graph, replaces};
 ghost use Rattle.payment_states.specs.Causes.{HasCause, IsKin};
 ghost use Rattle.payment_states.specs.Graph.{IsInOrder, Reaches, steps, within};
+ghost use Rattle.payment_states.specs.Makers.{HasMaker};
 ghost use Rattle.payment_states.specs.Offered.{MayBeSpent};
 ghost use Rattle.payment_states.specs.Payments.{payments_in, payments_of, state_at, state_of};
 ghost use Rattle.payment_states.specs.World.{World, graph, tx_at, world_of};
@@ -68,4 +71,10 @@ pub fn counts_by_ways()
 /// The law of candidates: a coin may be spent exactly where each of the rules holds.
 pub fn candidates_by_rules()
     ensures { (w : PlainWallet) (h : History) (tip : ℕ) (c : Coin) → AreDistinct w.pending → ParentsComeFirst w.pending → (is_candidate w h tip c ≡ true) ↔ MayBeSpent w h tip c }
+{}
+
+/// The law of parents: for each coin that may be spent, the history has at its outpoint the transaction that made it. That
+/// one has the coin's txid, and at the coin's index an output of the coin's value and script.
+pub fn candidates_have_makers()
+    ensures { (w : PlainWallet) (h : History) (tip : ℕ) → IsWallet w → IsBookOf w h → fault_of h ≡ None → All (HasMaker h) (candidates_of w h tip) }
 {}

@@ -19,7 +19,7 @@ mod taken;
 
 pub use choice::candidates;
 pub use laws::{
-    candidates_by_rules, counts_by_ways, finds_states, parents_by_inputs, pending_stands_clear,
+    candidates_by_rules, candidates_have_makers, counts_by_ways, finds_states, parents_by_inputs, pending_stands_clear,
     reaches_by_steps, safe_by_parents, states_by_causes,
 };
 pub use state::{Payment, State};
