@@ -92,10 +92,10 @@ makes : (m : Made) (k : Coin) (c : Candidate) → IsMade m → m.coin ≡ k → 
 makes m k c made own of = record {
   txid = made.txid ∙ ap (λ (x : Coin). x.coin.txid) own ∙ ap (λ (o : OutPoint). o.txid) (sym of.point);
   output =
-    ap (λ (o : OutPoint). slice_get m.maker.outputs o.index) (of.point ∙ ap (λ (x : Coin). x.coin) (sym own))
-    ∙ made.output
-    ∙ ap (λ (x : Coin). Some (output_at x)) own
-    ∙ ap (λ (o : TxOut). Some o) (sym of.output);
+      ap (λ (o : OutPoint). slice_get m.maker.outputs o.index) (of.point ∙ ap (λ (x : Coin). x.coin) (sym own))
+      ∙ made.output
+      ∙ ap (λ (x : Coin). Some (output_at x)) own
+      ∙ ap (λ (o : TxOut). Some o) (sym of.output);
 }
 
 coin_in : (h : History) (m : Made) → Contains (made_of h) m → Contains (coins_of h) m.coin

@@ -19,8 +19,8 @@ mod taken;
 
 pub use choice::candidates;
 pub use laws::{
-    candidates_by_rules, candidates_have_makers, counts_by_ways, finds_states, parents_by_inputs, pending_stands_clear,
-    reaches_by_steps, safe_by_parents, states_by_causes,
+    candidates_by_rules, candidates_have_makers, counts_by_ways, finds_states, parents_by_inputs,
+    pending_stands_clear, reaches_by_steps, safe_by_parents, states_by_causes,
 };
 pub use state::{Payment, State};
 pub use states::{States, all_states};

@@ -12,8 +12,9 @@ mod worked;
 
 pub use found::{Found, choose};
 pub use laws::{
-    ended_runs_have_the_answer, logs_have_each_search, one_answer, one_result_is_taken, pieces_lead,
-    results_are_admissible, runs_add_up, sections_are_accepted, unfinished_runs_have_tried,
+    ended_runs_have_the_answer, logs_have_each_search, one_answer, one_result_is_taken,
+    pieces_lead, results_are_admissible, runs_add_up, sections_are_accepted,
+    unfinished_runs_have_tried,
 };
 pub use resuming::{
     kept_positions_are_well_formed, kept_runs_are_accepted, kept_runs_go_on, runs_stand,
