@@ -2,6 +2,8 @@ pub mod AnswerLaws
 pub mod ChoiceLaws
 pub mod CoinLaws
 pub mod ComeLaws
+pub mod HandLaws
+pub mod HeldLaws
 pub mod KeptLaws
 pub mod LeadLaws
 pub mod MadeLaws

@@ -14,12 +14,13 @@ use Rattle.pick_problem.proofs.TryStepLaws.{walk_pieces}
 use Rattle.search_run.specs.Answer.{AreWhole, IsAnswer}
 use Rattle.search_run.specs.Found.{PlainFound, found_of, taken}
 use Rattle.search_run.specs.Kept.{Along, At, IsAcceptedAt, IsBestAt, answered_by, at_end, comes_to, first_search, to_search}
-use Rattle.search_run.specs.Run.{Stand, all_letters, beginning, ends, go_on, run, section_at}
+use Rattle.search_run.specs.Leads.{at_walk, behind}
+use Rattle.search_run.specs.Run.{Past, Stand, all_letters, beginning, ends, go_on, run, section_at, tried}
 use Rattle.search_run.specs.Stands.{IsFromStart, IsKeptAt, IsKeptWalk, IsMadeAt, IsMadeWalk, IsStand}
 use Rattle.search_run.specs.Step.{AreSteps, IsStep, PlainStep, is_drawn}
 use Rattle.search_run.proofs.AnswerLaws.{chosen_answers}
 use Rattle.search_run.proofs.ComeLaws.{along_weaker, at_step, best_chosen, chosen_from_search, comes_to_search}
-use Rattle.search_run.proofs.StandLaws.{beginning_stands, stands_on}
+use Rattle.search_run.proofs.StandLaws.{beginning_stands, passes_on, stands_on, walks_on}
 
 -- ---- whatever was kept
 
@@ -32,6 +33,18 @@ kept_stands_on seed steps are s m h =
     (λ x rest found before w is p done. (record { row = refl; stage = refl; digest = refl }, p.fit))
     (λ x before w is p. p.fit)
     s.left s.walk s.before s.past m h
+
+pub kept_walks_on : (seed : List ℕ) (steps : List PlainStep) → AreSteps steps → (x : PlainStep) (rest : List PlainStep) (w : Walk) (before : List ℕ) (past : Past) (n k : ℕ) → IsStand seed steps (at_walk x rest w before past) → IsStand seed steps (at_walk x rest (after_tries x.problem w n) before (tried past k))
+kept_walks_on seed steps are =
+    walks_on IsKeptAt IsKeptWalk seed steps are (λ x is. start_position x.problem is.problem) kept_tries
+    (λ x rest found before w is p done. (record { row = refl; stage = refl; digest = refl }, p.fit))
+    (λ x before w is p. p.fit)
+
+pub kept_passes_on : (seed : List ℕ) (steps : List PlainStep) → AreSteps steps → (x : PlainStep) (rest : List PlainStep) (w : Walk) (before : List ℕ) (past : Past) → w.done ≡ true → IsStand seed steps (at_walk x rest w before past) → IsStand seed steps (behind seed x rest w before past)
+kept_passes_on seed steps are =
+    passes_on IsKeptAt IsKeptWalk seed steps are (λ x is. start_position x.problem is.problem) kept_tries
+    (λ x rest found before w is p done. (record { row = refl; stage = refl; digest = refl }, p.fit))
+    (λ x before w is p. p.fit)
 
 pub kept_begins : (seed : List ℕ) (steps : List PlainStep) → AreSteps steps → IsStand seed steps (beginning seed steps)
 kept_begins seed steps are =

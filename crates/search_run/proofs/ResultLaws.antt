@@ -1,18 +1,20 @@
 -- What can be gone on from is where a run may stand; and each result is one of a step, and admissible.
-use Rattle.std.specs.Prelude.{ℕ, ◌≡◌, ◌+◌, Bool, true, false, List, [], ◌∷◌, ◌++◌, Option, Some, None, if◌then◌else◌}
+use Rattle.std.specs.Prelude.{ℕ, ◌≡◌, ◌+◌, Bool, true, false, List, [], ◌∷◌, ◌++◌, Option, Some, None, Result, Ok, Err, IfOk, if◌then◌else◌}
 use Rattle.std.specs.List.{AllByRecursion}
 use Rattle.std.proofs.Common.{refl, sym, ap, subst, ◌∙◌, append_assoc}
 use Rattle.std.proofs.lemmas.List.{append-nil}
-use Rattle.closing_log.specs.Log.{PlainLog, PlainSection}
+use Rattle.closing_log.specs.Log.{PlainLog, PlainOpen, PlainSection}
 use Rattle.pick_problem.specs.Admissible.{IsFit}
 use Rattle.pick_problem.specs.Walk.{Walk}
 use Rattle.pick_problem.proofs.Deciding.{by_test, if_cases}
 use Rattle.random_draw.specs.Draw.{draw_of}
 use Rattle.search_run.specs.Found.{PlainFound, IsResultOf, IsTaken, found_of, taken}
-use Rattle.search_run.specs.Kept.{Along, At, CanGoOn, IsDueAt, IsFitAt, IsFitFor, IsPositionFor, PlainSaved, answered, answered_by, at_end, comes_to, first_search, kept_walk, log_of, refreshed, saved_by, saved_of, stand_of, tail_letters, to_search}
-use Rattle.search_run.specs.Run.{Ended, Stand, at_hand, draws_behind, end_by, end_of, ends, go_on, later_draws, or_unfinished}
+use Rattle.search_run.specs.Kept.{Along, At, CanGoOn, IsDueAt, IsFitAt, IsFitFor, IsPositionFor, PlainSaved, answered, answered_by, at_end, comes_to, first_search, is_over, kept_walk, log_of, refreshed, saved_by, saved_of, stand_of, tail_letters, tail_of, to_search}
+use Rattle.search_run.specs.Run.{Stand, at_hand, draws_behind, end_by, end_of, ends, go_on, later_draws, or_unfinished}
 use Rattle.search_run.specs.Stands.{IsEndOf, IsKeptWalk, IsStand, IsWalkAt, IsWalkBy}
 use Rattle.search_run.specs.Step.{AreSteps, IsStep, PlainStep, is_drawn}
+use Rattle.search_run.specs.declared.ending.End.{End}
+use Rattle.search_run.specs.declared.ending.End.TheVariants.{Ended}
 use Rattle.search_run.proofs.ChoiceLaws.{is_taken}
 use Rattle.search_run.proofs.ComeLaws.{IsSearchFirst, answered_search, comes_to_search, search_first}
 use Rattle.search_run.proofs.KeptLaws.{kept_is, refreshed_goes_on, same_end, same_log, same_saved}
@@ -21,7 +23,7 @@ use Rattle.search_run.proofs.StandLaws.{draw_fits, results-append, results_of, s
 
 -- ---- to where a run comes
 
-comes_search : (seed : List ℕ) (ss : List PlainSection) (at : At) → IsSearchFirst at.left → IsSearchFirst (comes_to seed at ss).left
+pub comes_search : (seed : List ℕ) (ss : List PlainSection) (at : At) → IsSearchFirst at.left → IsSearchFirst (comes_to seed at ss).left
 comes_search seed [] at h = h
 comes_search seed (s ∷ ss) at h = comes_search seed ss (answered seed at s.answer) (answered_search seed at.left at.found s.answer)
 
@@ -132,6 +134,29 @@ module _ (seed : List ℕ) (steps : List PlainStep) (are : AreSteps steps) where
 
   pub ends_of : (take : Bool) (s : Stand) → IsStand seed steps s → IsEndOf steps (end_of take seed s)
   ends_of take s h = end_is take s s.left h.walk h.left.0 h.left.1 h.found
+
+pub ends_well : {X : Type 0} (seed : List ℕ) (steps : List PlainStep) (s : Stand) (take : Bool) (r : Result End X) → AreSteps steps → IsStand seed steps s → IfOk r (λ e. e ≡ end_of take seed s) → IfOk r (λ e. IsEndOf steps e)
+ends_well seed steps s take (Ok e) are h is = subst (IsEndOf steps) (sym is) (ends_of seed steps are take s h)
+ends_well seed steps s take (Err x) are h is = tt
+
+-- ---- the log
+
+log_by : (s : Stand) (left : List PlainStep) (closed : List PlainSection) (o : PlainOpen) → closed ≡ s.past.closed → Some o ≡ tail_of s left → ◌≡◌ {A = PlainLog} (record { closed = closed; tail = Some o; ended = false }) (record { closed = s.past.closed; tail = tail_of s left; ended = is_over left })
+log_by s [] closed o e h = absurd (cc)
+log_by s (x ∷ rest) closed o e h = ap (λ (ss : List PlainSection). record { closed = ss; tail = Some o; ended = false }) e ∙ ap (λ (t : Option PlainOpen). record { closed = s.past.closed; tail = t; ended = false }) h
+
+ended_by : (s : Stand) (left : List PlainStep) (closed : List PlainSection) → closed ≡ s.past.closed → None ≡ tail_of s left → ◌≡◌ {A = PlainLog} (record { closed = closed; tail = None; ended = true }) (record { closed = s.past.closed; tail = tail_of s left; ended = is_over left })
+ended_by s [] closed e h = ap (λ (ss : List PlainSection). record { closed = ss; tail = None; ended = true }) e
+ended_by s (x ∷ rest) closed e h = absurd (cc)
+
+log_not : (b : Bool) (s : Stand) → b ≡ false → log_of false s ≡ log_of b s
+log_not b s e = ap (λ (c : Bool). log_of c s) (sym e)
+
+pub log_goes : (partial : Bool) (s : Stand) (closed : List PlainSection) (o : PlainOpen) → partial ≡ false → closed ≡ s.past.closed → Some o ≡ tail_of s s.left → record { closed = closed; tail = Some o; ended = false } ≡ log_of partial s
+log_goes partial s closed o p e h = log_by s s.left closed o e h ∙ log_not partial s p
+
+pub log_ends : (partial : Bool) (s : Stand) (closed : List PlainSection) → partial ≡ false → closed ≡ s.past.closed → None ≡ tail_of s s.left → record { closed = closed; tail = None; ended = true } ≡ log_of partial s
+log_ends partial s closed p e h = ended_by s s.left closed e h ∙ log_not partial s p
 
 -- ---- going on from what is kept
 

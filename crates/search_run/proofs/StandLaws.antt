@@ -10,7 +10,7 @@ use Rattle.pick_problem.specs.declared.item.Kind.TheVariants.{Lean}
 use Rattle.pick_problem.specs.Admissible.{IsFit}
 use Rattle.pick_problem.specs.Problem.{PlainProblem}
 use Rattle.pick_problem.specs.Walk.{Walk, after_tries, start}
-use Rattle.pick_problem.proofs.Deciding.{by_test, if_true, if_false}
+use Rattle.pick_problem.proofs.Deciding.{by_test, if_cases, if_true, if_false}
 use Rattle.pick_problem.proofs.TryStepLaws.{after_done}
 use Rattle.random_draw.specs.Draw.{draw_of}
 use Rattle.random_draw.specs.Order.{order_of}
@@ -18,7 +18,8 @@ use Rattle.random_draw.proofs.Fresh.{found_fits}
 use Rattle.random_draw.proofs.OrderLaws.{order_fresh}
 use Rattle.search_run.specs.Found.{PlainFound, IsResultOf, found_of}
 use Rattle.search_run.specs.Kept.{Along, At, answered, comes_to, first_search, to_search}
-use Rattle.search_run.specs.Run.{Past, beginning, begun, begun_first, drawn, ends, onward, passed, section_at, sections_of}
+use Rattle.search_run.specs.Leads.{at_walk, behind}
+use Rattle.search_run.specs.Run.{Past, beginning, begun, begun_first, drawn, ends, onward, passed, section_at, sections_of, tried}
 use Rattle.search_run.specs.Stands.{IsStandBy, IsWalkAt, IsWalkBy}
 use Rattle.search_run.specs.Step.{AreSteps, FitsStage, IsStep, PlainStep, is_drawn}
 use Rattle.search_run.proofs.ComeLaws.{along-append, at_step, behind_step, comes-append, draw_first, search_first}
@@ -26,7 +27,7 @@ use Rattle.search_run.proofs.RunLaws.{onward_by}
 
 -- ---- draws
 
-lean_of : (s : Stage) (p : PlainProblem) → is_drawn s ≡ true → FitsStage s p → p.kind ≡ Lean
+pub lean_of : (s : Stage) (p : PlainProblem) → is_drawn s ≡ true → FitsStage s p → p.kind ≡ Lean
 lean_of Presets p e h = absurd h
 lean_of Changeless p e h = absurd (cc)
 lean_of LeanBig p e h = h
@@ -121,6 +122,34 @@ module _ (Closed : At → PlainSection → Type 0) (Of : PlainStep → List ℕ 
             ap (comes_to seed (first_search seed steps)) same
             ∙ (comes-append seed (first_search seed steps) past.closed (section_at x before v ∷ []) ∙ ap (λ (a : At). answered seed a v.best) at);
       })
+
+  pub walks_on : (x : PlainStep) (rest : List PlainStep) (w : Walk) (before : List ℕ) (past : Past) (n k : ℕ) → IsStandBy Closed Of seed steps (at_walk x rest w before past) → IsStandBy Closed Of seed steps (at_walk x rest (after_tries x.problem w n) before (tried past k))
+  walks_on x rest w before past n k h =
+      let is : IsStep x = step_here h.left.0 rest x (subst AreSteps h.left.1 are) in
+      record { closed = h.closed; here = h.here; walk = walk_goes x before w n is h.walk; left = h.left; found = h.found }
+
+  pub passes_on : (x : PlainStep) (rest : List PlainStep) (w : Walk) (before : List ℕ) (past : Past) → w.done ≡ true → IsStandBy Closed Of seed steps (at_walk x rest w before past) → IsStandBy Closed Of seed steps (behind seed x rest w before past)
+  passes_on x rest w before past done h =
+      let front : List PlainStep = h.left.0 in
+      let parts : steps ≡ front ++ x ∷ rest = h.left.1 in
+      let is : IsStep x = step_here front rest x (subst AreSteps parts are) in
+      let now : AllByRecursion (IsResultOf steps) (past.found ++ found_of x w.best) = results-append steps past.found (found_of x w.best) h.found (results_of steps front rest x w.best parts (walk_fits x before w is h.walk)) in
+      let b : IsBehind x rest before w past = goes_behind x rest before w past is done h.walk h.closed h.here in
+      let parts_behind : steps ≡ (front ++ x ∷ []) ++ rest = parts ∙ sym (append_assoc front (x ∷ []) rest) in
+      if_cases (IsStandBy Closed Of seed steps) (ends x (past.found ++ found_of x w.best)) _ _
+      (λ e. record { closed = b.closed; here = b.here ∙ if_true (ends x (past.found ++ found_of x w.best)) _ _ e; walk = tt; left = (steps, sym (append-nil steps)); found = now })
+      (λ e.
+      record {
+        closed = b.closed;
+        here = b.here ∙ if_false (ends x (past.found ++ found_of x w.best)) _ _ e;
+        walk = begun_walk rest (steps_behind (front ++ x ∷ []) rest (subst AreSteps parts_behind are));
+        left = (front ++ x ∷ [], parts_behind);
+        found = now;
+      })
+    where
+      steps_behind : (front rest : List PlainStep) → AreSteps (front ++ rest) → AreSteps rest
+      steps_behind [] rest h = h
+      steps_behind (y ∷ ys) rest h = steps_behind ys rest h.1
 
   pub stands_on : (left : List PlainStep) (w : Walk) (before : List ℕ) (past : Past) (m : ℕ) → IsStandBy Closed Of seed steps (record { left = left; walk = w; before = before; past = past }) → IsStandBy Closed Of seed steps (onward seed left w before past m)
   stands_on [] w before past m h = record { closed = h.closed; here = h.here; walk = tt; left = h.left; found = h.found }

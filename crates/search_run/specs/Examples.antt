@@ -8,8 +8,9 @@ use Rattle.pick_problem.specs.declared.item.Kind.TheVariants.{Changeless, Lean}
 use Rattle.pick_problem.specs.Examples.{light_pair}
 use Rattle.search_run.specs.Found.{PlainFound}
 use Rattle.search_run.specs.Kept.{PlainSaved}
-use Rattle.search_run.specs.Run.{End, Stand, end_of}
+use Rattle.search_run.specs.Run.{Stand, end_of}
 use Rattle.search_run.specs.Step.{PlainStep}
+use Rattle.search_run.specs.declared.ending.End.{End}
 
 -- what is told of a finished search, without its digest
 pub record ToldSection : Type 0 where

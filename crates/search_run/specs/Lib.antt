@@ -1,10 +1,15 @@
+pub mod Along
 pub mod Answer
 pub mod Examples
 pub mod Found
+pub mod Held
+pub mod Judged
 pub mod Kept
 pub mod Leads
 pub mod Run
+pub mod Runs
 pub mod Searched
 pub mod Stands
 pub mod Step
+pub mod Turns
 pub mod Walks

@@ -8,6 +8,8 @@ use Rattle.pick_problem.specs.Walk.{Walk, after_tries, start}
 use Rattle.random_draw.specs.Draw.{draw_of}
 use Rattle.search_run.specs.Found.{PlainFound, found_of, taken}
 use Rattle.search_run.specs.Step.{PlainStep, is_drawn}
+use Rattle.search_run.specs.declared.ending.End.{End}
+use Rattle.search_run.specs.declared.ending.End.TheVariants.{Ended, Partial, Unfinished}
 
 -- what a run leaves behind it: the results of the column that it is in, the finished searches, and the tries made
 pub record Past : Type 0 where
@@ -108,16 +110,14 @@ run seed steps n = go_on seed (beginning seed steps) n
 
 -- ---- what a stand comes to
 
--- the end, with what was taken or nothing; a result that is taken for want of tries; or neither
-pub data End : Type 0 where
-  Ended : Option PlainFound → End
-  Partial : PlainFound → End
-  Unfinished : End
+-- what a step finds, if it is a draw
+abbrev pub drawn_here : List ℕ → PlainStep → List PlainFound
+drawn_here seed y = if is_drawn y.stage then found_of y (draw_of y.problem seed) else []
 
 -- what the draws of a column find, of the steps that are left of it
 abbrev pub later_draws : List ℕ → List PlainStep → List PlainFound
 later_draws seed [] = []
-later_draws seed (y ∷ ys) = (if is_drawn y.stage then found_of y (draw_of y.problem seed) else []) ++ (if y.last then [] else later_draws seed ys)
+later_draws seed (y ∷ ys) = drawn_here seed y ++ (if y.last then [] else later_draws seed ys)
 
 abbrev pub draws_behind : List ℕ → PlainStep → List PlainStep → List PlainFound
 draws_behind seed x rest = if x.last then [] else later_draws seed rest

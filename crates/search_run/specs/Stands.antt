@@ -1,12 +1,14 @@
 -- Where a run over steps may stand.
-use Rattle.std.specs.Prelude.{ℕ, ◌≡◌, Bool, true, false, List, [], ◌∷◌, ◌++◌, Some, None}
+use Rattle.std.specs.Prelude.{ℕ, ◌≡◌, Bool, true, false, List, [], ◌∷◌, ◌++◌, IfSome}
 use Rattle.std.specs.List.{AllByRecursion}
 use Rattle.closing_log.specs.Log.{PlainSection}
 use Rattle.pick_problem.specs.Walk.{IsPosition, Walk, walk}
 use Rattle.search_run.specs.Found.{IsResultOf}
 use Rattle.search_run.specs.Kept.{Along, At, IsAcceptedAt, IsBestAt, IsDueAt, IsFitAt, comes_to, first_search, to_search}
-use Rattle.search_run.specs.Run.{End, Ended, Partial, Stand, Unfinished, drawn}
+use Rattle.search_run.specs.Run.{Stand, drawn}
 use Rattle.search_run.specs.Step.{PlainStep, is_drawn}
+use Rattle.search_run.specs.declared.ending.End.{End}
+use Rattle.search_run.specs.declared.ending.End.TheVariants.{Ended, Partial, Unfinished}
 
 -- the walk of a draw is done with what is drawn; that of a search, behind letters from before, is one of these
 abbrev pub IsWalkBy : Bool → (PlainStep → List ℕ → Walk → Type 0) → List ℕ → PlainStep → List ℕ → Walk → Type 0
@@ -52,7 +54,6 @@ IsFromStart seed steps s = IsStandBy IsMadeAt IsMadeWalk seed steps s
 
 -- the results that an end tells of
 abbrev pub IsEndOf : List PlainStep → End → Type 0
-IsEndOf steps (Ended None) = Unit {0}
-IsEndOf steps (Ended (Some f)) = IsResultOf steps f
+IsEndOf steps (Ended o) = IfSome o (IsResultOf steps)
 IsEndOf steps (Partial f) = IsResultOf steps f
 IsEndOf steps Unfinished = Unit {0}

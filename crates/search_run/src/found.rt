@@ -66,7 +66,7 @@ fn waste_at(step: &Step, places: &[u32]) -> i128
 }
 
 impl Found {
-    /// These places, which are admissible for its problem, as a result of a step. The error is want of memory.
+    /// These places, which are admissible for its problem, as a result of a step. The error is out of memory.
     pub fn new(alloc: Global, step: &Step, places: &[u32]) -> Result<Found, Memory>
         requires { IsAdmissible step.now.problem places.now }
         ensures { IfOk result (λ f. f ≡ found_at step.now places.now) }
@@ -77,6 +77,19 @@ impl Found {
             places: Places::new(Vec::from_slice(alloc, places)?),
             waste: waste_at(step, places),
             coins: coins(step, places),
+        })
+    }
+
+    /// A copy. The error is out of memory.
+    pub fn copy(&self, alloc: Global) -> Result<Found, Memory>
+        ensures { IfOk result (λ f. f ≡ self.now) }
+    {
+        Ok(Found {
+            row: self.row,
+            stage: self.stage,
+            places: self.places.copy(alloc)?,
+            waste: self.waste,
+            coins: self.coins,
         })
     }
 

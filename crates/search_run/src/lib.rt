@@ -3,13 +3,21 @@
 //! and its stage. Coins, fees, requests and files are unknown here.
 #![tactic(auto)]
 
+mod ending;
 mod found;
+mod hand;
+mod keeping;
 mod laws;
+mod outcome;
 mod resuming;
+mod run;
 mod sections;
 mod step;
+mod trail;
+mod walking;
 mod worked;
 
+pub use ending::End;
 pub use found::{Found, choose};
 pub use laws::{
     ended_runs_have_the_answer, logs_have_each_search, one_answer, one_result_is_taken,
@@ -20,6 +28,7 @@ pub use resuming::{
     kept_positions_are_well_formed, kept_runs_are_accepted, kept_runs_go_on, runs_stand,
     verified_runs_have_the_answer,
 };
+pub use run::SearchRun;
 pub use sections::{open_section, section};
 pub use step::Step;
 pub use worked::{worked_budgets, worked_columns, worked_resuming};

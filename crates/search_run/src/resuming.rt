@@ -64,7 +64,7 @@ pub fn verified_runs_have_the_answer()
         IsAnswer seed steps (taken (go_on seed (stand_of seed steps saved log) m).past.found) }
 {}
 
-/// What is saved, taken as an open position behind any letters with as many tries as they tell of, is well formed for
+/// What is saved, taken as an open position after any letters with as many tries as they tell of, is well formed for
 /// a problem exactly where a walk of the problem may stand there; and the search that is restored from it is that
 /// walk.
 pub fn kept_positions_are_well_formed()

@@ -12,7 +12,7 @@ use search_keep::Walk;
 use std::alloc::Global;
 
 /// The section of a search of a step that is done: its row and stage, the digest of its problem, all its letters, and
-/// its best. The error is want of memory.
+/// its best. The error is out of memory.
 pub fn section(alloc: Global, step: &Step, walk: &Walk) -> Result<Section, Memory>
     ensures { IfOk result (λ s. s ≡ section_at step.now (search_of walk.now).before (search_of walk.now).walk) }
 {
@@ -29,7 +29,7 @@ pub fn section(alloc: Global, step: &Step, walk: &Walk) -> Result<Section, Memor
     })
 }
 
-/// The section of a search of a step that goes on, with its letters so far. The error is want of memory.
+/// The section of a search of a step that goes on, with its letters so far. The error is out of memory.
 pub fn open_section(alloc: Global, step: &Step, walk: &Walk) -> Result<OpenSection, Memory>
     ensures { IfOk result (λ s. s ≡ record {
       row = step.now.row;

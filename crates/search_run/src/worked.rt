@@ -4,7 +4,8 @@ ghost use Rattle.std.specs.Prelude.{◌≡◌, ◌++◌, ℕ, List, [], ◌∷�
 ghost use Rattle.closing_log.specs.declared.log.Stage.TheVariants as stage;
 ghost use Rattle.search_run.specs.Examples.{exact_pair, kept_at, light, light_log, light_result, no_coin, one_coin, section, told, with_change, without_change};
 ghost use Rattle.search_run.specs.Kept.{log_of, saved_of, stand_of};
-ghost use Rattle.search_run.specs.Run.{Ended, Partial, Unfinished, go_on, run};
+ghost use Rattle.search_run.specs.Run.{go_on, run};
+ghost use Rattle.search_run.specs.declared.ending.End.TheVariants.{Ended, Partial, Unfinished};
 ghost use Rattle.pick_problem.specs.Digest.{digest_of};
 
 /// Two coins that pay exactly: with three tries the run ends; with two its result can be taken for want of tries, or
