@@ -1,7 +1,12 @@
+pub mod AlongLaws
 pub mod AnswerLaws
+pub mod CheckLaws
 pub mod ChoiceLaws
 pub mod CoinLaws
 pub mod ComeLaws
+pub mod ComingLaws
+pub mod ExactLaws
+pub mod FollowLaws
 pub mod HandLaws
 pub mod HeldLaws
 pub mod KeptLaws

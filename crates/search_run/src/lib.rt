@@ -3,7 +3,9 @@
 //! and its stage. Coins, fees, requests and files are unknown here.
 #![tactic(auto)]
 
+mod coming;
 mod ending;
+mod fault;
 mod found;
 mod hand;
 mod keeping;
@@ -14,10 +16,12 @@ mod run;
 mod sections;
 mod step;
 mod trail;
+mod verifying;
 mod walking;
 mod worked;
 
 pub use ending::End;
+pub use fault::VerifyFault;
 pub use found::{Found, choose};
 pub use laws::{
     ended_runs_have_the_answer, logs_have_each_search, one_answer, one_result_is_taken,
@@ -25,8 +29,8 @@ pub use laws::{
     unfinished_runs_have_tried,
 };
 pub use resuming::{
-    kept_positions_are_well_formed, kept_runs_are_accepted, kept_runs_go_on, runs_stand,
-    verified_runs_have_the_answer,
+    kept_positions_are_well_formed, kept_runs_are_accepted, kept_runs_go_on,
+    log_faults_have_one_cause, runs_stand, verified_runs_have_the_answer,
 };
 pub use run::SearchRun;
 pub use sections::{open_section, section};

@@ -1,16 +1,19 @@
 //! Laws of what is kept of a run, and of runs that go on from it. A call of any of them does nothing.
 
-ghost use Rattle.std.specs.Prelude.{◌≡◌, ◌↔◌, ◌+◌, [], ℕ, List, Some, Bool, false};
-ghost use Rattle.closing_log.specs.Log.{PlainLog};
+ghost use Rattle.std.specs.Prelude.{◌≡◌, ◌≢◌, ◌↔◌, ◌+◌, [], ℕ, List, Some, Bool, false};
+ghost use Rattle.closing_log.specs.Log.{PlainLog, PlainSection};
 ghost use Rattle.pick_problem.specs.Problem.{PlainProblem};
 ghost use Rattle.pick_problem.specs.Walk.{IsPosition};
 ghost use Rattle.search_run.specs.Answer.{AreWhole, IsAnswer};
 ghost use Rattle.search_run.specs.Found.{taken};
+ghost use Rattle.search_run.specs.Judged.{IsRefusedLog};
 ghost use Rattle.search_run.specs.Kept.{Along, CanGoOn, IsAcceptedAt, IsBestAt, PlainSaved, first_search, kept_walk, log_of, saved_of, stand_of};
 ghost use Rattle.search_run.specs.Run.{Stand, beginning, end_of, go_on, run};
 ghost use Rattle.search_run.specs.Stands.{IsStand};
 ghost use Rattle.search_run.specs.Step.{AreSteps, PlainStep};
 ghost use Rattle.search_run.specs.Walks.{kept_position};
+ghost use Rattle.search_run.specs.declared.fault.VerifyFault.{VerifyFault};
+ghost use Rattle.search_run.specs.declared.fault.VerifyFault.TheVariants as verified;
 ghost use Rattle.walk_engine.specs.Search.{IsWellFormed, restored};
 
 /// Where runs may stand: where they begin; where they go on from what is kept, whatever that is, if it is accepted;
@@ -74,4 +77,14 @@ pub fn kept_positions_are_well_formed()
         (restored p (kept_position saved letters) letters).walk ≡ kept_walk saved }
     ensures before { (p : PlainProblem) (saved : PlainSaved) (letters : List ℕ) →
         (restored p (kept_position saved letters) letters).before ≡ letters }
+{}
+
+/// A log is refused for one cause: one whose sections are all accepted is refused for out of memory alone, and two
+/// causes of a refusal are the same, unless one is out of memory.
+pub fn log_faults_have_one_cause()
+    ensures none { (seed : List ℕ) (steps : List PlainStep) (sections : List PlainSection) (e : VerifyFault) →
+        Along IsAcceptedAt seed (first_search seed steps) sections → IsRefusedLog seed steps sections e → e ≡ verified.Memory }
+    ensures one { (seed : List ℕ) (steps : List PlainStep) (sections : List PlainSection) (e f : VerifyFault) →
+        e ≢ verified.Memory → f ≢ verified.Memory →
+        IsRefusedLog seed steps sections e → IsRefusedLog seed steps sections f → e ≡ f }
 {}

@@ -1,19 +1,23 @@
 //! The run over steps.
 
 ghost use Rattle.std.specs.Prelude.{◌≡◌, ◌↔◌, ◌<◌, ◌≤◌, ◌+◌, ◌^◌, ◌≢◌, [], ◌∷◌, ℕ, List, true, IfErr, IfOk, IfSome, IsTrue, MatchOption, None, Ok, OnErr, OnOk};
-ghost use Rattle.search_run.specs.Kept.{log_of, saved_of, tail_of};
+ghost use Rattle.search_run.specs.Judged.{IsRefusedLog};
+ghost use Rattle.search_run.specs.Kept.{Along, IsAcceptedAt, first_search, log_of, saved_of, tail_of};
 ghost use Rattle.search_run.specs.Run.{beginning, end_of, go_on, over};
 ghost use Rattle.search_run.specs.Runs.{RunLeads, saved_with};
 ghost use Rattle.search_run.specs.Turns.{IsPassed, IsTurn, IsWalkedOn};
 ghost use Rattle.search_run.specs.Stands.{IsEndOf, IsStand};
 ghost use Rattle.search_run.specs.Step.{AreSteps, PlainStep};
+ghost use Rattle.search_run.specs.declared.fault.VerifyFault.TheVariants as verified;
 
 use crate::ending::End;
+use crate::fault::VerifyFault;
 use crate::hand::{take_ended, take_partial};
 use crate::keeping::{copy_sections, place, tail};
 use crate::outcome::leave;
 use crate::step::Step;
 use crate::trail::Trail;
+use crate::verifying::verify;
 use crate::walking::{Turn, advance};
 use closing_log::{LogText, OpenSection};
 use fund_base::Memory;
@@ -259,5 +263,21 @@ impl SearchRun {
             best: place.best,
             parts,
         }))
+    }
+
+    /// Whether the letters of each finished search are accepted with its answer, by a checker that knows no search.
+    /// The fault is that of the first search whose letters aren't. The log of a run from its beginning has none.
+    pub fn verify(&self) -> Result<(), VerifyFault>
+        ensures accepted { OnOk result (Along IsAcceptedAt self.now.seed (first_search self.now.seed self.now.steps) self.now.stand.past.closed) }
+        ensures refused { IfErr result (λ e. IsRefusedLog self.now.seed self.now.steps self.now.stand.past.closed e) }
+        // Where each section is accepted, the only error is out of memory.
+        ensures made { Along IsAcceptedAt self.now.seed (first_search self.now.seed self.now.steps) self.now.stand.past.closed → IfErr result (λ e. e ≡ verified.Memory) }
+    {
+        verify(
+            self.alloc,
+            self.seed,
+            self.steps.as_slice(),
+            self.past.closed.as_slice(),
+        )
     }
 }
