@@ -23,7 +23,7 @@ struct Counts {
     blocks: u64,
 }
 
-/// Makes the book of a wallet, adds the blocks of the file `name`, which stand behind the wallet's height, and counts.
+/// Makes the book of a wallet, adds the blocks of the file `name`, which stand after the wallet's height, and counts.
 fn counts_of<H: Shelf>(
     alloc: Global,
     wallet: &Wallet,

@@ -72,7 +72,7 @@ fn sort(alloc: Global, mut coins: Vec<Candidate>) -> Result<usize, Memory> {
     Ok(keys.len())
 }
 
-/// Prints how long it takes to sort the same keys, in microseconds, behind how long the pool took.
+/// Prints how long it takes to sort the same keys, in microseconds, after how long the pool took.
 fn compare(rt: &HostRuntime, coins: Vec<Candidate>, pool_time: u128) -> io::Result<()> {
     let start = Instant::now(rt)?;
     let keys = sort(rt.alloc(), coins).unwrap_or(0);

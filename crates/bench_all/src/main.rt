@@ -2,9 +2,9 @@
 //!
 //! - `feed BLOCKS` reads a block file, from 32 zero bytes and height 0 to its end;
 //! - `wallet WALLET` reads a wallet file;
-//! - `coins WALLET BLOCKS` makes the book of a wallet's coins, and adds the blocks of a file that stand behind it;
+//! - `coins WALLET BLOCKS` makes the book of a wallet's coins, and adds the blocks of a file that stand after it;
 //! - `walk FILE TRIES ROUNDS` walks the problem of a file ROUNDS times, each with TRIES tries;
-//! - `groups COUNT` finds the pool of made-up coins, and with `timed` behind it prints the times too.
+//! - `groups COUNT` finds the pool of made-up coins, and with `timed` after it prints the times too.
 //!
 //! Commands are parted by the word `then`. The status is 1 where one of them failed.
 #![tactic(auto)]

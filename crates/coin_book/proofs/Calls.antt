@@ -7,7 +7,7 @@ use Rattle.coin_book.specs.Events.{ComesTo, Event, after, blocks_in, pending_in}
 use Rattle.coin_book.specs.Events.Event.{adds_block, adds_pending}
 use Rattle.coin_book.specs.History.{History, confirmed_in, start_of, with_block, with_pending}
 
--- behind any history
+-- after any history
 behind : (h : History) (events : List Event) → after h events ≡ record {
   scripts = h.scripts;
   confirmed = h.confirmed ++ flat_map confirmed_in (blocks_in events);

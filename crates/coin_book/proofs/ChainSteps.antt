@@ -170,7 +170,7 @@ chain_more weigh before behind base old new c held spend under h is made coins g
           ∙ ap (λ (b : Bool). b || is_some (lookup (bytes_eq id) old.heights.entries)) (ap (λ (x : List ℕ). is_some (height_of before x)) (sym id_is ∙ (bytes_eq-Decides spend.txid t).0 same) ∙ there));
     }
 
--- ---- faults behind two ledgers
+-- ---- faults after two ledgers
 
 pub held_points : (weigh : List ℕ → Option ℕ) (before behind : List Confirmed) (base old : Ledger) (c : Confirmed) (held : List Held) → HoldsChain weigh [] before base → HoldsChain weigh before behind old → map held_made held ≡ made_by weigh c
     → fault_behind (keys_of base.coins.entries ++ keys_of old.coins.entries) (map held_point held) ≡ fault_behind (points_in weigh before ++ points_in weigh behind) (points (made_by weigh c))
@@ -193,7 +193,7 @@ no_chain weigh l coins spends heights = record {
   apart = λ t there. absurd cc;
 }
 
--- a ledger of nothing behind others
+-- a ledger of nothing after others
 pub none_behind : (weigh : List ℕ → Option ℕ) (before : List Confirmed) (l : Ledger) → l.coins.entries ≡ [] → l.spends.entries ≡ [] → l.heights.entries ≡ [] → HoldsChain weigh before [] l
 none_behind weigh before l coins spends heights = record {
   coins = record { made_is = ap (map made_at) coins; keys_are = ap (λ (es : List (OutPoint × Held)). keys_of es) coins };

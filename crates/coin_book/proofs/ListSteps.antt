@@ -1,4 +1,4 @@
--- Lists of spends, put behind others and taken away again.
+-- Lists of spends, put after others and taken away again.
 use Rattle.std.proofs.Common.{◌≡◌, ◌∙◌, ℕ, zero, suc, ◌+◌, ◌-◌, Bool, true, false, cond, List, [], ◌∷◌, ◌++◌, length, take, Option, Some, Result, Ok, Err, IfErr, IfOk, IsErr, refl, sym, ap, arith, append_assoc, Vec, Global, true≢false}
 use Rattle.std.specs.Prelude.{slice_get}
 use Rattle.std.specs.List.{AllByRecursion, IsDistinct}
@@ -44,7 +44,7 @@ all_more es i e o is =
     ap (λ (l : List (OutPoint × Vec Spend Global)). all_in l o) (entry_more es i e is) ∙ flat_map-append (listed o) (take i es) (e ∷ [])
     ∙ ap (λ (l : List Spend). all_in (take i es) o ++ l) (append-nil (listed o e))
 
--- one entry's spends behind the others
+-- one entry's spends after the others
 pub one_list : (es : List (OutPoint × Vec Spend Global)) (i : ℕ) (point : OutPoint) (list : Vec Spend Global) (front old new : List Spend) (o : OutPoint) → slice_get es i ≡ Some (point, list)
     → old ≡ front ++ all_in (take i es) o → new ≡ old ++ cond (same_outpoint point o) list.items [] → new ≡ front ++ all_in (take (i + 1) es) o
 one_list es i point list front old new o is so_far more =

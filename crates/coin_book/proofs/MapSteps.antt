@@ -53,7 +53,7 @@ fault_more before (x ∷ xs) ys =
 pub key_count : {X : Type 0} (es : List (OutPoint × X)) → length (keys_of es) ≡ length es
 key_count es = length-map es (λ e. e.0)
 
--- the fault of one coin behind those of two maps
+-- the fault of one coin after those of two maps
 pub fault_two : (base coins : List (OutPoint × Held)) (o p : OutPoint) (b room : Bool) → p ≡ o → b ≡ (list_any (same_outpoint p) (keys_of base) || list_any (same_outpoint p) (keys_of coins)) → room ≡ nat_lt (length base + length coins) 100_000
     → fault_behind (keys_of base ++ keys_of coins) (o ∷ []) ≡ cond b (Some (RepeatCoin o)) (cond room None (Some Full))
 fault_two base coins o p b room is told left =

@@ -42,7 +42,7 @@ fresh_first before os o is = by (list_any (same_outpoint o) before) (nat_lt (len
     by false true e is = (e, is)
     by false false e is = absurd cc
 
--- coins that break no rule go behind the others
+-- coins that break no rule go after the others
 pub coins_behind : {X : Type 0} (es xs : List (OutPoint × X)) → fault_behind (keys_of es) (keys_of xs) ≡ None → insert_all same_outpoint es xs ≡ es ++ xs
 coins_behind es [] is = sym (append-nil es)
 coins_behind {X = X} es (x ∷ xs) is =

@@ -1,4 +1,4 @@
--- What is told of the transactions that spend an outpoint is exactly what the chain holds of them.
+-- What is listed of the transactions that spend an outpoint is exactly what the chain holds of them.
 use Rattle.std.proofs.Common.{◌≡◌, ◌≢◌, ◌∙◌, ◌⊎◌, inl, inr, ℕ, zero, suc, ◌<◌, Bool, true, false, cond, ◌&&◌, List, [], ◌∷◌, ◌++◌, length, take, get_or, Option, Some, None, All, Contains, refl, sym, ap, subst, arith, true≢false, slice_get}
 use Rattle.std.specs.Prelude.{bytes_eq, is_some, not, option_and_then, ◌↔◌}
 use Rattle.std.specs.List.{AllPairs, Any, list_any}
@@ -52,7 +52,7 @@ has_one o inputs a = list_any-from_Any (λ (i : TxIn). same_outpoint i.prev o) i
 abbrev told : ℕ → Confirmed → Spend
 told n c = record { txid = txid_of c.tx; height = c.height; place = n }
 
--- what is told of a transaction is told of one that spends the outpoint, the first of its txid
+-- what is listed of a transaction is of one that spends the outpoint, the first of its txid
 this_one : (chain : List Confirmed) (o : OutPoint) (n : ℕ) (c : Confirmed) (s : Spend) → slice_get chain n ≡ Some c → spend_by chain o n c ≡ Some s → IsSpendOf chain o s × (s.place ≡ n)
 this_one chain o n c s at is = by (has_input o c.tx.inputs) (is_some (height_of (take n chain) (txid_of c.tx))) refl refl is
   where
@@ -72,7 +72,7 @@ at_place chain o n s is = by (slice_get chain n) refl is
     by None e is = absurd cc
     by (Some c) e is = this_one chain o n c s e is
 
--- such a one is told at its place
+-- such a one is listed at its place
 pub told_at : (chain : List Confirmed) (o : OutPoint) (s : Spend) → IsSpendOf chain o s → spend_at chain o s.place ≡ Some s
 unfolding spend_at
 told_at chain o s h =

@@ -103,7 +103,7 @@ all_passed g weigh (t ∷ ts) =
     by true = refl
     by false = refl
 
--- ---- tests one behind the other
+-- ---- tests one after the other
 
 twice : (p q r : Transaction → Bool) → ((t : Transaction) → q t ≡ true → p t ≡ r t) → ((t : Transaction) → q t ≡ false → r t ≡ false) → (ts : List Transaction) → filter p (filter q ts) ≡ filter r ts
 twice p q r both less [] = refl
@@ -144,7 +144,7 @@ stay_holds g made es h =
     let is = stay_made g es keys ∙ ap (passed g) h.made_is in
     record { made_is = is; keys_are = stay_keys g es keys ∙ ap points is }
 
--- ---- behind a block
+-- ---- after a block
 
 either : (a b : Option ℕ) → is_none a ≡ false → is_none (option_or a b) ≡ false
 either None b e = absurd (true≢false e)
@@ -154,7 +154,7 @@ second : (a b : Option ℕ) → is_none a ≡ true → is_none (option_or a b) �
 second None b e = refl
 second (Some x) b e = absurd (true≢false (sym e))
 
--- The coins of a test that agrees, on the txids that were open, with what is open behind the block.
+-- The coins of a test that agrees, on the txids that were open, with what is open after the block.
 pub stay_kept : (h : History) (b : ChainBlock) (weigh : List ℕ → Option ℕ) (more : Ledger) (es : List (OutPoint × Held)) (g : List ℕ → Bool) → HoldsChain weigh h.confirmed (confirmed_in b) more
     → ((t : Transaction) → is_open h.confirmed t ≡ true → g (txid_of t) ≡ is_open (h.confirmed ++ confirmed_in b) t) → HoldsCoins (pending_made h) es → HoldsCoins (pending_made (with_block h b)) (kept g es)
 stay_kept h b weigh more es g holds agrees w =

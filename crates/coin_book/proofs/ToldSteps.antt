@@ -1,4 +1,4 @@
--- The fault that is told is that of the first coin at which something is wrong.
+-- The fault that is reported is that of the first coin at which something is wrong.
 use Rattle.std.proofs.Common.{◌≡◌, ◌≢◌, ◌∙◌, ◌⊎◌, inl, inr, ℕ, suc, ◌+◌, ◌<◌, ◌≤◌, Bool, true, false, cond, List, [], ◌∷◌, ◌++◌, length, take, get_or, Option, Some, None, Contains, refl, sym, ap, subst, append_assoc, arith, slice_get}
 use Rattle.std.specs.Prelude.{nat_lt, ◌↔◌}
 use Rattle.std.specs.List.{list_any}

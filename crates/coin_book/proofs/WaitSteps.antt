@@ -161,7 +161,7 @@ own_below weigh height t (suc n) before free le =
     ∙ step b t n (before ++ front) new
     ∙ ap full_at (all ∙ ap (λ (os : List OutPoint). length before + length os) (sym (spots_more weigh height t n)))
 
--- the coins of one transaction behind others that aren't of its txid break no rule but the limit
+-- the coins of one transaction after others that aren't of its txid break no rule but the limit
 pub own_fault : (weigh : List ℕ → Option ℕ) (height : Option ℕ) (t : Transaction) (before : List OutPoint) → ((k : ℕ) → list_any (same_outpoint (place_of (txid_of t) k)) before ≡ false) → length before ≤ 100_000
     → fault_behind before (points (made_in weigh height t)) ≡ full_at (length before + length (points (made_in weigh height t)))
 unfolding made_in

@@ -21,7 +21,7 @@ pub record Made : Type 0 where
 abbrev pub weight_for : List Watch → List ℕ → Option ℕ
 weight_for scripts script = option_map (λ (s : Watch). s.weight) (find (λ (s : Watch). bytes_eq script s.script) scripts)
 
--- An output of a transaction as a coin, where its script is listed. The transaction's height is told, where it has
+-- An output of a transaction as a coin, where its script is listed. The transaction's height is given, where it has
 -- one, and the listed scripts with their weights by weigh.
 unfoldable pub coin_of : (List ℕ → Option ℕ) → Option ℕ → Transaction → ℕ → TxOut → Option Made
 coin_of weigh height t index output = option_map (λ weight. record {

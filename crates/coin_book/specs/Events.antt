@@ -14,7 +14,7 @@ abbrev pub with_event : History → Event → History
 with_event h (adds_block block) = with_block h block
 with_event h (adds_pending t) = with_pending h t
 
--- the history behind these calls
+-- the history after these calls
 unfoldable pub after : History → List Event → History
 after h [] = h
 after h (e ∷ events) = after (with_event h e) events
@@ -34,8 +34,8 @@ blocks_in events = flat_map block_of events
 abbrev pub pending_in : List Event → List Transaction
 pending_in events = flat_map pending_of events
 
--- What a history comes to is told by the wallet, its blocks and its pending transactions: how the calls that added
--- blocks stood among those that added pending transactions makes no difference.
+-- What a history comes to is determined by the wallet, its blocks and its pending transactions: how the calls that
+-- added blocks stood among those that added pending transactions makes no difference.
 abbrev pub ComesTo : PlainWallet → List Event → Type 0
 ComesTo w events = after (start_of w) events ≡ record {
   scripts = w.scripts;

@@ -9,7 +9,7 @@ use Rattle.coin_book.specs.History.{History}
 use Rattle.coin_book.specs.declared.fault.BookFault.{BookFault}
 use Rattle.coin_book.specs.declared.fault.BookFault.TheVariants.{RepeatCoin, Full, Memory}
 
--- What is wrong with the first of these outpoints that is wrong, where they stand in order behind others: it stands
+-- What is wrong with the first of these outpoints that is wrong, where they stand in order after others: it stands
 -- among those before it already, or else it is number 100,001.
 unfoldable pub fault_behind : List OutPoint → List OutPoint → Option BookFault
 fault_behind before [] = None

@@ -39,7 +39,7 @@ pub record HoldsCoins (made : List Made) (entries : List (OutPoint × Held)) : T
   pub made_is : map made_at entries ≡ made
   pub keys_are : keys_of entries ≡ points made
 
--- What a ledger holds of the confirmed transactions that stand behind others.
+-- What a ledger holds of the confirmed transactions that stand after others.
 pub record HoldsChain (weigh : List ℕ → Option ℕ) (before behind : List Confirmed) (l : Ledger) : Type 0 where
   pub coins : HoldsCoins (flat_map (made_by weigh) behind) l.coins.entries
   pub spends : (o : OutPoint) → spends_of (before ++ behind) o ≡ spends_of before o ++ spends_in l.spends.entries o
@@ -66,7 +66,7 @@ history_of w blocks waiting = record {
   pending = map (λ (s : Snapshot Transaction). s.value) waiting;
 }
 
--- the history has no fault, and what the book holds is told by it
+-- the history has no fault, and what the book holds is determined by it
 pub record IsKept (h : History) (weights : List (Vec ℕ Global × ℕ)) (ledger : Ledger) (pending : List (OutPoint × Held)) (txids : List (List ℕ)) (count : ℕ) : Type 0 where
   pub weights_are : weigher weights ≡ weight_for h.scripts
   pub chain : HoldsChain (weight_for h.scripts) [] h.confirmed ledger

@@ -6,8 +6,8 @@ use Rattle.tx_codec.specs.declared.tx.TxOut.{TxOut}
 use Rattle.coin_book.specs.Coinbase.{is_coinbase_of}
 use Rattle.coin_book.specs.Coins.{Made}
 
--- The transaction has an output at the coin's index, at most 4,294,967,295, that pays a listed script, and the coin tells
--- its value, its script, the weight for it, and the transaction's txid, height and whether it is a coinbase.
+-- The transaction has an output at the coin's index, at most 4,294,967,295, that pays a listed script, and the coin
+-- tells its value, its script, the weight for it, and the transaction's txid, height and whether it is a coinbase.
 pub record IsCoinOf (weigh : List ℕ → Option ℕ) (height : Option ℕ) (t : Transaction) (m : Made) : Type 0 where
   pub output : TxOut
   pub stands : slice_get t.outputs m.coin.coin.index ≡ Some output

@@ -35,8 +35,8 @@ spends_below chain o (suc n) = spends_below chain o n ++ option_to_list (spend_a
 abbrev pub spends_of : List Confirmed → OutPoint → List Spend
 spends_of chain o = spends_below chain o (length chain)
 
--- The chain holds a transaction at the place of s that has its txid and height and spends the outpoint by some input, and
--- none of its txid stands before it.
+-- The chain holds a transaction at the place of s that has its txid and height and spends the outpoint by some input,
+-- and none of its txid stands before it.
 pub record IsSpendOf (chain : List Confirmed) (o : OutPoint) (s : Spend) : Type 0 where
   pub by : Confirmed
   pub stands : slice_get chain s.place ≡ Some by

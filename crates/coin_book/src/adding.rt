@@ -47,9 +47,9 @@ impl Ledger {
         Ok(())
     }
 
-    /// Adds the transaction that stands behind these and those of `base`, with its txid, height and place. RepeatCoin or Full
-    /// comes exactly where an outpoint would be a coin twice or a coin be number 100,001, by the first coin of which this
-    /// is so.
+    /// Adds the transaction that stands after these and those of `base`, with its txid, height and place. RepeatCoin or
+    /// Full comes exactly where an outpoint would be a coin twice or a coin be number 100,001, by the first coin of
+    /// which this is so.
     pub fn add(
         &mut self,
         alloc: Global,
@@ -74,9 +74,9 @@ impl Ledger {
     }
 }
 
-/// A ledger of transactions of these txids at one height, which stand behind those of `base`, the first at this place. RepeatCoin or
-/// Full comes exactly where an outpoint would be a coin twice or a coin be number 100,001, by the first coin of which
-/// this is so.
+/// A ledger of transactions of these txids at one height, which stand after those of `base`, the first at this place.
+/// RepeatCoin or Full comes exactly where an outpoint would be a coin twice or a coin be number 100,001, by the first
+/// coin of which this is so.
 pub fn ledger_behind(
     alloc: Global,
     base: &Ledger,

@@ -67,8 +67,8 @@ impl Model for Book {
 impl Book {
     /// The book of a wallet's earlier transactions.
     ///
-    /// [`BookFault::RepeatCoin`] and [`BookFault::Full`] come exactly where an outpoint of these is a coin twice or there
-    /// are more than 100,000 coins: the first coin that comes again, or is number 100,001, says which.
+    /// [`BookFault::RepeatCoin`] and [`BookFault::Full`] come exactly where an outpoint of these is a coin twice or
+    /// there are more than 100,000 coins: the first coin that comes again, or is number 100,001, says which.
     pub fn new(alloc: Global, wallet: &Wallet) -> Result<Book, BookFault>
         ensures made { IfOk result (λ book. book ≡ start_of wallet.now) }
         ensures exact { Answers result (start_of wallet.now) }
@@ -91,7 +91,7 @@ impl Book {
         })
     }
 
-    /// Adds a block, which stands behind all that were added before. Coins of pending transactions that it holds move
+    /// Adds a block, which stands after all that were added before. Coins of pending transactions that it holds move
     /// to their places in it.
     ///
     /// [`BookFault::RepeatCoin`] and [`BookFault::Full`] come exactly where with this block an outpoint would be a
@@ -133,7 +133,7 @@ impl Book {
         Ok(())
     }
 
-    /// Adds a transaction that waits for a block, behind all that were added before. Its coins stand last, unless a
+    /// Adds a transaction that waits for a block, after all that were added before. Its coins stand last, unless a
     /// transaction of its txid is confirmed: then it has none.
     ///
     /// [`BookFault::Full`] comes exactly where there would be more than 100,000 coins. After a fault the book is as

@@ -9,8 +9,8 @@ use std::alloc::{AllocError, AllocFailed};
 /// Why a call left the book as it was.
 #[derive(Clone, Copy, Debug, PartialEq, Eq)]
 pub enum BookFault {
-    /// This outpoint would be a confirmed coin for a second time. It is the first such outpoint in chain order, and fewer
-    /// than 100,001 coins stand before it.
+    /// This outpoint would be a confirmed coin for a second time. It is the first such outpoint in chain order, and
+    /// fewer than 100,001 coins stand before it.
     RepeatCoin(OutPoint),
     /// A coin would be number 100,001, and no coin up to it comes for a second time.
     Full,

@@ -75,7 +75,7 @@ fn point_of(held: &Held) -> OutPoint
     held.coin.coin
 }
 
-/// Adds a coin behind the others, which stand behind those of `base`. RepeatCoin comes exactly where its outpoint
+/// Adds a coin after the others, which stand after those of `base`. RepeatCoin comes exactly where its outpoint
 /// stands there, and Full where it doesn't and the coin would be number 100,001.
 fn add_coin(
     coins: &mut IndexMap<OutPoint, Held>,
@@ -97,7 +97,7 @@ fn add_coin(
     Ok(())
 }
 
-/// Adds coins behind the others, which stand behind those of `base`. RepeatCoin or Full comes exactly where an outpoint
+/// Adds coins after the others, which stand after those of `base`. RepeatCoin or Full comes exactly where an outpoint
 /// would stand twice or a coin be number 100,001, by the first coin of which this is so.
 pub fn add_coins(
     coins: &mut IndexMap<OutPoint, Held>,

@@ -14,7 +14,7 @@ use crate::ledger::{Ledger, SpendLists};
 use fund_base::{Memory, OutPoint};
 use std::alloc::Global;
 
-/// Puts spends of an outpoint behind those that it has.
+/// Puts spends of an outpoint after those that it has.
 fn append_list(
     alloc: Global,
     spends: &mut SpendLists,
@@ -61,7 +61,7 @@ fn cut_lists(spends: &mut SpendLists, more: &SpendLists, count: usize)
     }
 }
 
-/// Puts the spends of each outpoint behind those that it has.
+/// Puts the spends of each outpoint after those that it has.
 fn append_lists(alloc: Global, spends: &mut SpendLists, more: &SpendLists) -> Result<(), Memory>
     ensures grown { (o : OutPoint) → OnOk result (spends_in spends.new.entries o ≡ spends_in spends.old.entries o ++ all_in more.now.entries o) }
     ensures kept { (o : OutPoint) → OnErr result (spends_in spends.new.entries o ≡ spends_in spends.old.entries o) }
@@ -78,7 +78,7 @@ fn append_lists(alloc: Global, spends: &mut SpendLists, more: &SpendLists) -> Re
     Ok(())
 }
 
-/// Puts the spends of one entry behind those that its outpoint has.
+/// Puts the spends of one entry after those that its outpoint has.
 fn append_entry(
     alloc: Global,
     spends: &mut SpendLists,
@@ -96,7 +96,7 @@ fn append_entry(
 }
 
 impl Ledger {
-    /// Puts what the other ledger holds behind what this one does. Want of memory leaves this one as it was.
+    /// Puts what the other ledger holds after what this one does. When out of memory, this one stays as it was.
     pub fn append(&mut self, alloc: Global, mut more: Ledger) -> Result<(), Memory>
         ensures coins { OnOk result (self.new.coins.entries ≡ insert_all same_outpoint self.old.coins.entries more.coins.entries) }
         ensures heights { OnOk result (self.new.heights.entries ≡ insert_all bytes_eq self.old.heights.entries more.heights.entries) }

@@ -25,7 +25,7 @@ fn count_left(pending: &IndexMap<OutPoint, Held>, heights: &IndexMap<Txid, u32>)
         .count()
 }
 
-/// How many coins still wait behind a block whose transactions have these heights. They are all looked at only where one
+/// How many coins still wait after a block whose transactions have these heights. They are all looked at only where one
 /// of the txids has a height.
 pub fn left_of(
     txids: &IndexSet<Txid>,

@@ -36,7 +36,7 @@ impl Model for Grinder {
 
 impl Grinder {
     /// A new search, for a problem of the kind [`pick_problem::Kind::Lean`]. It stands at the start of its walk, and
-    /// has no room for tries yet. The error is want of memory.
+    /// has no room for tries yet. The error is out of memory.
     pub fn new(alloc: Global, problem: &Problem) -> Result<Grinder, Memory>
         requires { problem.now.kind ≡ Lean }
         ensures begins { IfOk result (λ g. g ≡ begun problem.now) }
@@ -47,12 +47,12 @@ impl Grinder {
         })
     }
 
-    /// A search that goes on from a position, behind letters that were written before, which may be any bytes. It has
+    /// A search that goes on from a position, after letters that were written before, which may be any bytes. It has
     /// no room for tries yet. `IllFormed` comes exactly where one of these holds: the chosen places aren't rising, or
     /// one isn't below the next place; in an open position the next place isn't below the number of items; in an open
     /// position the chosen value isn't below `lo`, or the chosen weight is above the limit; a done position has a
     /// chosen place, or a next place other than the number of items; there is a best and it isn't admissible; the
-    /// position's tries aren't the number of I in the letters. `Memory` comes for want of memory alone.
+    /// position's tries aren't the number of I in the letters. `Memory` comes only when out of memory.
     pub fn restore(
         alloc: Global,
         problem: &Problem,
@@ -73,7 +73,7 @@ impl Grinder {
     }
 
     /// Makes room for at least so many tries. Whatever it answers, the walk and its letters stay as they are. The
-    /// error is want of memory; no buffer holds the letters of more than 3,074,457,345,618,258,602 tries.
+    /// error is out of memory; no buffer holds the letters of more than 3,074,457,345,618,258,602 tries.
     pub fn reserve(&mut self, tries: u64) -> Result<(), Memory>
         ensures walk { self.new ≡ record self.old { spare = self.new.spare } }
         ensures ok { OnOk result (tries ≤ self.new.spare) }
@@ -104,7 +104,7 @@ impl Grinder {
         self.search.advance(tries)
     }
 
-    /// Where the search stands, with the tries from before it was restored. The error is want of memory.
+    /// Where the search stands, with the tries from before it was restored. The error is out of memory.
     pub fn position(&self, alloc: Global) -> Result<Position, Memory>
         ensures { IfOk result (λ q. q ≡ standing self.now) }
     {

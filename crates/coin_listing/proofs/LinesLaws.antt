@@ -1,4 +1,4 @@
--- Lines put behind lines.
+-- Lines put after lines.
 use Rattle.std.proofs.Common.{◌≡◌, ◌∙◌, ◌+◌, ◌<◌, ℕ, List, [], ◌∷◌, ◌++◌, length, get_or, map, take, refl, sym, ap, append_assoc}
 use Rattle.std.proofs.lemmas.List.{map-append, take_more}
 use Rattle.fault_text.specs.Lines.{lines_text}
@@ -18,7 +18,7 @@ lines_more {X} line xs i x old text lt is so_far =
     ∙ ap (λ (l : List (List ℕ)). old ++ lines_text l) (sym (map-append line (take i xs) (x ∷ [])))
     ∙ ap (λ (l : List X). old ++ lines_text (map line l)) (sym (take_more xs i x lt ∙ ap (λ (d : X). take i xs ++ d ∷ []) (sym is)))
 
--- a line, and lines behind it put one after another
+-- a line, and lines after it put one after another
 pub lines_from : (line : List ℕ) (xs ys : List (List ℕ)) → ((line ++ 10 ∷ []) ++ lines_text xs) ++ lines_text ys ≡ lines_text (line ∷ (xs ++ ys))
 lines_from line xs ys =
     ap (λ (l : List ℕ). l ++ lines_text ys) (append_assoc line (10 ∷ []) (lines_text xs))

@@ -9,7 +9,7 @@ use fund_base::{Candidate, Memory};
 use payment_states::Payment;
 use std::alloc::Global;
 
-/// Puts the lines of the payments behind the text.
+/// Puts the lines of the payments after the text.
 fn put_payments(alloc: Global, text: &mut String, payments: &[Payment]) -> Result<(), Memory>
     ensures { OnOk result (string_bytes text.new ≡ string_bytes text.old ++ lines_text (map payment_line payments.now)) }
 {
@@ -20,7 +20,7 @@ fn put_payments(alloc: Global, text: &mut String, payments: &[Payment]) -> Resul
     Ok(())
 }
 
-/// Puts the lines of the coins behind the text.
+/// Puts the lines of the coins after the text.
 fn put_coins(alloc: Global, text: &mut String, candidates: &[Candidate]) -> Result<(), Memory>
     ensures { OnOk result (string_bytes text.new ≡ string_bytes text.old ++ lines_text (map coin_line candidates.now)) }
 {
@@ -35,7 +35,7 @@ fn put_coins(alloc: Global, text: &mut String, candidates: &[Candidate]) -> Resu
 /// payment in order, with its txid and its state; a line `coin` for each candidate in order, with its txid and
 /// index, its value in satoshi, its depth in blocks, `mine` or `foreign`, `safe` or `unsafe`, and its counts of
 /// ancestors and of descendants. Hashes are in hex with their bytes reversed, and one line feed ends each line.
-/// It refuses for want of memory alone.
+/// It refuses only when out of memory.
 #[tactic(auto, unfolding(crate::specs::Listing::listing_of))]
 pub fn listing(
     alloc: Global,

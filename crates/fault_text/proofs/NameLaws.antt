@@ -92,7 +92,7 @@ escaped_apart a b s t a_lt b_lt a_other b_other e =
     let same_low : a % 16 ≡ b % 16 = digit_injective (a % 16) (b % 16) (omega arith) (omega arith) low in
     (omega arith, cc)
 
--- what is shown of a byte shows which it is, whatever stands behind
+-- what is shown of a byte shows which it is, whatever stands after
 byte_apart : (a b : ℕ) (s t : List ℕ) → a < 256 → b < 256 → shown_byte a ++ s ≡ shown_byte b ++ t → (a ≡ b) × (s ≡ t)
 byte_apart a b s t a_lt b_lt e =
     elim (cases_Bool (stands_plain a)) [

@@ -7,7 +7,7 @@ use fund_base::Memory;
 use segwit_addr::AddrFault;
 use std::alloc::Global;
 
-/// A fault of an address by its variant's name. It refuses for want of memory alone.
+/// A fault of an address by its variant's name. It refuses only when out of memory.
 pub fn address_fault_words(alloc: Global, fault: &AddrFault) -> Result<String, Memory>
     ensures { IfOk result (λ text. string_bytes text ≡ address_fault_words fault.now) }
 {

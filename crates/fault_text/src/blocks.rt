@@ -20,7 +20,7 @@ fn not_linked_words(alloc: Global, kept: &[u8; 32], found: &[u8; 32]) -> Result<
 }
 
 /// A fault of a block file by its variant's name, and its fields: a place in bytes or a height in decimal, a
-/// transaction's fault by its words, hashes as they are shown. It refuses for want of memory alone.
+/// transaction's fault by its words, hashes as they are shown. It refuses only when out of memory.
 #[tactic(auto, unfolding(crate::specs::Words::feed_fault_words))]
 pub fn feed_fault_words(alloc: Global, fault: &FeedFault) -> Result<String, Memory>
     ensures { IfOk result (λ text. string_bytes text ≡ feed_fault_words fault.now) }

@@ -7,7 +7,7 @@ ghost use Rattle.fund_base.specs.declared.outpoint.OutPoint.{OutPoint};
 ghost use Rattle.fault_text.specs.Coin.{IsShown, coin_text, shown_hash};
 ghost use Rattle.fault_text.specs.Name.{shown_name, stands_plain};
 
-/// The laws of shown names: each byte of one is printable ASCII without the blank, so that a name doesn't end its
+/// The law of shown names: each byte of one is printable ASCII without the blank, so that a name doesn't end its
 /// line and is never two words, whatever a file writes there; two names that differ are shown differently; and a
 /// name without any byte that would have to be written by its digits is shown as it is.
 pub fn names_are_told_apart()
@@ -16,7 +16,7 @@ pub fn names_are_told_apart()
     ensures plain { (name : List ℕ) → All (λ byte. IsTrue (stands_plain byte)) name → shown_name name ≡ name }
 {}
 
-/// The laws of shown hashes and coins: two that differ are shown differently.
+/// The law of shown hashes and coins: two that differ are shown differently.
 pub fn coins_are_told_apart()
     ensures hash { (a b : List ℕ) → IsBytes a → IsBytes b → shown_hash a ≡ shown_hash b → a ≡ b }
     ensures coin { (a b : OutPoint) → IsShown a → IsShown b → coin_text a ≡ coin_text b → a ≡ b }

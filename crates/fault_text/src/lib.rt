@@ -1,5 +1,5 @@
-//! The words in which faults, coins and names are told, in fault lines and in listings: pure functions from
-//! a value to its text. A fault is told by its variant's name and its fields, each after one blank, and a
+//! The words in which faults, coins and names are written, in fault lines and in listings: pure functions from
+//! a value to its text. A fault is written as its variant's name and its fields, each after one blank, and a
 //! fault within a fault likewise.
 #![tactic(auto)]
 

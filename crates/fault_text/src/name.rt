@@ -8,7 +8,7 @@ use std::alloc::Global;
 
 /// A name that a file gives, so that it is never two words or two lines: each of its bytes that is printable
 /// ASCII without the blank, 33 to 126, stands as it is, but for the backslash; any other, and the
-/// backslash, is written as `\x` and two lower-case hex digits. It refuses for want of memory alone.
+/// backslash, is written as `\x` and two lower-case hex digits. It refuses only when out of memory.
 #[tactic(auto, unfolding(crate::specs::Name::shown_name))]
 pub fn shown_name(alloc: Global, name: &str) -> Result<String, Memory>
     ensures { IfOk result (λ text. string_bytes text ≡ shown_name name.now) }
@@ -20,7 +20,7 @@ pub fn shown_name(alloc: Global, name: &str) -> Result<String, Memory>
     Ok(text)
 }
 
-/// Puts one byte of a name behind the text.
+/// Puts one byte of a name after the text.
 fn push_shown(alloc: Global, text: &mut String, byte: u8) -> Result<(), Memory>
     ensures { OnOk result (string_bytes text.new ≡ string_bytes text.old ++ shown_byte byte) }
 {

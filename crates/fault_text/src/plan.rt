@@ -8,8 +8,8 @@ use fund_base::Memory;
 use fund_steps::PlanFault;
 use std::alloc::Global;
 
-/// A fault of a plan as its fault line says it behind the word `fault`: `input plan`, the variant's name and its field, a sum
-/// in decimal satoshi or a coin; of too many groups `limit groups`. It refuses for want of memory alone.
+/// A fault of a plan as its fault line says it after the word `fault`: `input plan`, the variant's name and its field,
+/// a sum in decimal satoshi or a coin; of too many groups `limit groups`. It refuses only when out of memory.
 #[tactic(auto, unfolding(crate::specs::Words::plan_fault_words))]
 pub fn plan_fault_words(alloc: Global, fault: &PlanFault) -> Result<String, Memory>
     ensures { IfOk result (λ text. string_bytes text ≡ plan_fault_words fault.now) }

@@ -10,7 +10,7 @@ use request_text::RequestFault;
 use std::alloc::Global;
 
 /// A fault of a request file by its variant's name, and its fields: names as they are shown, an index in
-/// decimal, an address's fault by its name. It refuses for want of memory alone.
+/// decimal, an address's fault by its name. It refuses only when out of memory.
 #[tactic(auto, unfolding(crate::specs::Words::request_fault_words))]
 pub fn request_fault_words(alloc: Global, fault: &RequestFault) -> Result<String, Memory>
     ensures { IfOk result (λ text. string_bytes text ≡ request_fault_words fault.now) }

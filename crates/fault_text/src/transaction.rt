@@ -8,7 +8,7 @@ use std::alloc::Global;
 use tx_codec::TxFault;
 
 /// A fault of a transaction by its variant's name, and its field: a place in bytes, or an output's index,
-/// in decimal. It refuses for want of memory alone.
+/// in decimal. It refuses only when out of memory.
 #[tactic(auto, unfolding(crate::specs::Words::tx_fault_words))]
 pub fn tx_fault_words(alloc: Global, fault: &TxFault) -> Result<String, Memory>
     ensures { IfOk result (λ text. string_bytes text ≡ tx_fault_words fault.now) }

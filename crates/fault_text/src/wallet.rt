@@ -10,7 +10,7 @@ use std::alloc::Global;
 use wallet_text::WalletFault;
 
 /// A fault of a wallet file by its variant's name, and its fields: names as they are shown, an index in
-/// decimal, a transaction's fault by its words. It refuses for want of memory alone.
+/// decimal, a transaction's fault by its words. It refuses only when out of memory.
 #[tactic(auto, unfolding(crate::specs::Words::wallet_fault_words))]
 pub fn wallet_fault_words(alloc: Global, fault: &WalletFault) -> Result<String, Memory>
     ensures { IfOk result (λ text. string_bytes text ≡ wallet_fault_words fault.now) }

@@ -20,7 +20,8 @@ is_program_of script =
     && ((slice_index script 0 == 0) || (nat_le 81 (slice_index script 0) && nat_le (slice_index script 0) 96))
     && (slice_index script 1 + 2 == length script)
 
--- a script that nothing can spend: it begins with OP_RETURN, or is longer than 10,000 bytes (Bitcoin Core, `IsUnspendable`)
+-- a script that nothing can spend: it begins with OP_RETURN, or is longer than 10,000 bytes (Bitcoin Core,
+-- `IsUnspendable`)
 abbrev pub is_unspendable_of : List ℕ → Bool
 is_unspendable_of script =
     (nat_lt 0 (length script) && (slice_index script 0 == 106)) || nat_lt 10000 (length script)

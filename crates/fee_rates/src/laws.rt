@@ -9,22 +9,22 @@ ghost use Rattle.fee_rates.specs.Terms.{TermsAgree, terms_of};
 ghost use Rattle.fee_rates.specs.declared.terms.Load.{Load};
 ghost use Rattle.fee_rates.specs.declared.terms.Rates.{Rates};
 
-/// A higher rate, a larger size and a greater weight have no lower fee.
+/// The law of higher rates: a higher rate, a larger size and a greater weight have no lower fee.
 #[tactic(auto, using(crate::proofs::FeeLaws::fee_below, crate::proofs::FeeLaws::vsize_below))]
 pub fn fee_rises()
     ensures fee { (r s a b : ℕ) → r ≤ s → a ≤ b → fee_of r a ≤ fee_of s b }
     ensures vsize { (a b : ℕ) → a ≤ b → vsize_of a ≤ vsize_of b }
 {}
 
-/// A whole has no higher fee than its two parts have together, and no larger virtual size.
+/// The law of parts: a whole has no higher fee than its two parts have together, and no larger virtual size.
 #[tactic(auto, using(crate::proofs::FeeLaws::fee_parts, crate::proofs::FeeLaws::vsize_parts))]
 pub fn fee_splits()
     ensures fee { (r a b : ℕ) → fee_of r (a + b) ≤ fee_of r a + fee_of r b }
     ensures vsize { (a b : ℕ) → vsize_of (a + b) ≤ vsize_of a + vsize_of b }
 {}
 
-/// A payment whose parts each pay their own fee pays that of its whole weight: without change the parts are the base
-/// and the inputs, and with change also the change output, four weight units a byte.
+/// The law of a payment's parts: a payment whose parts each pay their own fee pays that of its whole weight. Without
+/// change the parts are the base and the inputs, and with change also the change output, four weight units a byte.
 #[tactic(auto, using(crate::proofs::FeeLaws::payment_parts, crate::proofs::FeeLaws::change_parts))]
 pub fn fee_of_parts()
     ensures plain { (r base : ℕ) (weights : List ℕ) →
@@ -33,14 +33,14 @@ pub fn fee_of_parts()
         input_fee_of r (base + sum weights + 4 * size) ≤ input_fee_of r base + sum_by (input_fee_of r) weights + fee_of r size }
 {}
 
-/// The size of an output is the length of its text, whatever its value.
+/// The law of output sizes: the size of an output is the length of its text, whatever its value.
 #[tactic(auto, using(crate::proofs::CompactLaws::output_text_length))]
 pub fn output_text_size()
     ensures { (value : ℕ) (script : List ℕ) → length (to_le_bytes w64 value ++ prefixed script) ≡ output_size_of script }
 {}
 
-/// How terms stand to one another: the payments without change and those with one meet with no gap between them,
-/// the change that is aimed at is no less than the least one, and a payment without presets chooses a coin.
+/// The law of terms: the payments without change and those with one meet with no gap between them, the change that is
+/// aimed at is no less than the least one, and a payment without presets chooses a coin.
 pub fn terms_meet()
     ensures { (r : Rates) (l : Load) → TermsAgree r l (terms_of r l) }
 {}

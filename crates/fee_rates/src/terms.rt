@@ -121,6 +121,7 @@ impl Terms {
         requires rates { AreRates rates.now }
         requires load { IsLoad load.now }
 
+        // Each figure is as defined.
         ensures base { result.base ≡ base_of load.now }
         ensures target { result.target ≡ target_of rates.now load.now }
         ensures hi { result.hi ≡ hi_of rates.now load.now }
@@ -131,6 +132,7 @@ impl Terms {
         ensures change_least { result.change_least ≡ change_least_of rates.now load.now }
         ensures plain_limit { result.plain_limit ≡ plain_limit_of load.now }
         ensures change_limit { result.change_limit ≡ change_limit_of load.now }
+        // So are all together, and they stand to one another as fees do.
         ensures all { result ≡ terms_of rates.now load.now }
         ensures agree { TermsAgree rates.now load.now result }
 

@@ -23,7 +23,7 @@ no_colon b digit = elim (cases_Bool (is_colon b)) [
   | inr e ↦ e
 ]
 
--- the first colon stands behind hex digits
+-- the first colon stands after hex digits
 colon_at : (front rest : List ℕ) → AllPass is_hex_digit front → position_or_len is_colon (front ++ 58 ∷ rest) ≡ length front
 colon_at [] rest pass = refl
 colon_at (b ∷ front) rest pass =

@@ -1,4 +1,4 @@
--- Which lists of entries are read, and which fault is told of one that isn't.
+-- Which lists of entries are read, and which fault is reported of one that isn't.
 use Rattle.std.proofs.Common.{◌≡◌, ◌<◌, ℕ, zero, suc, List, [], ◌∷◌, ◌++◌, length, get_or, take, Result, Ok, Err, refl, sym, ap, subst, ◌∙◌, arith}
 use Rattle.std.proofs.lemmas.List.{append_assoc, append-nil}
 use Rattle.fund_base.specs.Parsing.{◌>>=◌}
@@ -7,7 +7,7 @@ use Rattle.serde_json.specs.View.{items_of}
 use Rattle.json_fields.specs.Fields.{each_from}
 use Rattle.json_fields.specs.Rules.{AreRead, IsFirstRefused}
 
--- read so behind a front
+-- read so after a front
 abbrev AreBehind : {A E : Type 0} → (List A → Data → Result A E) → List A → List Data → List A → Type 0
 AreBehind {A} reading front ds xs = (k : ℕ) (d : Data) (x : A) → k < length xs → reading (front ++ take k xs) (get_or ds k d) ≡ Ok (get_or xs k x)
 
@@ -23,7 +23,7 @@ less reading front d ds x xs all k e y lt = rw (append_assoc front (x ∷ []) (t
 head : {A E : Type 0} (reading : List A → Data → Result A E) (front : List A) (d : Data) (ds : List Data) (x : A) (xs : List A) → AreBehind reading front (d ∷ ds) (x ∷ xs) → reading front d ≡ Ok x
 head {A} {E} reading front d ds x xs all = let here : reading (front ++ []) d ≡ Ok x = all zero d x (omega arith) in rw (append-nil front) at here
 
--- what is read behind a front
+-- what is read after a front
 record Reads {A E : Type 0} (reading : List A → Data → Result A E) (front : List A) (ds : List Data) (out : List A) : Type 0 where
   xs : List A
   parts : out ≡ front ++ xs
@@ -58,7 +58,7 @@ read_so reading (d ∷ ds) front (x ∷ xs) len all =
 pub only : {A E : Type 0} (reading : List A → Data → Result A E) (ds : List Data) (xs : List A) → length xs ≡ length ds → AreRead reading ds xs → each_from reading [] (items_of ds) ≡ Ok xs
 only reading ds xs len all = read_so reading ds [] xs len all
 
--- the first that is refused behind a front
+-- the first that is refused after a front
 record Refuses {A E : Type 0} (reading : List A → Data → Result A E) (front : List A) (ds : List Data) (fault : E) : Type 0 where
   xs : List A
   within : length xs < length ds

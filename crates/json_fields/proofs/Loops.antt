@@ -1,4 +1,4 @@
--- Reading the entries of a list one behind the other, as a loop does.
+-- Reading the entries of a list one after the other, as a loop does.
 use Rattle.std.proofs.Common.{◌≡◌, ◌≢◌, ℕ, suc, ◌+◌, ◌<◌, ◌≤◌, List, [], ◌∷◌, ◌++◌, length, get_or, drop, Result, Ok, Err, refl, sym, ap, subst, ◌∙◌, add-one, drop-cons}
 use Rattle.std.proofs.Math.ListN.{drop_of_length-le}
 use Rattle.std.proofs.lemmas.List.Elements.{All-nil, All-push}
@@ -43,7 +43,7 @@ is_done reading front values i total le so_far =
     let one : each_from reading front (rest_of values i) ≡ Ok front = rw e refl in
     sym so_far ∙ one
 
--- What is kept by each entry behind those before it is true of the list.
+-- What is kept by each entry after those before it is true of the list.
 pub each_keeps : {A E : Type 0} (Kept : List A → Type 0) (reading : List A → Data → Result A E) → ((front : List A) (d : Data) (x : A) → Kept front → reading front d ≡ Ok x → Kept (front ++ x ∷ []))
     → (entries : Items) (front out : List A) → Kept front → each_from reading front entries ≡ Ok out → Kept out
 unfolding each_from

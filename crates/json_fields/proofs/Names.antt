@@ -31,7 +31,7 @@ first_missing_texts (n ∷ ns) d = by (is_none (get n.now d)) (first_missing_tex
 pub found_missing : (names : List (Bor (List ℕ))) (d : Data) (found : Option (Bor (List ℕ))) → found ≡ find (λ (n : Bor (List ℕ)). is_none (get n.now d)) names → option_map (λ (n : Bor (List ℕ)). n.now) found ≡ first_missing (texts names) d
 found_missing names d found e = ap (option_map (λ (n : Bor (List ℕ)). n.now)) e ∙ first_missing_texts names d
 
--- names behind a lesser one leave it the least
+-- names after a lesser one leave it the least
 stays_least : (p : List ℕ → Bool) (name : List ℕ) (names : List (List ℕ)) → AllByRecursion (λ other. slice_cmp nat_cmp name other ≡ Less) names → fold lesser name (filter p names) ≡ name
 stays_least p name [] h = refl
 stays_least p name (n ∷ ns) h = by (p n) (stays_least p name ns h.1)

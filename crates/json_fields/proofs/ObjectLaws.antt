@@ -1,4 +1,4 @@
--- What an object is told of.
+-- What an object is reported of.
 use Rattle.std.proofs.Common.{◌≡◌, ◌≢◌, ℕ, zero, suc, ◌<◌, Bool, true, false, cond, List, [], ◌∷◌, ◌++◌, length, get_or, find, not, Option, Some, None, Result, Ok, Err, is_none, is_some, Contains, refl, sym, ap, subst, ◌∙◌, true≢false, arith}
 use Rattle.std.specs.Bool.{⊤}
 use Rattle.fund_base.proofs.Lists.{in_tail}

@@ -1,4 +1,4 @@
--- The first fault of members that are read one behind the other is the first in the table of their own faults.
+-- The first fault of members that are read one after the other is the first in the table of their own faults.
 use Rattle.std.proofs.Common.{◌≡◌, ℕ, true, List, ◌∷◌, Option, Some, None, Result, Ok, Err, Contains, is_some, refl, ap, ◌∙◌}
 use Rattle.std.specs.Option.{ok_or}
 use Rattle.std.specs.Result.{result_err, result_unwrap_or}
@@ -12,7 +12,7 @@ use Rattle.json_fields.specs.declared.fault.FieldFault.TheVariants.{Missing}
 use Rattle.json_fields.proofs.Members.{is_among-Contains, is_some-get_member}
 use Rattle.json_fields.proofs.ObjectLaws.{taken}
 
--- one part, and the parts behind it
+-- one part, and the parts after it
 pub part : {A B E : Type 0} (first : Result A E) (then : A → Result B E) (rest : List (Option E)) → ((x : A) → first ≡ Ok x → result_err (then x) ≡ first_some rest) → result_err (first >>= then) ≡ first_some (result_err first ∷ rest)
 part (Ok x) then rest h = h x refl
 part (Err fault) then rest h = refl
@@ -51,7 +51,7 @@ there whole known required name d reads stands =
 
 -- ---- what is read
 
--- behind a member that may be left out
+-- after a member that may be left out
 pub behind_left_out : {A B E : Type 0} (default : A) (reading : Data → Result A E) (then : A → Result B E) (o : Option Data) (out : B) → (optional default reading o >>= then) ≡ Ok out → then (said default reading o) ≡ Ok out
 behind_left_out default reading then None out e = e
 behind_left_out {A} {B} {E} default reading then (Some m) out e = by (reading m) e
@@ -60,7 +60,7 @@ behind_left_out {A} {B} {E} default reading then (Some m) out e = by (reading m)
     by (Ok x) reads = reads
     by (Err fault) reads = absurd (cc reads)
 
--- behind one that has to be there, whatever the default
+-- after one that has to be there, whatever the default
 pub behind_required : {A B E : Type 0} (tell : FieldFault → E) (default : A) (name : List ℕ) (reading : Data → Result A E) (then : A → Result B E) (d : Data) (out : B) → (fault_as tell (member_at name d) >>= λ v. reading v >>= then) ≡ Ok out
     → then (said default reading (get name d)) ≡ Ok out
 unfolding member_at

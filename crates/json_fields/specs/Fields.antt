@@ -1,4 +1,4 @@
--- Looking into JSON: each value is what it should be, or the first fault is told.
+-- Looking into JSON: each value is what it should be, or the first fault is reported.
 use Rattle.std.specs.Prelude.{ℕ, ◌≡◌, ◌<◌, ◌^◌, ◌==◌, Bool, List, [], ◌∷◌, ◌++◌, length, reverse, map, filter, find, fold, not, bytes_eq, nat_lt, nat_le, if◌then◌else◌, Option, Some, None, Result, Ok, Err, is_none, option_and_then, ⊤}
 use Rattle.std.specs.Borrow.{Bor}
 use Rattle.std.specs.Cmp.Lexicographic.{slice_cmp}
@@ -131,7 +131,7 @@ coin_at name d = do
   text ← text_at name d
   ok_or (coin_in text) (Kind name)
 
--- The entries of a list in order, each read behind those before it.
+-- The entries of a list in order, each read after those before it.
 unfoldable pub each_from : {A E : Type 0} → (List A → Data → Result A E) → List A → Items → Result (List A) E
 each_from reading front no_items = Ok front
 each_from reading front (item d ds) = do

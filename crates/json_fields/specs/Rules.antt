@@ -1,4 +1,4 @@
--- What an object is told of, without the order in which it is found out.
+-- What an object is reported of, without the order in which it is found out.
 use Rattle.std.specs.Prelude.{ℕ, ◌≡◌, ◌≢◌, ◌<◌, ◌+◌, ◌*◌, ◌^◌, ◌⊎◌, List, [], ◌∷◌, ◌++◌, length, get_or, slice_index, take, codes, Option, Some, None, Result, Ok, Err, Contains, if◌then◌else◌, option_and_then, bytes_eq}
 use Rattle.std.specs.Cmp.Lexicographic.{slice_cmp}
 use Rattle.std.specs.Fmt.{decimal}
@@ -76,11 +76,11 @@ pub record IsCoinText (text : List ℕ) (c : OutPoint) : Type 0 where
   pub index : c.index < 2 ^ 32
   pub whole : text ≡ front ++ 58 ∷ decimal c.index
 
--- each of these was read of the entry at its place, behind those before it
+-- each of these was read of the entry at its place, after those before it
 abbrev pub AreRead : {A E : Type 0} → (List A → Data → Result A E) → List Data → List A → Type 0
 AreRead {A} reading ds xs = (k : ℕ) (d : Data) (x : A) → k < length xs → reading (take k xs) (get_or ds k d) ≡ Ok (get_or xs k x)
 
--- the entry at the place behind these is refused, and these were read of the entries before it
+-- the entry at the place after these is refused, and these were read of the entries before it
 pub record IsFirstRefused {A E : Type 0} (reading : List A → Data → Result A E) (ds : List Data) (fault : E) : Type 0 where
   pub before : List A
   pub within : length before < length ds

@@ -7,7 +7,7 @@ use fund_base::Memory;
 use std::alloc::{AllocError, AllocFailed, Global};
 use std::marker::Model;
 
-/// The name of a member of an object, or the name under which a whole file is told.
+/// The name of a member of an object, or the name under which a whole file is reported.
 #[derive(Debug, Drop)]
 pub struct Name {
     text: String,

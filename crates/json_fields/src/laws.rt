@@ -14,9 +14,9 @@ ghost use Rattle.json_fields.specs.Rules.{HasMembers, AreKnown, HasAll, IsLeastU
 ghost use Rattle.json_fields.specs.declared.fault.FieldFault.{FieldFault};
 ghost use Rattle.json_fields.specs.declared.fault.FieldFault.TheVariants.{Kind, Member, Missing};
 
-/// The law of objects: one is taken exactly where its members are known and those that are required are there. Otherwise
-/// it isn't an object, or the fault is its least unknown name by bytes, or, where all are known, the first required name
-/// that it lacks.
+/// The law of objects: one is taken exactly where its members are known and those that are required are there.
+/// Otherwise it isn't an object, or the fault is its least unknown name by bytes, or, where all are known, the first
+/// required name that it lacks.
 pub fn reads_objects()
     ensures taken { (whole : List ℕ) (known required : List (List ℕ)) (d : Data) → object_at whole known required d ≡ Ok tt → HasMembers d (λ ms. AreKnown known ms × HasAll required ms) }
     ensures only { (whole : List ℕ) (known required : List (List ℕ)) (d : Data) → HasMembers d (λ ms. AreKnown known ms × HasAll required ms) → object_at whole known required d ≡ Ok tt }
@@ -60,15 +60,16 @@ pub fn reads_hashes()
     ensures found { (text hash : List ℕ) → hash_in text ≡ Some hash → (length text ≡ 64) × AllPass is_hex_digit text }
 {}
 
-/// The law of coins: a text is read as one exactly where it is the digits of its txid, a colon, and its index in decimal.
+/// The law of coins: a text is read as one exactly where it is the digits of its txid, a colon, and its index in
+/// decimal.
 pub fn reads_coins()
     ensures found { (text : List ℕ) (coin : OutPoint) → coin_in text ≡ Some coin → IsCoinText text coin }
     ensures only { (text : List ℕ) (coin : OutPoint) → IsCoinText text coin → coin_in text ≡ Some coin }
 {}
 
-/// The law of lists: entries are read as a list exactly where it has an item for each of them, and each item is what its
-/// own entry is read as, behind the items before it. A fault is told exactly where it is that of the first entry that is
-/// refused.
+/// The law of lists: entries are read as a list exactly where it has an item for each of them, and each item is what
+/// its own entry is read as, after the items before it. A fault is reported exactly where it is that of the first entry
+/// that is refused.
 pub fn reads_lists<A, E>()
     ensures found { (reading : List A → Data → Result A E) (ds : List Data) (xs : List A) → each_from reading [] (items_of ds) ≡ Ok xs → (length xs ≡ length ds) × AreRead reading ds xs }
     ensures only { (reading : List A → Data → Result A E) (ds : List Data) (xs : List A) → length xs ≡ length ds → AreRead reading ds xs → each_from reading [] (items_of ds) ≡ Ok xs }

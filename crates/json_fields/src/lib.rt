@@ -1,6 +1,6 @@
 //! Looking into the JSON files of Ninelace: objects with known members, numbers, hex, txids, coins, and lists, each
-//! read exactly or refused with the first fault. A reader that has rules of its own holds a [`FieldFault`] in one variant
-//! of its own fault, and converts by `From`.
+//! read exactly or refused with the first fault. A reader that has rules of its own holds a [`FieldFault`] in one
+//! variant of its own fault, and converts by `From`.
 #![tactic(auto)]
 
 mod fault;

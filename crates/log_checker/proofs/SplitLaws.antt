@@ -14,7 +14,7 @@ use Rattle.pick_problem.specs.Steps.{State}
 use Rattle.pick_problem.specs.Letters.{IsAcceptedText, led}
 use Rattle.pick_problem.proofs.StepLaws.{led-append, taken-append, taken_behind, taken_front}
 
--- a letter of two lists joined stands in the first, or behind it
+-- a letter of two lists joined stands in the first, or after it
 cut : (f x : List ℕ) (l : ℕ) (r ys : List ℕ) → f ++ l ∷ r ≡ x ++ ys →
     ((m : List ℕ) × (x ≡ f ++ l ∷ m)) ⊎ ((m : List ℕ) × (f ≡ x ++ m) × (ys ≡ m ++ l ∷ r))
 cut [] [] l r ys e = inr ([], refl, sym e)

@@ -115,7 +115,7 @@ last_is_chosen t q e avoids =
     let split = last_split q (t - 1) e in
     last_of (λ j. j ≢ t - 1) split.0 (t - 1) (subst (λ (r : List ℕ). All (λ j. j ≢ t - 1) r) split.1 avoids) refl
 
--- a run goes on behind its first place exactly where the next place is a twin
+-- a run goes on after its first place exactly where the next place is a twin
 pub twin_next : (p : PlainProblem) (t end : ℕ) → 0 < t → t < length p.items → end ≡ behind_twins p (t - 1 + 1) →
     (t < end) ↔ (is_twin p.kind (item_at p.items (t - 1)) (item_at p.items t) ≡ true)
 twin_next p t end some below e =

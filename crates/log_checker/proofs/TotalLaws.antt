@@ -65,7 +65,7 @@ module _ (p : PlainProblem) (a : Option (List ℕ)) (s : State) (place b : ℕ) 
   taken_or_refused : IsTaken p a s b ⊎ ((f : LogFault) × IsRefused p a s place b f)
   taken_or_refused = at_token (token_of b) s.closed refl refl
 
--- a fault behind one letter more
+-- a fault after one letter more
 behind_letter : (c : PlainChecker) (b : ℕ) (bs : List ℕ) (f : LogFault) → IsTaken c.problem c.answer c.state b →
     IsFirstFault (fed c (b ∷ [])) bs f → IsFirstFault c (b ∷ bs) f
 behind_letter c b bs f taken x = record {

@@ -38,7 +38,7 @@ Takes c letters = AreTaken c.problem c.answer c.state letters
 abbrev pub fed : PlainChecker → List ℕ → PlainChecker
 fed c letters = record { problem = c.problem; answer = c.answer; state = led c.problem c.answer c.state letters; fed = counted c.fed (length letters); fault = c.fault }
 
--- a checker that found a fault behind these letters
+-- a checker that found a fault after these letters
 abbrev pub stopped : PlainChecker → List ℕ → LogFault → PlainChecker
 stopped c front fault = record { problem = c.problem; answer = c.answer; state = led c.problem c.answer c.state front; fed = counted c.fed (length front); fault = Some fault }
 

@@ -32,7 +32,7 @@ abbrev pub PiecesEndWell : PlainChecker → List (List ℕ) → Type 0
 PiecesEndWell c [] = EndsWell c
 PiecesEndWell c (piece ∷ pieces) = Takes c piece × PiecesEndWell (fed c piece) pieces
 
--- the first fault of pieces: of one that stands behind pieces that are taken, or of the end
+-- the first fault of pieces: of one that stands after pieces that are taken, or of the end
 abbrev pub PiecesHave : PlainChecker → List (List ℕ) → LogFault → Type 0
 PiecesHave c [] fault = EndsIn c fault
 PiecesHave c (piece ∷ pieces) fault = IsFirstFault c piece fault ⊎ (Takes c piece × PiecesHave (fed c piece) pieces fault)

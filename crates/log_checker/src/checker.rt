@@ -38,18 +38,18 @@ impl Model for Checker {
 }
 
 impl Checker {
-    /// A checker that is fed nothing yet, for a problem and the answer that its log is to prove. It takes all memory that
-    /// it needs.
+    /// A checker that is fed nothing yet, for a problem and the answer that its log is to prove. It takes all memory
+    /// that it needs.
     pub fn new(
         alloc: Global,
         problem: &Problem,
         answer: Option<&[u32]>,
     ) -> Result<Checker, LogFault>
         ensures ok { IfOk result (λ c. c ≡ begun problem.now (option_copied answer.entry)) }
-        // AnswerNotAdmissible comes exactly where there is an answer and it isn't an admissible selection of the problem,
-        // whatever memory there is
+        // AnswerNotAdmissible comes exactly where there is an answer and it isn't an admissible selection of the
+        // problem, whatever memory there is
         ensures unfit { result ≡ Err LogFault.AnswerNotAdmissible ↔ ¬ IsFit problem.now (option_copied answer.entry) }
-        // the only other error is want of memory
+        // the only other error is out of memory
         ensures only { IfErr result (λ f. (f ≡ LogFault.AnswerNotAdmissible) ⊎ (f ≡ LogFault.Memory)) }
     {
         let claim = Claim::new(alloc, problem, answer)?;
@@ -115,7 +115,7 @@ impl Checker {
         // while none was found, the answer is Ok exactly where all steps are allowed
         ensures exactly { self.old.fault ≡ None → (IsOk result ↔ Takes self.old tokens.now) }
         ensures ok { self.old.fault ≡ None → OnOk result (self.new ≡ fed self.old tokens.now) }
-        // else it is the fault of the first letter that isn't allowed, which is kept behind the letters in front of it
+        // else it is the fault of the first letter that isn't allowed, which is kept after the letters in front of it
         ensures fault { (f : LogFault) → self.old.fault ≡ None → (result ≡ Err f ↔ IsFirstFault self.old tokens.now f) }
         ensures stops { self.old.fault ≡ None →
             IfErr result (λ f. (x : IsFirstFault self.old tokens.now f) × (self.new ≡ stopped self.old x.front f)) }

@@ -170,7 +170,7 @@ impl Claim {
         self.tails.later_value(t)
     }
 
-    /// The least weight from a place on, in weight units; none behind the last place.
+    /// The least weight from a place on, in weight units; none after the last place.
     #[inline(always)]
     pub fn least_weight(&self, t: u32) -> Option<u64>
         requires { t ≤ length self.now.problem.items }
@@ -180,7 +180,7 @@ impl Claim {
         self.tails.least_weight(t)
     }
 
-    /// The first place behind the given one that is no twin of it, or the number of places.
+    /// The first place after the given one that is no twin of it, or the number of places.
     #[inline(always)]
     pub fn run_end(&self, t: u32) -> u32
         requires { t < length self.now.problem.items }

@@ -9,9 +9,9 @@ ghost use Rattle.pick_problem.specs.Admissible.{IsFit};
 ghost use Rattle.pick_problem.specs.Letters.{IsAcceptedText};
 ghost use Rattle.pick_problem.specs.Problem.{IsProblem, PlainProblem};
 
-/// A checker accepts exactly the logs that are accepted: one can be made for the answer, `feed` takes all letters, and
-/// `end` finds all well. Any other log has one fault, and a log that is accepted has none; and that an answer wasn't met is
-/// never the fault.
+/// The law of checkers: one accepts exactly the logs that are accepted. It can be made for the answer, `feed` takes all
+/// letters, and `end` finds all well. Any other log has one fault, and a log that is accepted has none; and that an
+/// answer wasn't met is never the fault.
 pub fn sections_are_judged()
     ensures accepted { (p : PlainProblem) (answer : Option (List ℕ)) (letters : List ℕ) →
         (IsAcceptedText p answer letters ↔ (IsFit p answer × Takes (begun p answer) letters × EndsWell (fed (begun p answer) letters))) }
@@ -25,7 +25,7 @@ pub fn sections_are_judged()
         IsProblem p → SectionHas p answer letters LogFault.AnswerNotMet → ⊥ }
 {}
 
-/// Pieces are the whole: however a log is cut, `feed` of each piece and `end` answer Ok exactly where the whole log is
+/// The law of pieces: however a log is cut, `feed` of each piece and `end` answer Ok exactly where the whole log is
 /// accepted, and else with the fault of the whole, at its place since the start.
 pub fn pieces_are_the_whole()
     ensures accepted { (p : PlainProblem) (answer : Option (List ℕ)) (pieces : List (List ℕ)) →

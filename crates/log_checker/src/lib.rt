@@ -1,5 +1,5 @@
-//! The separate checker of closing logs. It reads a log letter by letter, knows no search, and says whether the log proves
-//! that its answer is the best selection of its problem, or, without an answer, that no selection is admissible.
+//! The separate checker of closing logs. It reads a log letter by letter, knows no search, and says whether the log
+//! proves that its answer is the best selection of its problem, or, without an answer, that no selection is admissible.
 #![tactic(auto)]
 
 mod checker;

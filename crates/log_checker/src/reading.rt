@@ -28,7 +28,7 @@ pub struct Reading {
     pub met: bool,
 }
 
-/// Puts a place behind the others, for which there is room.
+/// Puts a place after the others, for which there is room.
 #[inline(always)]
 fn put(places: &mut Vec<u32>, place: u32)
     requires { length places.old.items < vec_capacity places.old }

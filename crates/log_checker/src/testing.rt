@@ -1,5 +1,5 @@
-//! What is asked of a node before it may be closed. Each question is answered from the sums that the reading keeps; none
-//! but the one for the answer itself goes through the chosen places.
+//! What is asked of a node before it may be closed. Each question is answered from the sums that the reading keeps;
+//! none but the one for the answer itself goes through the chosen places.
 
 ghost use Rattle.std.specs.Prelude.{◌≡◌, ◌≢◌, ◌↔◌, ◌<◌, ◌≤◌, ◌+◌, ◌-◌, ◌*◌, ◌||◌, pos, ◌+ℤ◌, IsSomeAnd, IsTrue, Some, length, slice_get};
 ghost use Rattle.log_checker.specs.Reads.{IsReading, is_answer};

@@ -38,7 +38,7 @@ full-some : (k : ℕ) → 0 < k → 0 < full k
 full-some zero l = absurd (omega arith)
 full-some (suc k) l = omega arith
 
--- the tries that the nodes behind the chosen places take at most
+-- the tries that the nodes after the chosen places take at most
 abbrev pub waits : PlainProblem → List ℕ → ℕ
 waits p [] = 0
 waits p (j ∷ stack) = full (length p.items - (j + 1)) + waits p stack

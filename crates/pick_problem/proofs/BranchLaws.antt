@@ -83,7 +83,7 @@ module _ (p : PlainProblem) (is : IsProblem p) (chosen : List ℕ) (t : ℕ) (q 
       let all : needed (p.lo - value_of p chosen) (item_at p.items t).value * least_weight p t ≤ length x.more * least_weight p t = mul-le-mul_right (least_weight p t) count in
       inl (inl (omega (arith, ints, h, light, all, weight_is)))
 
-  -- nothing is added behind the branch
+  -- nothing is added after the branch
   hit_itself : (k : Kind) (best : List ℕ) (met : Bool) → p.kind ≡ k → q ≡ chosen → (met ≡ true → comes_before best q ≡ true) → IsNoBetterThan p met chosen best → IsBeaten k p (Some best) (met || bytes_eq chosen best) q
   hit_itself k best met kind same after worse =
       elim worse [

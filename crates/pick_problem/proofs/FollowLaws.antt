@@ -28,7 +28,7 @@ pub record Follows (p : PlainProblem) (c : Option (List ℕ)) (s : State) (w : W
   pub ends : after_all p c s w.tokens ≡ record { chosen = upward w.stack; next = w.next; closed = w.done; met = m }
   pub ready : w.done ≡ false → Ready p w.stack w.next
 
--- nothing is behind the last place
+-- nothing is after the last place
 total_gone : (xs : List Item) (t : ℕ) → length xs ≤ t → total_value (drop t xs) ≡ 0
 total_gone [] zero l = refl
 total_gone [] (suc t) l = refl

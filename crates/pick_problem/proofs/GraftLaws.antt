@@ -33,13 +33,13 @@ more_grafted p ks m w =
     if_false w.done (grafted ks m w) (try_once p (grafted ks m w)) e
     ∙ (try_grafted p ks m w ∙ ap (grafted ks m) (sym (if_false w.done w (try_once p w) e))))
 
--- behind other tokens and tries a walk goes on the same
+-- after other tokens and tries a walk goes on the same
 pub grafted_goes_on : (p : PlainProblem) (ks : List Token) (m : ℕ) (w : Walk) (n : ℕ) →
     after_tries p (grafted ks m w) n ≡ grafted ks m (after_tries p w n)
 grafted_goes_on p ks m w zero = refl
 grafted_goes_on p ks m w (suc n) = ap (one_more p) (grafted_goes_on p ks m w n) ∙ more_grafted p ks m (after_tries p w n)
 
--- each walk is a fresh one behind its tokens and tries
+-- each walk is a fresh one after its tokens and tries
 pub grafted_afresh : (w : Walk) → grafted w.tokens w.tries (afresh w) ≡ w
 grafted_afresh w =
     let tries : w.tries + 0 ≡ w.tries = omega arith in

@@ -42,7 +42,7 @@ fit_of p best q IsWorse fit good = fit
 fit_of p best q IsFar fit good = fit
 fit_of p best q GoesOn fit good = fit
 
--- one try on a walk that isn't done: what follows behind I, for each answer that the new best backs
+-- one try on a walk that isn't done: what follows after I, for each answer that the new best backs
 module _ (p : PlainProblem) (is : IsProblem p) (w : Walk) (ready : Ready p w.stack w.next) where
   abbrev the_rule : Rule
   the_rule = rule p w.best (upward (w.next ∷ w.stack)) w.next

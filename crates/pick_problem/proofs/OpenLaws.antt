@@ -34,7 +34,7 @@ opens_all n t q h = record { more = q; is = refl; rising = h }
 extends_more : (n j : ℕ) (chosen : List ℕ) (t : ℕ) (q r : List ℕ) → q ≡ j ∷ r → Extends n chosen t r → Extends n (j ∷ chosen) t q
 extends_more n j chosen t q r e x = record { more = x.more; is = e ∙ ap (λ (k : List ℕ). j ∷ k) x.is; rising = x.rising }
 
--- what is open is below the node, or still open behind it
+-- what is open is below the node, or still open after it
 pub opens_close : (n : ℕ) (chosen : List ℕ) (j t : ℕ) (q : List ℕ) → IsOpen n (chosen ++ j ∷ []) t q → Extends n (chosen ++ j ∷ []) t q ⊎ IsOpen n chosen (j + 1) q
 opens_close n [] j t q h =
     elim h [ inl x ↦ inr x | inr r ↦ inl record { more = r.0; is = r.1; rising = r.2 } ]
@@ -87,7 +87,7 @@ opens_pass n (j ∷ chosen) t u q h =
 cons_tail : (x y : ℕ) (xs ys : List ℕ) → x ∷ xs ≡ y ∷ ys → xs ≡ ys
 cons_tail x y xs ys e = cc
 
--- with a place below t behind the chosen ones nothing is open
+-- with a place below t after the chosen ones nothing is open
 pub opens_not : (n : ℕ) (chosen : List ℕ) (t s : ℕ) (more : List ℕ) → s < t → IsOpen n chosen t (chosen ++ s ∷ more) → ⊥
 opens_not n [] t s more l h = omega (arith, h.0)
 opens_not n (j ∷ chosen) t s more l h =
@@ -101,7 +101,7 @@ before_one : (n j : ℕ) (a q : List ℕ) → Rising n (j + 1) q → comes_befor
 before_one n j a [] h = refl
 before_one n j a (k ∷ q) h = test_less j k a q (omega (arith, h.0))
 
--- what is open behind a node comes after its chosen places
+-- what is open after a node comes after its chosen places
 pub opens_behind : (n : ℕ) (chosen : List ℕ) (j : ℕ) (q : List ℕ) → IsOpen n chosen (j + 1) q → comes_before (chosen ++ j ∷ []) q ≡ true
 opens_behind n [] j q h = before_one n j [] q h
 opens_behind n (k ∷ chosen) j q h =

@@ -22,7 +22,7 @@ pub Rising-wider : (s n b : ℕ) (q : List ℕ) → s ≤ n → Rising s b q →
 Rising-wider s n b [] l h = tt
 Rising-wider s n b (j ∷ q) l h = (h.0, omega (arith, h.1), Rising-wider s n (j + 1) q l h.2)
 
--- the value from a place on is that of its item and of what is behind it
+-- the value from a place on is that of its item and of what is after it
 total_step : (xs : List Item) (t : ℕ) → t < length xs → total_value (drop t xs) ≡ (get_or xs t no_item).value + total_value (drop (t + 1) xs)
 total_step [] t l = absurd (omega arith)
 total_step (x ∷ xs) zero l = refl

@@ -37,7 +37,7 @@ pub ends : (xs : List ℕ) → Ends xs
 ends [] = empty
 ends (x ∷ xs) = push_front x xs (ends xs)
 
--- where the answer is met behind a branch, it was met before, or it is what is chosen
+-- where the answer is met after a branch, it was met before, or it is what is chosen
 met_before : (a : Option (List ℕ)) (met : Bool) (chosen : List ℕ) (reason : Reason) → met_behind a met chosen reason ≡ true → (met ≡ true) ⊎ (a ≡ Some chosen)
 met_before None met chosen Hit e = inl e
 met_before (Some best) met chosen Hit e =
@@ -144,7 +144,7 @@ module _ (p : PlainProblem) (is : IsProblem p) (a : Option (List ℕ)) where
   steps_keep s [] h so = so
   steps_keep s (k ∷ ks) h so = steps_keep (after p a s k) ks h.1 (step_keeps s k h.0 so)
 
-  -- behind a closed tree every admissible selection is beaten
+  -- after a closed tree every admissible selection is beaten
   pub all_beaten : (s : State) → s.closed ≡ true → SoFar p a s → (q : List ℕ) → IsAdmissible p q → IsBeaten p.kind p a s.met q
   all_beaten s e so q good =
       let w : State = record s { closed = true } in
@@ -152,7 +152,7 @@ module _ (p : PlainProblem) (is : IsProblem p) (a : Option (List ℕ)) where
       let stands : Stands p a w q = (subst (SoFar p a) same so).each q good in
       elim stands [ inl o ↦ absurd o.0 | inr b ↦ b ]
 
--- an admissible answer was met behind a closed tree, since it doesn't beat itself by its score
+-- an admissible answer was met after a closed tree, since it doesn't beat itself by its score
 pub closed_met : (p : PlainProblem) (best : List ℕ) (s : State) → IsProblem p → s.closed ≡ true → SoFar p (Some best) s → IsAdmissible p best → s.met ≡ true
 closed_met p best s is e so good =
     elim (all_beaten p is (Some best) s e so best good) [ inl l ↦ absurd (below_irreflexive (score_by p.kind p best) l) | inr m ↦ m.0 ]

@@ -152,7 +152,7 @@ run_ends p t below other =
 pub run_last : (p : PlainProblem) (t : ℕ) → t + 1 ≡ length p.items → behind_twins p (t + 1) ≡ t + 1
 run_last p t e = run_only p t (t + 1) record { behind = omega arith; within = omega arith; twins = λ j l m. absurd (omega arith); ends = λ m. absurd (omega arith) }
 
--- the row of a place, from the row behind it
+-- the row of a place, from the row after it
 pub tail_here : (p : PlainProblem) → IsProblem p → (t : ℕ) → t < length p.items → (behind tail : Tail) → IsTail p (t + 1) behind → tail.value ≡ behind.value + (item_at p.items t).value → tail.weight ≡ min behind.weight (item_at p.items t).weight → tail.end ≡ behind_twins p (t + 1) → IsTail p t tail
 tail_here p is t below behind tail old value weight end_ =
     let item : IsItem (item_at p.items t) = item_is p t is below in

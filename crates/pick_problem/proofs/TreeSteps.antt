@@ -16,7 +16,7 @@ split_last_push (x ∷ xs) j = ap (with_first x) (split_last_push xs j)
 abbrev pub open_at : List ℕ → ℕ → Bool → State
 open_at chosen t met = record { chosen = chosen; next = t; closed = false; met = met }
 
--- behind the node with the last place the reading goes on without it
+-- after the node with the last place the reading goes on without it
 pub left_push : (p : PlainProblem) (met : Bool) (chosen : List ℕ) (j : ℕ) → left p met (chosen ++ j ∷ []) ≡ open_at chosen (j + 1) met
 left_push p met chosen j = ap (left_at p met) (split_last_push chosen j)
 
@@ -38,7 +38,7 @@ module _ (p : PlainProblem) (a : Option (List ℕ)) where
       ((refl, h.0), subst (λ (r : List Token). AreAllowed p a (open_at (chosen ++ t ∷ []) (t + 1) met) r) (sym (append_assoc (tokens_of x) (tokens_of y) ks)) first)
   tree_steps (Skip x) met chosen t h ks rest = ((refl, h.0), tree_steps x met chosen (behind_twins p t) h.1 ks rest)
 
-  -- what stands behind a tree is allowed behind it
+  -- what stands after a tree is allowed after it
   steps_behind : (tree : Tree) (met : Bool) (chosen : List ℕ) (t : ℕ) (ks : List Token) → AreAllowed p a (open_at chosen t met) (tokens_of tree ++ ks) → AreAllowed p a (left p (met_after p a met chosen t tree) chosen) ks
   steps_behind (Leaf reason) met chosen t ks h = h.1
   steps_behind (Fork x y) met chosen t ks h =
@@ -61,7 +61,7 @@ module _ (p : PlainProblem) (a : Option (List ℕ)) where
   shorter : (tree : Tree) (ks rest : List Token) (fuel : ℕ) → ks ≡ tokens_of tree ++ rest → length ks ≤ fuel → length rest ≤ fuel
   shorter tree ks rest fuel e l = omega (arith, ap (λ (r : List Token). length r) e, length-append (tokens_of tree) rest)
 
-  -- behind the tree with the next place the reading is at the node without it
+  -- after the tree with the next place the reading is at the node without it
   without_allowed : (x : Tree) (met : Bool) (chosen : List ℕ) (t : ℕ) (ks rest : List Token) → ks ≡ tokens_of x ++ rest → AreAllowed p a (open_at (chosen ++ t ∷ []) (t + 1) met) ks → AreAllowed p a (open_at chosen (t + 1) (met_after p a met (chosen ++ t ∷ []) (t + 1) x)) rest
   without_allowed x met chosen t ks rest e h =
       let behind = met_after p a met (chosen ++ t ∷ []) (t + 1) x in

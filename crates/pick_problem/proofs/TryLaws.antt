@@ -19,7 +19,7 @@ odd_places k t m odd = if_true (m % 2 == 1) (t ∷ places_from k (t + 1) (m / 2)
 even_places : (k t m : ℕ) → (m % 2 ≡ 1 → ⊥) → places_from (suc k) t m ≡ places_from k (t + 1) (m / 2)
 even_places k t m even = if_false (m % 2 == 1) (t ∷ places_from k (t + 1) (m / 2)) (places_from k (t + 1) (m / 2)) (grind (arith, nat_tests))
 
--- a place that is set goes behind those that were found
+-- a place that is set goes after those that were found
 pub set_place : (count place bits : ℕ) (found : List ℕ) (all : List ℕ) → place < count → bits % 2 ≡ 1 → found ++ places_from (count - place) place bits ≡ all → (found ++ place ∷ []) ++ places_from (count - (place + 1)) (place + 1) (bits / 2) ≡ all
 set_place count place bits found all below odd h =
     let more : count - place ≡ suc (count - (place + 1)) = omega arith in

@@ -57,7 +57,7 @@ by_bool : (b : Bool) (w : Way) → (if b then writes Pass w else w) ≡ fronted 
 by_bool true w = refl
 by_bool false w = refl
 
--- T where twins stand behind the place j
+-- T where twins stand after the place j
 abbrev pub pass_tokens : PlainProblem → ℕ → List Token
 pass_tokens p j = if nat_lt (j + 1) (behind_twins p (j + 1)) then Pass ∷ [] else []
 

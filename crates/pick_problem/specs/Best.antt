@@ -21,7 +21,8 @@ comes_before (x ∷ a) (y ∷ b) = if nat_lt x y then true else if x == y then c
 abbrev pub IsBetter : PlainProblem → List ℕ → List ℕ → Type 0
 IsBetter p a b = IsBelow (score_of p a) (score_of p b) ⊎ (IsSame (score_of p a) (score_of p b) × ComesBefore a b)
 
--- no selection is better: each is the best itself, or has a greater score, or an equal one and comes later; or there is none
+-- no selection is better: each is the best itself, or has a greater score, or an equal one and comes later; or there is
+-- none
 abbrev pub IsBest : PlainProblem → Option (List ℕ) → Type 0
 IsBest p None = (q : List ℕ) → IsAdmissible p q → ⊥
 IsBest p (Some a) = IsAdmissible p a × ((q : List ℕ) → IsAdmissible p q → (q ≡ a) ⊎ IsBetter p a q)

@@ -2,13 +2,13 @@
 --
 -- The guarantee: if a log is accepted with an answer, that answer is the best selection of its problem; if it is
 -- accepted without one, no selection is admissible. It holds for any letters, from whatever search or forger, and each
--- walk that is done leaves a log that is accepted.
--- Why: the root stands for all selections. A tree gives each node one of three things: a reason that closes it, which
--- is true of all selections below it; the two nodes with and without the next place, below which together stand the
--- same selections; or the node behind a run of twins, whose selections are matched by ones that stand before. So by
--- going down the tree each admissible selection comes to a leaf, whose reason says that the answer is no worse. That
--- the answer itself is admissible and stands at a leaf is asked too, so it can't be a bound that nobody reaches. A
--- reader needs no tree: the tokens are those of a tree exactly where they are allowed steps of which the last closes it.
+-- walk that is done leaves a log that is accepted. Why: the root stands for all selections. A tree gives each node one
+-- of three things: a reason that closes it, which is true of all selections below it; the two nodes with and without
+-- the next place, below which together stand the same selections; or the node after a run of twins, whose selections
+-- are matched by ones that stand before. So by going down the tree each admissible selection comes to a leaf, whose
+-- reason says that the answer is no worse. That the answer itself is admissible and stands at a leaf is asked too, so
+-- it can't be a bound that nobody reaches. A reader needs no tree: the tokens are those of a tree exactly where they
+-- are allowed steps of which the last closes it.
 use Rattle.std.specs.Prelude.{◌≡◌, ℕ, ◌+◌, Bool, true, false, List, [], ◌∷◌, ◌++◌, Option, Some, None}
 use Rattle.pick_problem.specs.declared.token.Reason.{Reason}
 use Rattle.pick_problem.specs.declared.token.Token.{Token}
@@ -31,7 +31,7 @@ tokens_of (Leaf reason) = Close reason ∷ []
 tokens_of (Fork chosen without) = Enter ∷ (tokens_of chosen ++ tokens_of without)
 tokens_of (Skip behind) = Pass ∷ tokens_of behind
 
--- whether the answer is met behind the tree of a node
+-- whether the answer is met after the tree of a node
 abbrev pub met_after : PlainProblem → Option (List ℕ) → Bool → List ℕ → ℕ → Tree → Bool
 met_after p a met chosen t (Leaf reason) = met_behind a met chosen reason
 met_after p a met chosen t (Fork x y) = met_after p a (met_after p a met (chosen ++ t ∷ []) (t + 1) x) chosen (t + 1) y
@@ -43,7 +43,7 @@ IsTree p a met chosen t (Leaf reason) = Closes p a met chosen t reason
 IsTree p a met chosen t (Fork x y) = IsAllowedAt p a met chosen t Enter × IsTree p a met (chosen ++ t ∷ []) (t + 1) x × IsTree p a (met_after p a met (chosen ++ t ∷ []) (t + 1) x) chosen (t + 1) y
 IsTree p a met chosen t (Skip x) = IsAllowedAt p a met chosen t Pass × IsTree p a met chosen (behind_twins p t) x
 
--- the tokens are those of a tree of the root, behind which the answer is met or not
+-- the tokens are those of a tree of the root, after which the answer is met or not
 abbrev pub IsRootTree : PlainProblem → Option (List ℕ) → List Token → Bool → Type 0
 IsRootTree p a tokens met = (tree : Tree) × (tokens_of tree ≡ tokens) × IsTree p a false [] 0 tree × (met_after p a false [] 0 tree ≡ met)
 

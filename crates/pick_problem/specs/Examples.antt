@@ -18,7 +18,7 @@ pub record Told : Type 0 where
 abbrev pub told : Walk → Told
 told w = record { chosen = upward w.stack; next = w.next; best = w.best; tries = w.tries; done = w.done; letters = map letter_of w.tokens }
 
--- a walk that is done behind so many places, with its best, its tries and its letters
+-- a walk that is done after so many places, with its best, its tries and its letters
 abbrev pub ended : ℕ → Option (List ℕ) → ℕ → List ℕ → Told
 ended n best tries letters = record { chosen = []; next = n; best = best; tries = tries; done = true; letters = letters }
 

@@ -31,7 +31,7 @@ AreTaken p a s (b ∷ bs) = IsTaken p a s b × AreTaken p a (after p a s (token_
 abbrev pub led : PlainProblem → Option (List ℕ) → State → List ℕ → State
 led p a s letters = after_all p a s (read letters)
 
--- the first byte that isn't taken: it stands behind a front that is
+-- the first byte that isn't taken: it stands after a front that is
 pub record StopsAt (p : PlainProblem) (a : Option (List ℕ)) (s : State) (letters : List ℕ) : Type 0 where
   pub front : List ℕ
   pub letter : ℕ

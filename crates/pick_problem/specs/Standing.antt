@@ -12,7 +12,7 @@ position_of w = record { chosen = upward w.stack; next = w.next; best = w.best; 
 abbrev pub walk_at : Position → List Token → Walk
 walk_at q tokens = record { stack = reverse q.chosen; next = q.next; best = q.best; tries = q.tries; done = q.done; tokens = tokens }
 
--- a walk behind other tokens and tries
+-- a walk after other tokens and tries
 abbrev pub grafted : List Token → ℕ → Walk → Walk
 grafted tokens tries w = record { stack = w.stack; next = w.next; best = w.best; tries = tries + w.tries; done = w.done; tokens = tokens ++ w.tokens }
 

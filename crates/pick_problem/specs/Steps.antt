@@ -2,13 +2,13 @@
 -- one are decided. Below it stand the selections that go on from the chosen places with places from the next one on.
 --
 -- The guarantee: each allowed step keeps that every admissible selection is still open, or is beaten by the answer. So
--- whoever wrote the steps, once they close the tree, the answer is the best, or without one nothing is admissible.
--- Why: I splits a node in two, and each selection below it is below one of them. A close says why nothing below is
--- better. S: not even all that is left reaches lo. O, H and M: values and weights only grow, and below lo one more item
--- is needed. W and L: wastes (where no cost is negative) and weights only grow. F: no later item is worth more than the
+-- whoever wrote the steps, once they close the tree, the answer is the best, or without one nothing is admissible. Why:
+-- I splits a node in two, and each selection below it is below one of them. A close says why nothing below is better.
+-- S: not even all that is left reaches lo. O, H and M: values and weights only grow, and below lo one more item is
+-- needed. W and L: wastes (where no cost is negative) and weights only grow. F: no later item is worth more than the
 -- next one, so what is missing takes so many more, of the least later weight each. A: what is added to a selection that
--- reaches lo could be left out again, or adds weight. Of equal scores the one that stands before wins, so they are given
--- up only behind the answer. T passes a run of twins of a place that isn't chosen: with that place instead, each
+-- reaches lo could be left out again, or adds weight. Of equal scores the one that stands before wins, so they are
+-- given up only after the answer. T passes a run of twins of a place that isn't chosen: with that place instead, each
 -- selection is no heavier, scores no worse and stands before, in a branch that was closed already.
 use Rattle.std.specs.Prelude.{◌≡◌, ◌≢◌, ℕ, ◌+◌, ◌-◌, ◌*◌, ◌/◌, ◌<◌, ◌≤◌, ◌⊎◌, Bool, true, false, ◌||◌, List, [], ◌∷◌, ◌++◌, length, ℤ, pos, ◌+ℤ◌, ◌<ℤ◌, All, Option, Some, None, IsSomeAnd, bytes_eq}
 use Rattle.pick_problem.specs.declared.item.Kind.TheVariants.{Changeless, Lean}
@@ -65,7 +65,7 @@ abbrev pub met_at : Option (List ℕ) → Bool → List ℕ → Bool
 met_at None met chosen = met
 met_at (Some best) met chosen = met || bytes_eq chosen best
 
--- whether the answer is met behind a node that is closed
+-- whether the answer is met after a node that is closed
 abbrev pub met_behind : Option (List ℕ) → Bool → List ℕ → Reason → Bool
 met_behind a met chosen Hit = met_at a met chosen
 met_behind a met chosen _ = met
@@ -97,7 +97,7 @@ abbrev pub left_at : PlainProblem → Bool → Option (List ℕ × ℕ) → Stat
 left_at p met None = closed p met
 left_at p met (Some r) = record { chosen = r.0; next = r.1 + 1; closed = false; met = met }
 
--- the state behind a node that is closed: the node without the last chosen place, or the tree is closed
+-- the state after a node that is closed: the node without the last chosen place, or the tree is closed
 abbrev pub left : PlainProblem → Bool → List ℕ → State
 left p met chosen = left_at p met (split_last chosen)
 

@@ -12,14 +12,14 @@ no_tail = record { value = 0; weight = 0; end = 0 }
 abbrev pub tail_at : List Tail → ℕ → Tail
 tail_at tails t = slice_index_or tails t no_tail
 
--- a row holds what is said of the places from t on; behind the last place its weight is above that of any item
+-- a row holds what is said of the places from t on; after the last place its weight is above that of any item
 pub record IsTail (p : PlainProblem) (t : ℕ) (tail : Tail) : Type 0 where
   pub value : tail.value ≡ later_value p t
   pub weight : t < length p.items → tail.weight ≡ least_weight p t
   pub last : length p.items ≤ t → tail.weight ≡ 18_446_744_073_709_551_615
   pub end : t < length p.items → tail.end ≡ behind_twins p (t + 1)
 
--- a row for each place, and one behind the last place
+-- a row for each place, and one after the last place
 pub record AreTails (p : PlainProblem) (tails : List Tail) : Type 0 where
   pub count : length tails ≡ length p.items + 1
   pub each : (t : ℕ) → t ≤ length p.items → IsTail p t (tail_at tails t)
@@ -32,7 +32,7 @@ pub record IsLeastFrom (p : PlainProblem) (t weight : ℕ) : Type 0 where
   pub is : weight ≡ (item_at p.items place).weight
   pub least : (j : ℕ) → t ≤ j → j < length p.items → weight ≤ (item_at p.items j).weight
 
--- a run of twins of t ends at the first place behind t that is no twin of it, or behind the last place
+-- a run of twins of t ends at the first place after t that is no twin of it, or after the last place
 pub record IsRunEnd (p : PlainProblem) (t end_ : ℕ) : Type 0 where
   pub behind : t < end_
   pub within : end_ ≤ length p.items

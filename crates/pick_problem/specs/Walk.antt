@@ -6,7 +6,7 @@
 -- `SelectCoinsBnB` and `CoinGrinder` do. A selection is left out by one of four things alone, each sound by itself:
 -- a branch that can't reach lo, or is above hi or the limit of weight, holds nothing admissible, as values, weights and
 -- (where no cost is negative) wastes only grow; a branch that is no better than the best so far can't hold the winner,
--- as of equal scores the one that was met first wins; what stands behind a hit has a place too many; and of twins the
+-- as of equal scores the one that was met first wins; what stands after a hit has a place too many; and of twins the
 -- first may stand for each other one. A cut closes the branch without the next place too: where that place is the
 -- lightest one left, what is too heavy with it is too heavy with any other. Nothing here rests on this table alone:
 -- that each token is an allowed step is proved, and that allowed steps prove the best is proved without the table.
@@ -50,11 +50,11 @@ over p = record { tokens = []; stack = []; next = length p.items; done = true }
 abbrev pub writes : Token → Way → Way
 writes k w = record { tokens = k ∷ w.tokens; stack = w.stack; next = w.next; done = w.done }
 
--- T where twins stand behind the place j, which is dropped
+-- T where twins stand after the place j, which is dropped
 abbrev pub passing : PlainProblem → ℕ → Way → Way
 passing p j w = if nat_lt (j + 1) (behind_twins p (j + 1)) then writes Pass w else w
 
--- the place j is dropped from behind the chosen ones, and its twins are passed; where no place is left, S is written,
+-- the place j is dropped from after the chosen ones, and its twins are passed; where no place is left, S is written,
 -- and the last chosen one is dropped too, or the walk is done
 abbrev pub shift : PlainProblem → List ℕ → ℕ → Way
 shift p [] j = passing p j (if nat_lt (behind_twins p (j + 1)) (length p.items) then at [] (behind_twins p (j + 1)) else writes (Close Short) (over p))
@@ -127,7 +127,7 @@ rule p best q t =
     else if is_far p.kind p best q t then IsFar
     else GoesOn
 
--- what each rule writes behind I, and where it leads
+-- what each rule writes after I, and where it leads
 abbrev pub way_of : PlainProblem → List ℕ → ℕ → Rule → Way
 way_of p stack t IsShort = writes (Close Short) (cut p stack t Short)
 way_of p stack t IsOver = writes (Close Over) (shift p stack t)
@@ -170,7 +170,7 @@ abbrev pub enters : List Token → ℕ
 enters [] = 0
 enters (k ∷ ks) = entered k + enters ks
 
--- where a walk may stand: it goes on, or it is done with nothing chosen behind the last place; its best is
+-- where a walk may stand: it goes on, or it is done with nothing chosen after the last place; its best is
 -- admissible, if there is one; and its tries are the number of I in its tokens
 pub record IsPosition (p : PlainProblem) (w : Walk) : Type 0 where
   pub ready : w.done ≡ false → Ready p w.stack w.next
@@ -178,7 +178,7 @@ pub record IsPosition (p : PlainProblem) (w : Walk) : Type 0 where
   pub fit : IsFit p w.best
   pub counted : w.tries ≡ enters w.tokens
 
--- one try: the next place goes behind the chosen ones, I is written, and the first rule that applies is taken
+-- one try: the next place goes after the chosen ones, I is written, and the first rule that applies is taken
 abbrev pub try_once : PlainProblem → Walk → Walk
 try_once p w = let r : Rule = rule p w.best (upward (w.next ∷ w.stack)) w.next in along w (writes Enter (way_of p w.stack w.next r)) (best_of p w.best (upward (w.next ∷ w.stack)) r)
 

@@ -37,7 +37,7 @@ pub fn tries_add_up()
 {}
 
 /// What each allowed step keeps, from the root on: every admissible selection is still open, and comes after the answer
-/// where that was met, or the answer beats it. So behind a closed tree an admissible answer was met, and is the best.
+/// where that was met, or the answer beats it. So after a closed tree an admissible answer was met, and is the best.
 pub fn steps_keep_what_is_known()
     ensures begins { (p : PlainProblem) (answer : Option (List ℕ)) → IsProblem p → SoFar p answer root }
     ensures steps { (p : PlainProblem) (answer : Option (List ℕ)) (s : State) (token : Token) →

@@ -48,7 +48,7 @@ impl Problem {
         }
     }
 
-    /// A copy. It equals the problem. The error is want of memory.
+    /// A copy. It equals the problem. The error is out of memory.
     pub fn copy(&self, alloc: Global) -> Result<Problem, Memory>
         ensures { IfOk result (λ p. p ≡ self.now) }
     {

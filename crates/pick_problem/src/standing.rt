@@ -7,14 +7,14 @@ ghost use Rattle.pick_problem.specs.Walk.{Walk, after_tries};
 ghost use Rattle.pick_problem.specs.declared.position.Position.{Position};
 ghost use Rattle.pick_problem.specs.declared.token.Token.{Token};
 
-/// A position is all of a walk but its tokens: the walk that stands at a walk's position, with its tokens, is that walk,
-/// and it stands at the position whatever its tokens are.
+/// A position is all of a walk but its tokens: the walk that stands at a walk's position, with its tokens, is that
+/// walk, and it stands at the position whatever its tokens are.
 pub fn positions_are_walks()
     ensures walk { (w : Walk) → walk_at (position_of w) w.tokens ≡ w }
     ensures position { (q : Position) (tokens : List Token) → position_of (walk_at q tokens) ≡ q }
 {}
 
-/// Tries don't depend on what was written and tried before: behind other tokens and tries a walk goes on the same. So
+/// Tries don't depend on what was written and tried before: after other tokens and tries a walk goes on the same. So
 /// what tries append is what they would write afresh, and where they lead from a position is a matter of that alone.
 pub fn tries_do_not_look_back()
     ensures grafted { (p : PlainProblem) (tokens : List Token) (tries : ℕ) (w : Walk) (n : ℕ) →

@@ -9,8 +9,8 @@ ghost use Rattle.pick_problem.specs.Steps.{AreAllowed, State, after_all, root};
 ghost use Rattle.pick_problem.specs.declared.token.Token.{Token};
 
 /// Letters in pieces: two pieces are taken together exactly where the first one is, and the second one from where it
-/// leads; and together they lead to where the second leads from there. Bytes are taken exactly where they are the letters
-/// of tokens whose steps are all allowed.
+/// leads; and together they lead to where the second leads from there. Bytes are taken exactly where they are the
+/// letters of tokens whose steps are all allowed.
 pub fn letters_in_pieces()
     ensures taken { (p : PlainProblem) (answer : Option (List ℕ)) (s : State) (xs ys : List ℕ) →
         (AreTaken p answer s (xs ++ ys) ↔ (AreTaken p answer s xs × AreTaken p answer (led p answer s xs) ys)) }
@@ -20,7 +20,8 @@ pub fn letters_in_pieces()
         (AreTaken p answer s letters ↔ ((letters ≡ letters_of (read letters)) × AreAllowed p answer s (read letters))) }
 {}
 
-/// Letters stop at one place: the first that isn't taken is told by what stands before it. Those that are taken don't stop.
+/// Letters stop at one place: the first that isn't taken is determined by what stands before it. Those that are taken
+/// don't stop.
 pub fn letters_stop_once()
     ensures one { (p : PlainProblem) (answer : Option (List ℕ)) (s : State) (letters : List ℕ) (x y : StopsAt p answer s letters) →
         (x.front ≡ y.front) × (x.letter ≡ y.letter) }

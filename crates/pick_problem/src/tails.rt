@@ -17,13 +17,13 @@ use std::marker::Model;
 pub struct Tail {
     /// The values of the place and of all later ones, in satoshi.
     pub value: u128,
-    /// The least weight of the place and of all later ones, in weight units; behind the last place the greatest `u64`.
+    /// The least weight of the place and of all later ones, in weight units; after the last place the greatest `u64`.
     pub weight: u64,
     /// The first later place that is no twin of the place, or the number of places.
     pub end: u32,
 }
 
-/// The row behind the last of so many places.
+/// The row after the last of so many places.
 fn last_tail(count: u32) -> Tail
     ensures { result ≡ record { value = 0; weight = 18_446_744_073_709_551_615; end = count } }
 {
@@ -96,7 +96,7 @@ impl Model for Tails {
 }
 
 impl Tails {
-    /// The tails of a problem's pool: one for each place, and one behind the last. The error is want of memory.
+    /// The tails of a problem's pool: one for each place, and one after the last. The error is out of memory.
     pub fn new(alloc: Global, problem: &Problem) -> Result<Tails, Memory>
         ensures { IfOk result (λ tails. AreTails problem.now tails) }
     {
@@ -111,7 +111,7 @@ impl Tails {
         Ok(Tails { rows })
     }
 
-    /// The row of a place, or that behind the last one.
+    /// The row of a place, or that after the last one.
     pub fn at(&self, t: u32) -> Tail
         requires { t < length self.now }
         ensures row { result ≡ tail_at self.now t }
@@ -141,7 +141,7 @@ impl Tails {
         }
     }
 
-    /// The first place behind the given one that is no twin of it, or the number of items. The place is below the
+    /// The first place after the given one that is no twin of it, or the number of items. The place is below the
     /// number of items.
     pub fn run_end(&self, t: u32) -> u32
         requires { t + 1 < length self.now }

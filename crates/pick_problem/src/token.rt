@@ -27,7 +27,7 @@ pub enum Reason {
 /// One letter of a closing log.
 #[derive(Clone, Copy, Debug, PartialEq, Eq)]
 pub enum Token {
-    /// I: the selections with the next place, and behind them those without it.
+    /// I: the selections with the next place, and after them those without it.
     Enter,
     /// T: the run of twins of a place that isn't chosen is passed.
     Pass,

@@ -13,8 +13,8 @@ pub fn worked_walks()
     ensures little { told (walk too_little 20) ≡ ended 1 None 0 (codes "S") }
 {}
 
-/// Walks that reach each rule of a search without change, and its twins: an item above `hi`; one that is too heavy, with
-/// a lighter one behind it; twins that are passed; and items that aren't twins, since their costs differ.
+/// Walks that reach each rule of a search without change, and its twins: an item above `hi`; one that is too heavy,
+/// with a lighter one after it; twins that are passed; and items that aren't twins, since their costs differ.
 pub fn worked_changeless_walks()
     ensures over { told (walk above_hi 20) ≡ ended 1 None 1 (codes "IOS") }
     ensures heavy { told (walk one_heavy 20) ≡ ended 2 None 2 (codes "IHISS") }
@@ -22,8 +22,8 @@ pub fn worked_changeless_walks()
     ensures costs { told (walk other_cost 20) ≡ ended 2 (Some (0 ∷ [])) 2 (codes "IAIWS") }
 {}
 
-/// Walks that reach each rule of a search by weight, with a cut where the item is the lightest one left and a shift where
-/// it isn't; and twins, which are equal in value alone.
+/// Walks that reach each rule of a search by weight, with a cut where the item is the lightest one left and a shift
+/// where it isn't; and twins, which are equal in value alone.
 pub fn worked_lean_walks()
     ensures heavy { told (walk too_heavy 20) ≡ ended 3 None 3 (codes "IIHMISS") }
     ensures heavier { told (walk lightest_first 20) ≡ ended 4 (Some (0 ∷ [])) 2 (codes "IAILF") }

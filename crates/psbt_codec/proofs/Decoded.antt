@@ -52,7 +52,7 @@ paid_decodes = record {
 
 -- ---- an input's map
 
--- what is known, told by the value of a type
+-- what is known, given by the value of a type
 pub record Known {X : Type 0} (pairs : List Pair) (kind : ℕ) (text : X → List ℕ) (Fits : X → Type 0) (known : Option X) : Type 0 where
   pub tells : Tells pairs kind text known
   pub fits : IfSome known Fits

@@ -1,4 +1,4 @@
--- A PSBT's fault doesn't depend on the bytes behind those that were read, unless it says that bytes are missing.
+-- A PSBT's fault doesn't depend on the bytes after those that were read, unless it says that bytes are missing.
 use Rattle.std.proofs.Common.{◌≡◌, ℕ, ◌+◌, ◌-◌, ◌<◌, ◌≤◌, ltb, true, false, List, [], ◌++◌, length, take, Result, Ok, Err, refl, sym, ap, subst, ◌∙◌, arith, inl, inr, length-append}
 use Rattle.std.specs.Prelude.{◌⊎◌, ◌==◌, bytes_eq}
 use Rattle.std.proofs.Math.Seq.{take-append-add}
@@ -36,7 +36,7 @@ same_front xs e = (bytes_eq-Decides xs magic).0 e
 begins_with : (xs : List ℕ) → xs ≡ magic → bytes_eq xs magic ≡ true
 begins_with xs e = (bytes_eq-Decides xs magic).1 e
 
--- where the bytes don't begin with the magic, they are a first part of it, or begin with it under no others behind them
+-- where the bytes don't begin with the magic, they are a first part of it, or begin with it under no others after them
 no_magic : (bytes more : List ℕ) (e : PsbtFault) → bytes_eq (take 5 bytes) magic ≡ false → e ≡ Magic → IsCut bytes e ⊎ (magic_at (start (bytes ++ more)) ≡ Err e)
 no_magic bytes more e other is =
     elim (cases_Bool (bytes_eq (take 5 (bytes ++ more)) magic)) [
@@ -89,7 +89,7 @@ psbt_longer bytes more = then (IsCut bytes) more _ _ _ _ (magic_longer bytes mor
 abbrev whole : Result (PartialTransaction × At) PsbtFault → Result PartialTransaction PsbtFault
 whole read = whole_of Trailing read
 
--- bytes stand behind the maps, and more behind these
+-- bytes stand after the maps, and more after these
 still_trailing : (x : PartialTransaction × At) (more : List ℕ) (e : PsbtFault) → whole (Ok x) ≡ Err e → whole (Ok (x.0, longer more x.1)) ≡ Err e
 still_trailing x more e is =
     elim (cases_Bool (length x.1.rest == 0)) [

@@ -1,4 +1,4 @@
--- Reading the maps never ends in a fault of the magic, of bytes behind the maps, or of a text.
+-- Reading the maps never ends in a fault of the magic, of bytes after the maps, or of a text.
 use Rattle.std.proofs.Common.{◌≡◌, ℕ, zero, suc, Bool, true, false, cond, List, [], ◌∷◌, ◌++◌, length, take, min, Result, Ok, Err, refl, subst}
 use Rattle.std.specs.Prelude.{Option, Some, None, is_some, not, ◌==◌}
 use Rattle.std.specs.Int.{w32, from_le_bytes}

@@ -1,4 +1,4 @@
--- The maps of a PSBT are read as before where more bytes stand behind, unless some were missing.
+-- The maps of a PSBT are read as before where more bytes stand after, unless some were missing.
 use Rattle.std.proofs.Common.{◌≡◌, ℕ, zero, suc, ◌≤◌, List, [], ◌∷◌, ◌++◌, length, min, Result, Ok, Err, refl, sym, ap, ◌∙◌, arith, inl, inr, length-append}
 use Rattle.std.specs.Prelude.{Option, Some, None}
 use Rattle.fund_base.specs.declared.cursor.CutFault.{CutFault}
@@ -34,7 +34,7 @@ told {X = X} more (Err d) again h = record {
       ];
 }
 
--- a step that no bytes behind it can change
+-- a step that no bytes after it can change
 settled : {A X : Type 0} (more : List ℕ) (read : Result A PsbtFault) (f g : A → Result (X × At) PsbtFault) → ((x : A) → Carries IsTruncated more (f x) (g x)) → Carries IsTruncated more (read >>= f) (read >>= g)
 settled more (Ok x) f g h = h x
 settled {X = X} more (Err d) f g h = refused {X = X} IsTruncated more d

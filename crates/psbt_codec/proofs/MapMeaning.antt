@@ -22,7 +22,7 @@ use Rattle.psbt_codec.proofs.MapReads.{MapFits}
 key_other : (a b : List ℕ) → a ≢ b → bytes_eq a b ≡ false
 key_other a b other = false_from_ne_true (bytes_eq a b) (λ e. other (equal_bytes a b e))
 
--- ---- pairs that were read one behind the other are a map
+-- ---- pairs that were read one after the other are a map
 
 each_fits : (part : Part) (before pairs : List Pair) → MapFits part before pairs → AllByRecursion (PairFits part) pairs
 each_fits part before [] fits = tt
@@ -31,7 +31,7 @@ each_fits part before (p ∷ pairs) fits = (fits.0.fits, each_fits part (before 
 still_has : (before : List Pair) (q : Pair) (key : List ℕ) → has_key key before ≡ true → has_key key (before ++ q ∷ []) ≡ true
 still_has before q key has = list_any-append (λ (r : Pair). bytes_eq r.key key) before (q ∷ []) ∙ or_left (has_key key before) _ has
 
--- pairs behind these don't have the key of a pair among these
+-- pairs after these don't have the key of a pair among these
 others_differ : (part : Part) (p : Pair) (before pairs : List Pair) → ((key : List ℕ) → p.key ≡ key → has_key key before ≡ true) → MapFits part before pairs → AllByRecursion (HaveOtherKeys p) pairs
 others_differ part p before [] has fits = tt
 others_differ part p before (q ∷ pairs) has fits =
@@ -50,9 +50,9 @@ map_is part pairs fits =
     let each : All (PairFits part) pairs = All-from_recursion (PairFits part) pairs (each_fits part [] pairs fits) in
     (record { each = All-weaker (PairFits part) (IsPair (types_of part)) (λ p fit. fit.is_pair) pairs each; distinct = distinct_keys part [] pairs fits }, each)
 
--- ---- and a map's pairs are read one behind the other
+-- ---- and a map's pairs are read one after the other
 
--- a pair that stands behind these in a map has another key than they
+-- a pair that stands after these in a map has another key than they
 fresh_behind : (before : List Pair) (p : Pair) (pairs : List Pair) → AllPairs HaveOtherKeys (before ++ p ∷ pairs) → has_key p.key before ≡ false
 fresh_behind before p pairs distinct =
     list_any_none (λ (r : Pair). bytes_eq r.key p.key) before (λ i d lt.

@@ -13,11 +13,11 @@ use Rattle.psbt_codec.specs.Psbt.{Pair, pair_text, map_text}
 use Rattle.psbt_codec.specs.Reading.{pairs_within, ends_or, map_at}
 use Rattle.psbt_codec.proofs.PairLaws.{FitsBehind, PairRead, pair_takes, pair_again, end_again, compact_some}
 
--- pairs that fit behind these
+-- pairs that fit after these
 abbrev pub MapFits : Part → List Pair → List Pair → Type 0
 MapFits part before pairs = AllFrom (λ earlier p. FitsBehind part earlier p) before pairs
 
--- what was read of a map behind these pairs
+-- what was read of a map after these pairs
 record TakesPairs (part : Part) (before : List Pair) (at : At) (x : List Pair × At) : Type 0 where
   pub pairs : List Pair
   pub whole : x.0 ≡ before ++ pairs
@@ -32,7 +32,7 @@ map_text-nil : map_text [] ≡ 0 ∷ []
 unfolding map_text
 map_text-nil = refl
 
--- the rest of a map, behind a pair or an end that was read
+-- the rest of a map, after a pair or an end that was read
 goes_on : (part : Part) (before : List Pair) (n : ℕ) (at : At) (o : Option Pair × At) (x : List Pair × At)
     → ((pairs : List Pair) (next : At) → IsBytes next.rest → pairs_within n part pairs next ≡ Ok x → TakesPairs part pairs next x)
     → PairRead part before at o → ends_or before (λ pairs next. pairs_within n part pairs next) (λ pairs next. (pairs, next)) o ≡ Ok x → TakesPairs part before at x

@@ -147,7 +147,7 @@ value_again Global place kind value is =
 value_again Input place kind value is = input_value_again place kind value is
 value_again Output place kind value is = refl
 
--- ---- a pair behind others of its map
+-- ---- a pair after others of its map
 
 -- a pair that a map of this part can have
 pub record PairFits (part : Part) (p : Pair) : Type 0 where
@@ -159,7 +159,7 @@ pub record FitsBehind (part : Part) (before : List Pair) (p : Pair) : Type 0 whe
   pub fits : PairFits part p
   pub fresh : has_key p.key before ≡ false
 
--- what is read behind the length of a key
+-- what is read after the length of a key
 abbrev keyed_text : Pair → List ℕ
 keyed_text p = p.key ++ prefixed p.value
 
@@ -194,7 +194,7 @@ keyed_again part before place p at rest fits is =
 
 -- ---- a pair, or the end of the map
 
--- what was read behind these pairs
+-- what was read after these pairs
 abbrev pub PairRead : Part → List Pair → At → Option Pair × At → Type 0
 PairRead part before at (None, next) = Takes at (0 ∷ []) next
 PairRead part before at (Some p, next) = Takes at (pair_text p) next × FitsBehind part before p

@@ -15,7 +15,7 @@ use Rattle.psbt_codec.specs.Reading.{start, psbt_at, read_of}
 use Rattle.psbt_codec.proofs.Inner.{is_outer, maps_inner}
 use Rattle.psbt_codec.proofs.Readable.{psbt_takes, psbt_again, read_takes, read_again}
 
--- a fault is want of memory where it can't be another
+-- a fault is out of memory where it can't be another
 only_memory : (e : PsbtFault) → (e ≢ Memory → ⊥) → e ≡ Memory
 only_memory Magic h = absurd (h (λ e. absurd cc))
 only_memory (Truncated place) h = absurd (h (λ e. absurd cc))
@@ -50,7 +50,7 @@ psbt_faults at e is =
       | inr other ↦ let refused = rw other at is in inl (cc, other)
     ]
 
--- what a refused whole ended in: a fault before its end, or bytes behind it
+-- what a refused whole ended in: a fault before its end, or bytes after it
 whole_faults : (read : Result (PartialTransaction × At) PsbtFault) (e : PsbtFault) → whole_of (λ p. Trailing p) read ≡ Err e
     → (read ≡ Err e) ⊎ ((x : PartialTransaction × At) × (read ≡ Ok x) × (length x.1.rest ≡ 0 → ⊥) × (e ≡ Trailing x.1.place))
 whole_faults (Ok x) e is =
@@ -60,14 +60,14 @@ whole_faults (Ok x) e is =
     ]
 whole_faults (Err d) e is = let same : d ≡ e = cc in inl (ap (λ (x : PsbtFault). Err x) same)
 
--- a fault that was told, memory aside
+-- a fault that was reported, memory aside
 told : (bytes : List ℕ) (result : Result PartialTransaction PsbtFault) (e : PsbtFault) → e ≢ Memory → YieldsAll Memory (λ p. p) result (read_of bytes) → result ≡ Err e → read_of bytes ≡ Err e
 told bytes (Ok p) e other given is = absurd cc
 told bytes (Err d) e other given is =
     let same : d ≡ e = cc in
     given (λ memory. other (sym same ∙ memory)) ∙ ap (λ (x : PsbtFault). Err x) same
 
--- a fault that is told unless memory is short
+-- a fault that is reported unless memory is short
 tells : (bytes : List ℕ) (result : Result PartialTransaction PsbtFault) (e : PsbtFault) → YieldsAll Memory (λ p. p) result (read_of bytes) → read_of bytes ≡ Err e → MatchResult result (λ _. ⊥) (λ d. d ≢ Memory → d ≡ e)
 tells bytes (Ok p) e given is = absurd cc
 tells bytes (Err d) e given is = λ other. let known = given other in cc

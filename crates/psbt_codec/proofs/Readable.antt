@@ -133,7 +133,7 @@ input_again index i s pairs at rest is spent parts =
     let right : fits_input i (spent_in pairs).whole ≡ true = rw whole (parent_again i s.whole spent.whole) in
     record { next = a.next; reads = bind_is _ _ _ _ a.reads (rw right (ap (λ (k : Spent). Ok (k, a.next)) same)); left = a.left }
 
--- ---- the inputs' maps, one behind the other
+-- ---- the inputs' maps, one after the other
 
 record InputsTaken (before : List Spent) (inputs : List TxIn) (at : At) (x : List Spent × At) : Type 0 where
   pub spent : List Spent
@@ -178,7 +178,7 @@ inputs_again (i ∷ inputs) (s ∷ spent) (m ∷ maps) before at rest spent_are 
     let whole : (before ++ s ∷ []) ++ spent ≡ before ++ s ∷ spent = append_assoc before (s ∷ []) spent in
     record { next = b.next; reads = bind_is _ _ _ _ (bind_is _ _ _ _ a.reads refl) (b.reads ∙ ap (λ (l : List Spent). Ok (l, b.next)) whole); left = b.left }
 
--- ---- the outputs' maps, one behind the other
+-- ---- the outputs' maps, one after the other
 
 record OutputsTaken (outputs : List TxOut) (at : At) (x : Unit {0} × At) : Type 0 where
   pub maps : List (List Pair)

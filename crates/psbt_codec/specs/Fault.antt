@@ -1,4 +1,4 @@
--- How the faults of what stands within a PSBT are told.
+-- How the faults of what stands within a PSBT are reported.
 use Rattle.std.specs.Prelude.{ℕ}
 use Rattle.fund_base.specs.declared.cursor.CutFault.{CutFault}
 use Rattle.fund_base.specs.declared.cursor.CutFault.TheVariants as cuts

@@ -23,7 +23,7 @@ magic = 112 ∷ 115 ∷ 98 ∷ 116 ∷ 255 ∷ []
 abbrev pub typed : ℕ → List ℕ → Pair
 typed key_type value = record { key = compact key_type; value = value }
 
--- the text of a pair: the key and the value, each behind its length
+-- the text of a pair: the key and the value, each after its length
 unfoldable pub pair_text : Pair → List ℕ
 pair_text p = prefixed p.key ++ prefixed p.value
 
@@ -95,7 +95,7 @@ pub record IsPsbt (p : PartialTransaction) : Type 0 where
 abbrev pub IsString : List ℕ → Type 0
 IsString bytes = All (λ b. b < 256) bytes × (length bytes < 2 ^ 64)
 
--- A key: its type in the shortest CompactSize, and key data. Behind a type that has a meaning stand no key data.
+-- A key: its type in the shortest CompactSize, and key data. After a type that has a meaning stand no key data.
 pub record IsKey (meant : List ℕ) (key : List ℕ) : Type 0 where
   pub kind : ℕ
   pub key_data : List ℕ
@@ -146,12 +146,12 @@ pub record IsInputMap (s : Spent) (pairs : List Pair) : Type 0 where
 abbrev pub IsOutputMap : TxOut → List Pair → Type 0
 IsOutputMap o pairs = IsMap [] pairs
 
--- the magic, the global map, the inputs' maps and the outputs' maps, one behind the other
+-- the magic, the global map, the inputs' maps and the outputs' maps, one after the other
 abbrev pub spelled : List Pair → List (List Pair) → List (List Pair) → List ℕ
 spelled global inputs outputs = magic ++ (map_text global ++ (flat_map map_text inputs ++ flat_map map_text outputs))
 
--- The bytes are a PSBT of version 0 of this transaction and of what is known of the outputs that it spends: they spell a
--- global map, a map for each input and a map for each output. Pairs of other types stand there as they like.
+-- The bytes are a PSBT of version 0 of this transaction and of what is known of the outputs that it spends: they spell
+-- a global map, a map for each input and a map for each output. Pairs of other types stand there as they like.
 pub record IsReadable (bytes : List ℕ) (p : PartialTransaction) : Type 0 where
   pub psbt : IsPsbt p
   pub global : List Pair
@@ -162,7 +162,7 @@ pub record IsReadable (bytes : List ℕ) (p : PartialTransaction) : Type 0 where
   pub inputs_are : AllZip IsInputMap p.spent inputs
   pub outputs_are : AllZip IsOutputMap p.tx.outputs outputs
 
--- such bytes, and from this place on others behind them
+-- such bytes, and from this place on others after them
 pub record IsFollowed (bytes : List ℕ) (place : ℕ) : Type 0 where
   pub psbt : PartialTransaction
   pub text : List ℕ

@@ -79,7 +79,7 @@ value_fits Output place kind value = Ok tt
 abbrev pub has_key : List ℕ → List Pair → Bool
 has_key key pairs = list_any (λ (p : Pair). bytes_eq p.key key) pairs
 
--- the pair of a key of so many bytes, behind others of its map
+-- the pair of a key of so many bytes, after others of its map
 unfoldable pub keyed_at : Part → List Pair → ℕ → ℕ → At → Result (Pair × At) PsbtFault
 keyed_at part before place len at = do
   key ← cut (take_at len at)
@@ -92,7 +92,7 @@ keyed_at part before place len at = do
 abbrev pub some_pair : Pair × At → Result (Option Pair × At) PsbtFault
 some_pair read = Ok (Some read.0, read.1)
 
--- the next pair behind others of its map, or none where the map ends
+-- the next pair after others of its map, or none where the map ends
 unfoldable pub pair_at : Part → List Pair → At → Result (Option Pair × At) PsbtFault
 pair_at part before at = do
   len ← cut (compact_at at)
@@ -100,7 +100,7 @@ pair_at part before at = do
 
 -- ---- a map
 
--- what was read ends the map, or is a pair behind which reading goes on
+-- what was read ends the map, or is a pair after which reading goes on
 abbrev pub ends_or : {X : Type 0} → List Pair → (List Pair → At → Result X PsbtFault) → (List Pair → At → X) → Option Pair × At → Result X PsbtFault
 ends_or before go_on end (None, at) = Ok (end before at)
 ends_or before go_on end (Some pair, at) = go_on (before ++ pair ∷ []) at
@@ -158,7 +158,7 @@ input_at index input at = do
   pairs ← map_at Input at
   if fits_input input (spent_in pairs.0).whole then Ok (spent_in pairs.0, pairs.1) else Err (WrongParent (min index 4_294_967_295))
 
--- One part for each of a list, one behind the other, with what was read before.
+-- One part for each of a list, one after the other, with what was read before.
 unfoldable pub each_at : {S X : Type 0} → (S → X → At → Result (S × At) PsbtFault) → S → List X → At → Result (S × At) PsbtFault
 each_at part before [] at = Ok (before, at)
 each_at part before (x ∷ xs) at = do

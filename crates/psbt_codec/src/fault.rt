@@ -36,7 +36,7 @@ pub enum PsbtFault {
     /// spends, or has no output of the index that it spends. An index that doesn't fit counts as the
     /// greatest that does.
     WrongParent(u32),
-    /// Bytes stand behind the last map, from this place on.
+    /// Bytes stand after the last map, from this place on.
     Trailing(u64),
     /// The text isn't base64 with padding.
     NotBase64,

@@ -139,7 +139,7 @@ fn keyed_of<'a>(
     Ok(Pair { key, value })
 }
 
-/// The next pair behind others of its map, or none where the map ends.
+/// The next pair after others of its map, or none where the map ends.
 #[tactic(auto, unfolding(crate::specs::Reading::pair_at))]
 fn pair_of<'a>(
     alloc: Global,

@@ -41,8 +41,8 @@ fn encoded(alloc: Global, bytes: &[u8]) -> Result<String, Memory>
 }
 
 /// The bytes that the text is in base64, with the standard alphabet and padding (RFC 4648, section 4) and
-/// no bit set behind the last byte. [`PsbtFault::NotBase64`] exactly where it is no such text; no other
-/// fault comes but want of memory.
+/// no bit set after the last byte. [`PsbtFault::NotBase64`] exactly where it is no such text; no other
+/// fault comes but out of memory.
 pub fn from_text(alloc: Global, text: &[u8]) -> Result<Vec<u8>, PsbtFault>
     // What is read has this text, and the text of any bytes is read as them, memory aside.
     ensures found { IfOk result (λ bytes. text.now ≡ encode_of standard bytes.items) }

@@ -108,7 +108,7 @@ fn write_paid(alloc: Global, out: &mut Vec<u8>, paid: &Option<TxOut>) -> Result<
     }
 }
 
-/// A pair: the key and the value, each behind its length.
+/// A pair: the key and the value, each after its length.
 #[tactic(auto, unfolding(crate::specs::Psbt::pair_text))]
 fn write_pair(out: &mut Vec<u8>, key: &[u8], value: &[u8]) -> Result<(), Memory>
     ensures { OnOk result (out.new.items ≡ out.old.items ++ pair_text (record { key = key.now; value = value.now })) }

@@ -185,7 +185,7 @@ later_goes_first p is r d l b =
     let falls : (item_at p.items d).value ≤ (item_at p.items r).value = rw e at (values_fall p.items is.items r (d - r) (omega arith)) in
     elim (cases_lt (item_at p.items d).value (item_at p.items r).value) [ inl less ↦ inl less | inr more ↦ inr (omega arith, l) ]
 
--- each one behind the first places goes before each of these
+-- each one after the first places goes before each of these
 behind_goes_first : (p : PlainProblem) → IsProblem p → (all stays : List ℕ) → Rising (length p.items) 0 all → IsFront p all stays → (d r : ℕ) → Contains (drop (length stays) all) d → Contains stays r → GoesFirst p d r
 behind_goes_first p is all stays h front d r (k, lt, e) (i, less, f) =
     let m : ℕ = length stays in

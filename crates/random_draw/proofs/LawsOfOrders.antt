@@ -17,7 +17,7 @@ stands_once seed n j l = times-order seed j n ∙ once_each j 0 n (omega arith) 
 pub stands_never : (seed : List ℕ) (n j : ℕ) → n ≤ j → times j (order_of seed n) ≡ 0
 stands_never seed n j l = times-order seed j n ∙ none_above j 0 n (omega arith)
 
--- an entry behind the two that are exchanged stays
+-- an entry after the two that are exchanged stays
 swap_behind : (xs : List ℕ) (i j k : ℕ) → i < length xs → j ≤ i → i < k → get_or (swap xs i j) k 0 ≡ get_or xs k 0
 swap_behind xs i j k a b c =
     let same : get_or (swap xs i j) k 0 ≡ get_or (set (set xs i (get_or xs j 0)) j (get_or xs i 0)) k 0 = ap (λ (ys : List ℕ). get_or ys k 0) (sym (swap_is xs i j 0 a (omega arith))) in
@@ -35,7 +35,7 @@ swap_at xs i j a b =
           same ∙ (ap (λ (k : ℕ). get_or (set (set xs i (get_or xs j 0)) j (get_or xs i 0)) k 0) (sym e) ∙ (get_or-set_same (set xs i (get_or xs j 0)) j (get_or xs i 0) 0 (omega (arith, length-set xs i (get_or xs j 0))) ∙ ap (λ (k : ℕ). get_or xs k 0) (sym e)))
     ]
 
--- entries behind those that are left to exchange stay
+-- entries after those that are left to exchange stay
 stays_behind : (seed : List ℕ) (w i k : ℕ) (xs : List ℕ) → i ≤ length xs - 1 → i < k → get_or (shuffled_from seed w i xs) k 0 ≡ get_or xs k 0
 unfolding shuffled_from
 stays_behind seed w zero k xs few l = refl

@@ -21,7 +21,7 @@ pub place_later : (j k : ℕ) (ks : List ℕ) → k ≤ j → with_place j (k �
 unfolding with_place
 place_later j k ks l = if_false (nat_lt j k) (j ∷ k ∷ ks) (k ∷ with_place j ks) (grind (arith, nat_tests))
 
--- one more number adds what is reckoned of it to any sum
+-- one more number adds what is computed of it to any sum
 pub sum_by-with_place : (f : ℕ → ℕ) (j : ℕ) (ks : List ℕ) → sum_by f (with_place j ks) ≡ f j + sum_by f ks
 unfolding with_place
 sum_by-with_place f j [] = sum_by-cons f j []

@@ -72,7 +72,8 @@ pub trimmed_heavy : (p : PlainProblem) (n : ℕ) (kept : List ℕ) → p.most_we
 unfolding trimmed
 trimmed_heavy p n kept h = if_true (nat_lt p.most_weight (weight_of p kept)) (trimmed p n (one_less p kept)) kept (grind (arith, nat_tests))
 
--- rising places bring no more than so many times the greatest value, and weigh no more than so many times the greatest weight
+-- rising places bring no more than so many times the greatest value, and weigh no more than so many times the greatest
+-- weight
 pub value_most : (p : PlainProblem) → IsProblem p → (t : ℕ) (q : List ℕ) → Rising (length p.items) t q → value_of p q ≤ length q * 210_000_000_000_000_000
 value_most p is t [] h = omega arith
 value_most p is t (j ∷ q) h = omega (arith, (item_is p j is h.1).value, value_most p is (j + 1) q h.2)

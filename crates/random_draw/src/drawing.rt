@@ -31,7 +31,7 @@ fn find(alloc: Global, problem: &Problem, order: &[u32]) -> Result<Option<Places
 /// places are added in the order of [`order`]. After each addition, while the kept places weigh more than the limit,
 /// the least valuable one is dropped, on a tie the greater place. It ends as soon as the kept places reach `lo`, and
 /// answers them, rising; they are admissible for the problem. `None` is the answer where they never reach it. The
-/// error is want of memory.
+/// error is out of memory.
 pub fn draw(alloc: Global, problem: &Problem, seed: [u8; 32]) -> Result<Option<Places>, Memory>
     requires { problem.now.kind ≡ Kind.Lean }
     ensures value { IfOk result (λ found. found ≡ draw_of problem.now seed) }

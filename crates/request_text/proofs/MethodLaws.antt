@@ -6,7 +6,7 @@ use Rattle.request_text.specs.Rules.{word_of}
 use Rattle.request_text.specs.declared.request.Method.{Method}
 use Rattle.request_text.specs.declared.request.Method.TheVariants.{Auto, Changeless, Weight, Draw, Manual}
 
--- a first test that passes, or the tests behind it
+-- a first test that passes, or the tests after it
 either : (b : Bool) (k m : Method) (rest : Option Method) (word : List ℕ) → (b ≡ true → word ≡ word_of k) → (rest ≡ Some m → word ≡ word_of m) → cond b (Some k) rest ≡ Some m → word ≡ word_of m
 either true k m rest word here behind e = let same : k ≡ m = cc e in here refl ∙ ap word_of same
 either false k m rest word here behind e = behind e

@@ -1,4 +1,4 @@
--- When an entry of recipients is taken, and which fault is told of one that isn't.
+-- When an entry of recipients is taken, and which fault is reported of one that isn't.
 use Rattle.std.proofs.Common.{◌≡◌, ◌<◌, ◌≤◌, ℕ, Bool, true, false, List, [], length, nat_lt, ◌⊎◌, inl, inr, Some, Result, Ok, Err, refl, sym, ap, subst, ◌∙◌, arith}
 use Rattle.std.specs.Prelude.{◌↔◌}
 use Rattle.std.proofs.lemmas.Bool.{ltb-true, ltb-false}
@@ -189,7 +189,7 @@ first_form before d fault = (λ e. told e (kind_of before d), λ e. refused e (k
     refused e (to_script s amount is) = let none = script_form d s amount is in absurd (cc (none, e))
     refused e (of_none f reads table) = let same : f ≡ fault = cc (table, e) in reads ∙ ap (λ x. Err (Field x)) same
 
--- an entry is never told of as the list is
+-- an entry is never reported as the list is
 pub never_list : (before : List Recipient) (d : Data) (fault : Refusal) → recipient_behind before d ≡ Err fault → (fault ≡ NoRecipients) ⊎ (fault ≡ SumRange) → ⊥
 never_list before d fault e list = by (outcome before d) list
   where

@@ -15,7 +15,7 @@ use Rattle.request_text.specs.RequestText.{repeat_behind}
 abbrev AreDistinct : List OutPoint → Type 0
 AreDistinct coins = AllPairs (λ a b. a ≢ b) coins
 
--- distinct coins with one behind them that isn't among them
+-- distinct coins with one after them that isn't among them
 pushed : (front : List OutPoint) (coin : OutPoint) → AreDistinct front → list_any (same_outpoint coin) front ≡ false → AreDistinct (front ++ coin ∷ [])
 pushed front coin h new = all_pairs_push (λ a b. a ≢ b) front coin h (λ k d lt same. true≢false (sym (list_any_at (same_outpoint coin) front k d lt ((same_outpoint-Decides coin (get_or front k d)).1 (sym same))) ∙ new))
 

@@ -38,8 +38,8 @@ PaysTo d script amount =
     ((text : List ℕ) × IsToAddress d text amount × (decode_of text ≡ Ok script))
     ⊎ (IsToScript d script amount × (¬ IsNoScript script))
 
--- what is wrong with the form of an entry, in the order in which it is told: not one of the two, no object of its members,
--- then each member by itself
+-- what is wrong with the form of an entry, in the order in which it is reported: not one of the two, no object of its
+-- members, then each member by itself
 abbrev pub form_faults : Data → List (Option FieldFault)
 form_faults d =
     result_err (one_of (get (codes "address") d) (get (codes "script") d))

@@ -76,7 +76,7 @@ entry_names = codes "address" ∷ codes "script" ∷ codes "amount" ∷ []
 abbrev pub entry_required : List (List ℕ)
 entry_required = codes "amount" ∷ []
 
--- an entry behind others
+-- an entry after others
 unfoldable pub recipient_behind : List Recipient → Data → Result Recipient Refusal
 recipient_behind before d = do
   one ← field (one_of (get (codes "address") d) (get (codes "script") d))

@@ -31,7 +31,7 @@ abbrev pub Reads : Result PlainRequest RequestFault → Result PlainRequest Refu
 Reads (Ok request) reading = reading ≡ Ok request
 Reads (Err fault) reading = plain_fault fault ≢ plain.Field given.Memory → reading ≡ Err (plain_fault fault)
 
--- an address's fault has a cause other than want of memory
+-- an address's fault has a cause other than out of memory
 abbrev pub HasCause : Refusal → Type 0
 HasCause (plain.Field fault) = Unit {0}
 HasCause (plain.Address index fault) = fault ≢ AddrMemory

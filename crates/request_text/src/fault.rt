@@ -25,7 +25,7 @@ pub enum RequestFault {
     /// An object lacks this member: of several, the first in the order of its table. A `seed` is lacking only where the
     /// method is left out, or is `auto` or `draw`.
     Missing(String),
-    /// The address of the recipient at this index is none, for this cause, which never is want of memory.
+    /// The address of the recipient at this index is none, for this cause, which never is out of memory.
     Address(u32, AddrFault),
     /// The script of the recipient at this index is empty or longer than 10,000 bytes.
     Script(u32),
@@ -47,7 +47,7 @@ pub enum RequestFault {
     Memory,
 }
 
-/// The same faults, of which those that any JSON file may have are told as by the crate that reads them.
+/// The same faults, of which those that any JSON file may have are reported as by the crate that reads them.
 #[derive(Debug, Drop)]
 pub enum Refusal {
     Field(FieldFault),

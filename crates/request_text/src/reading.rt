@@ -154,7 +154,7 @@ fn request_from(alloc: Global, bytes: &[u8]) -> Result<Request, Refusal>
 /// The request that the bytes of a file are, or the first fault: the faults of JSON, then those of the whole object
 /// (its kind, the least unknown member, the first missing one), then the members in the order of the fields of
 /// [`Request`], each with its kind before its other rules. Of the recipients each entry comes with all its rules before
-/// the next; behind them come [`RequestFault::NoRecipients`] and [`RequestFault::SumRange`]. docs/FORMATS.md has each
+/// the next; after them come [`RequestFault::NoRecipients`] and [`RequestFault::SumRange`]. docs/FORMATS.md has each
 /// member with its default.
 pub fn read_request(alloc: Global, bytes: &[u8]) -> Result<Request, RequestFault>
     // The request is the file's, and a fault is the first that the file has.
@@ -164,7 +164,7 @@ pub fn read_request(alloc: Global, bytes: &[u8]) -> Result<Request, RequestFault
     ensures rules { IfOk result IsRequest }
     ensures seed { IfOk result (λ r. (d : Data) → parsed bytes.now ≡ Some d → draws r.method ≡ true → is_some (get (codes "seed") d) ≡ true) }
 
-    // Want of memory is told as such, also where an address was read.
+    // Out of memory is reported as such, also where an address was read.
     ensures cause { IfErr result (λ fault. HasCause (plain_fault fault)) }
 {
     match request_from(alloc, bytes) {

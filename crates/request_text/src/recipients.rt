@@ -112,7 +112,7 @@ fn to_script(alloc: Global, index: u32, entry: &Value) -> Result<Recipient, Refu
     paid(index, Script::new(bytes), amount)
 }
 
-/// The recipient that an entry behind others is.
+/// The recipient that an entry after others is.
 #[tactic(auto, unfolding(crate::specs::RequestText::recipient_behind))]
 fn next_recipient(alloc: Global, before: &[Recipient], entry: &Value) -> Result<Recipient, Refusal>
     ensures gives { Gives (λ r. r) result (recipient_behind before.now (view entry.now)) }

@@ -1,5 +1,5 @@
-//! The columns of rows that stored runs read: problems with their items, and places. Numbers are decimal; the items of a
-//! problem are words `VALUE/WEIGHT/COST`, in satoshi, weight units and satoshi.
+//! The columns of rows that stored runs read: problems with their items, and places. Numbers are decimal; the items of
+//! a problem are words `VALUE/WEIGHT/COST`, in satoshi, weight units and satoshi.
 #![tactic(auto)]
 
 use fund_base::Memory;
@@ -46,8 +46,8 @@ fn problem_of(items: Vec<Item>, kind: &str, lo: u64, hi: u64, most_weight: u64) 
     }
 }
 
-/// The problem of five columns: `changeless` or `lean`, the least and the greatest value, the limit of weight, the items
-/// with blanks between them (`-` for none). `None` where there can't be one.
+/// The problem of five columns: `changeless` or `lean`, the least and the greatest value, the limit of weight, the
+/// items with blanks between them (`-` for none). `None` where there can't be one.
 pub fn problem_in(alloc: Global, columns: &[&str]) -> Result<Option<Problem>, Memory> {
     let [kind, lo, hi, most_weight, items] = columns else {
         return Ok(None);
@@ -61,7 +61,8 @@ pub fn problem_in(alloc: Global, columns: &[&str]) -> Result<Option<Problem>, Me
     Ok(problem_of(items, kind, lo, hi, most_weight))
 }
 
-/// The places of a column, with blanks between them; `-` is none. A word that is no place is read as the greatest `u32`.
+/// The places of a column, with blanks between them; `-` is none. A word that is no place is read as the greatest
+/// `u32`.
 pub fn places_in(alloc: Global, column: &str) -> Result<Vec<u32>, Memory> {
     let mut places = Vec::new(alloc);
     if column == "-" {

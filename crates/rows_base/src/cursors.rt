@@ -36,7 +36,7 @@ fn step_text(alloc: Global, cursor: &mut Cursor, step: &str) -> Result<String, M
     }
 }
 
-/// What the steps give, one behind the other, over the bytes of the first word.
+/// What the steps give, one after the other, over the bytes of the first word.
 pub fn answer(alloc: Global, words: &[&str]) -> Result<String, Memory> {
     let [first, steps @ ..] = words else {
         return Ok(String::from_str(alloc, "no bytes")?);

@@ -48,7 +48,7 @@ fn spelled(alloc: Global, n: u64) -> Result<String, Memory> {
     }
 }
 
-/// A byte string behind its length.
+/// A byte string after its length.
 fn prefixed(alloc: Global, bytes: &[u8]) -> Result<String, Memory> {
     let mut out = Vec::new(alloc);
     write_prefixed(&mut out, bytes)?;

@@ -70,8 +70,8 @@ fn show_write<H: Shelf>(
     }
 }
 
-/// A file of three pieces is read in four calls, the last of them at its end. The calls numbered 4 and 9 fail: the first
-/// of the second reading, and the second of the fourth.
+/// A file of three pieces is read in four calls, the last of them at its end. The calls numbered 4 and 9 fail: the
+/// first of the second reading, and the second of the fourth.
 fn failing_reads(rt: &HostRuntime) -> io::Result<()> {
     let alloc = rt.alloc();
     println!(rt; "# the reads numbered 4 and 9 fail")?;

@@ -64,7 +64,7 @@ fn show_write<H: Shelf>(rt: &HostRuntime, shelf: &mut H, name: &str) -> io::Resu
     }
 }
 
-/// A folder in place of a file, read from its front and from behind a piece, and files that can't be written.
+/// A folder in place of a file, read from its front and from after a piece, and files that can't be written.
 fn files(rt: &HostRuntime) -> io::Result<()> {
     println!(rt; "# a folder in place of a file, and a device that is full")?;
     let mut shelf = FileShelf::new(rt);

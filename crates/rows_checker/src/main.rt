@@ -1,6 +1,7 @@
-//! Checks the logs of a table on standard input, and prints a line for each: `ok`, or the call that gives a fault and the
-//! fault with its place. A line of the table has, parted by TAB, the kind of the problem, `lo`, `hi`, the limit of weight,
-//! the items as value/weight/cost, the answer and the letters. What must be printed was worked out apart from this program.
+//! Checks the logs of a table on standard input, and prints a line for each: `ok`, or the call that gives a fault and
+//! the fault with its place. A line of the table has, parted by TAB, the kind of the problem, `lo`, `hi`, the limit of
+//! weight, the items as value/weight/cost, the answer and the letters. What must be printed was worked out apart from
+//! this program.
 #![tactic(auto)]
 
 ghost use Rattle.std.specs.Prelude.{◌≤◌};

@@ -51,7 +51,7 @@ fn read_coin(words: &[&str]) -> Option<Coin> {
     })
 }
 
-/// Puts as many coins as the word says behind the others, and tells whether it is one that says so.
+/// Puts as many coins as the word says after the others, and tells whether it is one that says so.
 fn put_coins(alloc: Global, coins: &mut Vec<Coin>, word: &str) -> Result<bool, Memory> {
     let Some((count, word)) = word.split_once('*') else {
         return Ok(false);

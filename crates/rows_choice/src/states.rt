@@ -27,7 +27,7 @@ fn digits(alloc: Global, txid: &Txid) -> Result<String, Memory> {
     Ok(format!(in alloc; "{:02x}{:02x}", bytes[31], bytes[30])?)
 }
 
-/// A letter for the state, and what it names behind it.
+/// A letter for the state, and what it names after it.
 fn state_text(alloc: Global, state: State) -> Result<String, Memory> {
     match state {
         State::Confirmed(height) => Ok(format!(in alloc; "C{height}")?),
@@ -38,7 +38,7 @@ fn state_text(alloc: Global, state: State) -> Result<String, Memory> {
     }
 }
 
-/// The states in order; behind one that is found otherwise by its txid stands a question mark. The last is that of a
+/// The states in order; after one that is found otherwise by its txid stands a question mark. The last is that of a
 /// txid which no payment has: `-` where there is none.
 fn states_text(alloc: Global, states: &States) -> Result<String, Memory> {
     let mut text = String::new(alloc);

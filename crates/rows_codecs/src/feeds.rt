@@ -11,14 +11,14 @@ use tx_codec::{txid, weight};
 /// The name of the block file.
 const FILE: &str = "blocks";
 
-/// The block behind which a file begins.
+/// The block after which a file begins.
 #[derive(Clone, Copy)]
 struct Before {
     hash: [u8; 32],
     height: u32,
 }
 
-/// The blocks of a file, what comes behind them, and what the next call answers.
+/// The blocks of a file, what comes after them, and what the next call answers.
 #[derive(Drop)]
 struct Reading {
     blocks: Vec<Block>,
@@ -175,7 +175,7 @@ fn read_file(
     }
 }
 
-/// What is told of it: for `tip` the last block, for `weights` the transactions of the first, else each block.
+/// What is printed of it: for `tip` the last block, for `weights` the transactions of the first, else each block.
 fn reading_text(
     alloc: Global,
     verb: &str,
@@ -189,7 +189,8 @@ fn reading_text(
     }
 }
 
-/// The answer to a verb and its words: hash and height before the file, for `feed` the sizes of its pieces, and the file.
+/// The answer to a verb and its words: hash and height before the file, for `feed` the sizes of its pieces, and the
+/// file.
 pub fn answer(alloc: Global, verb: &str, words: &[&str]) -> Result<String, RowError> {
     let [hash, height, words @ ..] = words else {
         return Err(RowError::Form);

@@ -27,7 +27,7 @@ fn answer_of(alloc: Global, verb: &str, words: &[&str]) -> Result<String, RowErr
     }
 }
 
-/// The answer to a line. All behind the verb `address` is the address, blanks too.
+/// The answer to a line. All after the verb `address` is the address, blanks too.
 fn answer(alloc: Global, line: &str) -> Result<String, RowError> {
     let Some((verb, rest)) = line.split_once(' ') else {
         return Ok(String::from_str(alloc, line)?);

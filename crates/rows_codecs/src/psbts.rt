@@ -75,7 +75,7 @@ fn armored(alloc: Global, bytes: &[u8]) -> Result<String, RowError> {
     Ok(String::from_utf8_lossy(alloc, text.as_slice())?)
 }
 
-/// The PSBT, in base64, of a transaction of one input that is made of words, behind value and script of the output that
+/// The PSBT, in base64, of a transaction of one input that is made of words, after value and script of the output that
 /// it spends.
 fn unsigned(alloc: Global, words: &[&str]) -> Result<String, RowError> {
     let [value, script, words @ ..] = words else {

@@ -39,7 +39,7 @@ fn whole(alloc: Global, bytes: &[u8]) -> Result<String, RowError> {
     Ok(text)
 }
 
-/// The transaction at a cursor, and the place behind it.
+/// The transaction at a cursor, and the place after it.
 fn next_text(alloc: Global, cursor: &mut Cursor) -> Result<String, RowError> {
     let read = read_tx(alloc, cursor);
     let told = read_text(alloc, &read)?;
@@ -47,7 +47,7 @@ fn next_text(alloc: Global, cursor: &mut Cursor) -> Result<String, RowError> {
     Ok(format!(in alloc; "{told} place {place}")?)
 }
 
-/// Three transactions, one behind the other, each with the place behind it.
+/// Three transactions, one after the other, each with the place after it.
 fn three(alloc: Global, bytes: &[u8]) -> Result<String, RowError> {
     let mut cursor = Cursor::new(bytes);
     let first = next_text(alloc, &mut cursor)?;
@@ -127,7 +127,7 @@ fn texts(alloc: Global, tx: &Tx) -> Result<String, RowError> {
     Ok(format!(in alloc; "whole {whole} bare {bare} output {paid}")?)
 }
 
-/// What is told of a transaction that is made of words, and of its copy.
+/// What is printed of a transaction that is made of words, and of its copy.
 fn made_text(alloc: Global, words: &[&str]) -> Result<String, RowError> {
     let tx = made(alloc, words)?;
     let copy = tx.copy(alloc)?;

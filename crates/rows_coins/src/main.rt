@@ -15,7 +15,7 @@ use wallet_text::{Wallet, read_wallet};
 /// The greatest length of a wallet file, in bytes.
 const LIMIT: usize = 16_777_216;
 
-/// Adds the blocks of the file `name`, which stand behind the wallet's height, up to the first fault of either kind.
+/// Adds the blocks of the file `name`, which stand after the wallet's height, up to the first fault of either kind.
 fn add_blocks<H: Shelf>(
     alloc: Global,
     shelf: &mut H,
@@ -103,7 +103,7 @@ fn maker_text(alloc: Global, book: &Book, coin: &OutPoint) -> io::Result<String>
     Ok(format!(in alloc; "height {} outputs {}", height, outputs)?)
 }
 
-/// A coin with its figures, and what is told of its transaction.
+/// A coin with its figures, and what is printed of its transaction.
 fn coin_text(alloc: Global, book: &Book, coin: &Coin) -> io::Result<String> {
     let point = point_text(alloc, &coin.coin)?;
     let figures = figures_text(alloc, coin)?;

@@ -1,4 +1,4 @@
-//! Keeps jobs in memory, surely and with failures that are told beforehand, and prints what each call answers. What
+//! Keeps jobs in memory, surely and with failures that are set beforehand, and prints what each call answers. What
 //! it must print was worked out by hand.
 #![tactic(auto)]
 

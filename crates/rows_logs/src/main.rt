@@ -1,8 +1,8 @@
-//! Reads each line of its input as a log's text, in which `\n`, `\t` and `\\` are a line feed, a tab and a backslash, `\xHH`
-//! is the byte HH, and `-` alone is the empty text. It prints the log, or where the text leaves the grammar and how many
-//! sections stand before that place. Behind a log stands the text that is written of it, where that is another one, and the
-//! last three bytes of a log that goes on, written as what stands behind the others. Then come the readers and writers of
-//! words, numbers, places and digests. What it must print was worked out apart from this program.
+//! Reads each line of its input as a log's text, in which `\n`, `\t` and `\\` are a line feed, a tab and a backslash,
+//! `\xHH` is the byte HH, and `-` alone is the empty text. It prints the log, or where the text leaves the grammar and
+//! how many sections stand before that place. After a log stands the text that is written of it, where that is another
+//! one, and the last three bytes of a log that goes on, written as what stands after the others. Then come the readers
+//! and writers of words, numbers, places and digests. What it must print was worked out apart from this program.
 #![tactic(auto)]
 
 mod calls;

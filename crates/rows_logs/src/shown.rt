@@ -39,7 +39,7 @@ fn push_answer(alloc: Global, out: &mut String, answer: &Option<Places>) -> Resu
     Ok(())
 }
 
-/// The sections, each with `; ` behind it, and `end` or the open section.
+/// The sections, each with `; ` after it, and `end` or the open section.
 pub(crate) fn push_log(alloc: Global, out: &mut String, log: &LogText) -> Result<(), Memory> {
     for section in &log.closed {
         push_search(

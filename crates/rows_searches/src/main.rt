@@ -1,13 +1,13 @@
 //! Reads rows, each a verb and its columns with tabs between them, and prints what each search comes to. What it must
 //! print was worked out apart from this program.
 //!
-//! - `walk KIND LO HI WEIGHT ITEMS TRIES`: after the last of the numbers of tries whether the walk is done, its best, that
-//!   one's score, the tries that were made, and the letters; where it stands after each of them, made in pieces; and at
-//!   how many of these positions a walk that is restored there goes on to the same end
-//! - `tails KIND LO HI WEIGHT ITEMS`: of each place and the one behind the last, the later value and the least weight, and
-//!   of each place the end of its run of twins
-//! - `restore KIND LO HI WEIGHT ITEMS CHOSEN NEXT BEST TRIES STATE LETTERS`: what a walk that is restored there comes to in
-//!   1,000 tries, or that there is none
+//! - `walk KIND LO HI WEIGHT ITEMS TRIES`: after the last of the numbers of tries whether the walk is done, its best,
+//!   that one's score, the tries that were made, and the letters; where it stands after each of them, made in pieces;
+//!   and at how many of these positions a walk that is restored there goes on to the same end
+//! - `tails KIND LO HI WEIGHT ITEMS`: of each place and the one after the last, the later value and the least weight,
+//!   and of each place the end of its run of twins
+//! - `restore KIND LO HI WEIGHT ITEMS CHOSEN NEXT BEST TRIES STATE LETTERS`: what a walk that is restored there comes
+//!   to in 1,000 tries, or that there is none
 #![tactic(auto)]
 
 mod tails;

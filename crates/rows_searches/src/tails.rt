@@ -6,7 +6,7 @@ use fund_base::Memory;
 use pick_problem::{Problem, Tails};
 use std::alloc::Global;
 
-/// The later value and the least weight of a place or of the one behind the last.
+/// The later value and the least weight of a place or of the one after the last.
 fn place_text(alloc: Global, tails: &Tails, t: u32) -> Result<String, Memory>
     requires { t < length tails.now }
 {

@@ -66,8 +66,8 @@ fn goes_on(
     Ok(again.tokens() == all.tokens() && again.best() == all.best())
 }
 
-/// A search that is given tries in pieces: the text of the positions so far, the tries granted, and at how many positions
-/// a search that is restored there goes on to the same end.
+/// A search that is given tries in pieces: the text of the positions so far, the tries granted, and at how many
+/// positions a search that is restored there goes on to the same end.
 #[derive(Drop)]
 struct Pieces {
     text: String,
@@ -90,7 +90,8 @@ fn piece(alloc: Global, pieces: &mut Pieces, budget: u64) -> Result<Position, Me
     Ok(position)
 }
 
-/// The positions of a search at these numbers of tries, in pieces, and at how many of them it goes on as it does at once.
+/// The positions of a search at these numbers of tries, in pieces, and at how many of them it goes on as it does at
+/// once.
 fn pieces_text(alloc: Global, problem: &Problem, budgets: &[u64]) -> Result<String, Memory> {
     let last = last_of(budgets);
     let all = whole(alloc, problem, last)?;

@@ -31,7 +31,7 @@ fn choices(alloc: Global, request: &Request) -> Result<String, Memory> {
     )?)
 }
 
-/// What the request asks for: all but what its lists hold, of which the lengths are told.
+/// What the request asks for: all but what its lists hold, of which the lengths are printed.
 fn members(alloc: Global, request: &Request) -> Result<String, Memory> {
     let numbers = numbers(alloc, request)?;
     let choices = choices(alloc, request)?;

@@ -18,7 +18,7 @@ use Rattle.segwit_addr.proofs.Regrouped.{bytes_small, length_bytes, values_of_by
 use Rattle.segwit_addr.proofs.Rules.{not_so, is_missized, sized_from, sized_test, case_decides, is_short, short_decides, has_stranger, stranger_decides, printable_from, is_unsealed, sealed_decides, either_sum, foreign_decides, size_decides}
 use Rattle.segwit_addr.proofs.Separators.{ends_of, behind_none, split_reads}
 
--- a test found something, or what stands behind it was refused
+-- a test found something, or what stands after it was refused
 tested : {A : Type 0} (b : Bool) (d e : AddrFault) (r : Result A AddrFault) → cond b (Err d) r ≡ Err e → ((b ≡ true) × (d ≡ e)) ⊎ ((b ≡ false) × (r ≡ Err e))
 tested true d e r is = inl (refl, cc)
 tested false d e r is = inr (refl, is)

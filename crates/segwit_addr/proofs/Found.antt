@@ -73,7 +73,7 @@ versioned_found values sum script small h =
       gives = program_found (slice_index values 0) (drop 1 values) script (ltb-false 16 (slice_index values 0) above.0) (All-drop (λ (v : ℕ). v < 32) 1 values small) other.1;
     }
 
--- the script is that of what stands before and behind the separator
+-- the script is that of what stands before and after the separator
 record Spelled (prefix letters script : List ℕ) : Type 0 where
   network : prefix ≡ codes "bc"
   address : encode_of script ≡ Some (codes "bc1" ++ letters)

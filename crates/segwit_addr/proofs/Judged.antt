@@ -112,7 +112,7 @@ some_version sum version either =
 versioned_reads : (text : List ℕ) (version : ℕ) (program : List ℕ) → IsVersioned text version program → decode_of text ≡ program_at version program
 versioned_reads text version program is = says_reads text is.sum version program is.says ∙ own_read is.sum version program is.own
 
--- ---- where a text breaks a rule, that fault is told
+-- ---- where a text breaks a rule, that fault is reported
 
 mixed_told : (text : List ℕ) → IsMixed text → decode_of text ≡ Err Case
 unfolding decode_of

@@ -21,7 +21,7 @@ bit_below : (width : ℕ) (items : List ℕ) (place : ℕ) → bit_of width item
 unfolding bit_of
 bit_below width items place = omega arith
 
--- behind the end of the row
+-- after the end of the row
 bit_past : (width : ℕ) (items : List ℕ) (place : ℕ) → length items ≤ place / width → bit_of width items place ≡ 0
 bit_past width items place past =
     bit_is width items place (place / width) (place % width) refl refl
@@ -105,7 +105,7 @@ byte_bit values at j low =
 pub length_bytes : (values : List ℕ) → length (bytes_of values) ≡ size_of values
 length_bytes values = length-map-range_with_len (λ (i : ℕ). eight_bits values (8 * i)) 0 (size_of values)
 
--- what is left over behind the bytes are fewer than five bits, all zero
+-- what is left over after the bytes are fewer than five bits, all zero
 record IsPadded (values : List ℕ) : Type 0 where
   few : left_over values < 5
   none : padding_of values ≡ 0

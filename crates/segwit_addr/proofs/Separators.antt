@@ -30,7 +30,7 @@ from_one prefix letters j m e =
     let behind : j - length prefix ≡ m = omega (arith, e) in
     get_or-append_right prefix (49 ∷ letters) (length prefix) j 0 refl (omega (arith, e)) ∙ ap (λ (i : ℕ). get_or (49 ∷ letters) i 0) behind
 
--- a `1` behind which none stands is the last one
+-- a `1` after which none stands is the last one
 pub behind_one : (prefix letters : List ℕ) → All (λ c. c ≢ 49) letters → behind_last (prefix ++ 49 ∷ letters) ≡ Some (length letters)
 behind_one prefix letters none =
     let text : List ℕ = prefix ++ 49 ∷ letters in
@@ -56,7 +56,7 @@ behind_none text none =
     let place : position_or_len is_one (reverse text) ≡ n = position_or_len_is is_one (reverse text) n 0 (omega arith) other (λ lt. absurd (omega (arith, lt))) in
     ap (λ (b : Bool). cond b (Some (position_or_len is_one (reverse text))) None) (le-ltb _ _ (omega (arith, place)))
 
--- what stands before the last one and behind it, where there is one
+-- what stands before the last one and after it, where there is one
 pub record Ends (text : List ℕ) : Type 0 where
   pub prefix : List ℕ
   pub letters : List ℕ

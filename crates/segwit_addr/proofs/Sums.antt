@@ -26,7 +26,7 @@ moved_up : (a p : ℕ) → bit_xor a p * 32 ≡ bit_xor (a * 32) (p * 32)
 moved_up a p = let e : bit_xor (a * 2 ^ 5 + 0) (p * 2 ^ 5 + 0) ≡ bit_xor a p * 2 ^ 5 + 0 = xor_block 5 a p 0 0 (omega arith) (omega arith) in
     sym (add-zero _) ∙ sym e ∙ (λ i. bit_xor (add-zero (a * 32) i) (add-zero (p * 32) i))
 
--- five bits behind those that were moved up
+-- five bits after those that were moved up
 put_behind : (p v : ℕ) → v < 32 → bit_xor (p * 32) v ≡ p * 32 + v
 put_behind p v low = let e : bit_xor (p * 2 ^ 5 + 0) (0 * 2 ^ 5 + v) ≡ bit_xor p 0 * 2 ^ 5 + bit_xor 0 v = xor_block 5 p 0 0 v (omega arith) low in
     (λ i. bit_xor (sym (add-zero (p * 32)) i) (sym (zero-add v) i)) ∙ e ∙ ap (λ (x : ℕ). x * 32 + v) (xor_zero_r p)
@@ -42,7 +42,7 @@ step_is : (sum value : ℕ) → polymod_step sum value ≡ bit_xor (bit_xor (sum
 unfolding polymod_step brought_in
 step_is sum value = simp xor_assoc
 
--- what stands in the low bits of the sum, which have not left yet, moves up, and the value comes behind it
+-- what stands in the low bits of the sum, which have not left yet, moves up, and the value comes after it
 step_moved : (sum p value : ℕ) → p < 2 ^ 25 → value < 32 → polymod_step (bit_xor sum p) value ≡ bit_xor (polymod_step sum 0) (p * 32 + value)
 step_moved sum p value low small =
     let none : p / 2 ^ 25 ≡ 0 = omega arith in

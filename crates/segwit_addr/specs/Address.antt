@@ -8,7 +8,7 @@ use Rattle.segwit_addr.specs.Regrouping.{values_of}
 
 -- ---- scripts
 
--- A program of so many bytes may not stand behind the version: all have 2 to 40, and at version 0 they have
+-- A program of so many bytes may not stand after the version: all have 2 to 40, and at version 0 they have
 -- 20 or 32.
 abbrev pub is_refused : ℕ → ℕ → Bool
 is_refused version size =

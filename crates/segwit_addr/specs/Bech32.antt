@@ -5,7 +5,7 @@ use Rattle.std.specs.Prelude.{ℕ, Option, List, [], ◌∷◌, ◌++◌, ◌*�
 unfoldable pub generator_at : ℕ → ℕ → ℕ → ℕ
 generator_at top bit generator = if top / 2 ^ bit % 2 == 1 then generator else 0
 
--- one value of five bits behind those that the checksum was taken of: with it the remainder moves up by
+-- one value of five bits after those that the checksum was taken of: with it the remainder moves up by
 -- five bits, and each bit that leaves it brings in a generator
 unfoldable pub polymod_step : ℕ → ℕ → ℕ
 polymod_step sum value =

@@ -38,15 +38,15 @@ pub record IsSplit (text prefix letters : List ℕ) : Type 0 where
   pub parts : text ≡ prefix ++ 49 ∷ letters
   pub last : All (λ c. c ≢ 49) letters
 
--- It is plain, and in lower case these two stand before the last `1` and behind it: the first isn't empty, and the second has
--- seven characters or more.
+-- It is plain, and in lower case these two stand before the last `1` and after it: the first isn't empty, and the
+-- second has seven characters or more.
 pub record IsParted (text prefix letters : List ℕ) : Type 0 where
   pub plain : IsPlain text
   pub split : IsSplit (map to_ascii_lowercase text) prefix letters
   pub some : prefix ≢ []
   pub enough : 7 ≤ char_count letters
 
--- nothing stands before the last `1` of a text, or fewer than seven characters behind it
+-- nothing stands before the last `1` of a text, or fewer than seven characters after it
 pub record IsShort (text : List ℕ) : Type 0 where
   pub prefix : List ℕ
   pub letters : List ℕ
@@ -105,7 +105,8 @@ pub record IsForeign (text : List ℕ) : Type 0 where
   pub sealed : IsSealed text prefix values sum
   pub other : prefix ≢ codes "bc"
 
--- It is sealed, of Bitcoin's main network, and says a version and the values of a program, behind which six values stand.
+-- It is sealed, of Bitcoin's main network, and says a version and the values of a program, after which six values
+-- stand.
 pub record Says (text : List ℕ) (sum version : ℕ) (program : List ℕ) : Type 0 where
   pub last : List ℕ
   pub sealed : IsSealed text (codes "bc") (version ∷ (program ++ last)) sum

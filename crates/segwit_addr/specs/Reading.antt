@@ -8,7 +8,7 @@ use Rattle.segwit_addr.specs.Address.{is_mixed, is_refused, version_byte, sum_of
 use Rattle.segwit_addr.specs.declared.fault.AddrFault.{AddrFault}
 use Rattle.segwit_addr.specs.declared.fault.AddrFault.TheVariants.{Case, Separator, Letter, Checksum, Network, Version, Length, Padding}
 
--- how many bytes stand behind the last `1`
+-- how many bytes stand after the last `1`
 abbrev pub behind_last : List ℕ → Option ℕ
 behind_last text = position (λ c. c == 49) (reverse text)
 
@@ -24,7 +24,7 @@ has_outsider prefix = list_any (λ c. nat_lt c 33 || nat_lt 126 c) prefix
 unfoldable pub has_unknown : List ℕ → Bool
 has_unknown values = list_any (λ v. nat_le 32 v) values
 
--- behind the last whole byte of these values stand five bits or more, or one that is not zero
+-- after the last whole byte of these values stand five bits or more, or one that is not zero
 abbrev pub is_badly_padded : List ℕ → Bool
 is_badly_padded values = nat_le 5 (left_over values) || not (padding_of values == 0)
 
@@ -43,7 +43,7 @@ versioned_at values sum =
     else if not (sum == sum_of (slice_index values 0)) then Err Version
     else program_at (slice_index values 0) (drop 1 values)
 
--- the script of a human-readable part and the values of all letters behind the separator, or what is
+-- the script of a human-readable part and the values of all letters after the separator, or what is
 -- wrong with them
 unfoldable pub summed_at : List ℕ → List ℕ → Result (List ℕ) AddrFault
 summed_at prefix values =
@@ -51,14 +51,14 @@ summed_at prefix values =
     else if not (bytes_eq prefix (codes "bc")) then Err Network
     else versioned_at (take (length values - 6) values) (polymod (expanded prefix ++ values))
 
--- the script of what stands before the separator and of what stands behind it, or what is wrong with them
+-- the script of what stands before the separator and of what stands after it, or what is wrong with them
 unfoldable pub parts_at : List ℕ → List ℕ → Result (List ℕ) AddrFault
 parts_at prefix letters =
     if length prefix == 0 || nat_lt (char_count letters) 7 then Err Separator
     else if has_outsider prefix || has_unknown (map value_of letters) then Err Letter
     else summed_at prefix (map value_of letters)
 
--- the script of a text behind whose last `1` so many bytes stand, or what is wrong with it
+-- the script of a text after whose last `1` so many bytes stand, or what is wrong with it
 abbrev pub split_at : List ℕ → Option ℕ → Result (List ℕ) AddrFault
 split_at text None = Err Separator
 split_at text (Some behind) = parts_at (take (length text - behind - 1) text) (drop (length text - behind) text)

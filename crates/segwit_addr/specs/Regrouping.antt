@@ -1,8 +1,9 @@
--- Rows of bits: those of items of some width, each from its highest bit on, cut anew (BIP 173, 'Segwit address format').
+-- Rows of bits: those of items of some width, each from its highest bit on, cut anew (BIP 173, 'Segwit address
+-- format').
 use Rattle.std.specs.Prelude.{ℕ, List, map, ◌+◌, ◌-◌, ◌*◌, ◌/◌, ◌%◌, ◌^◌, length, slice_index}
 use Rattle.std.specs.List.{range_with_len}
 
--- the bit at a place of the row, and 0 behind its end
+-- the bit at a place of the row, and 0 after its end
 unfoldable pub bit_of : ℕ → List ℕ → ℕ → ℕ
 bit_of width items place = slice_index items (place / width) / 2 ^ (width - 1 - place % width) % 2
 
@@ -25,7 +26,7 @@ size_of values = length values * 5 / 8
 abbrev pub bytes_of : List ℕ → List ℕ
 bytes_of values = map (λ i. eight_bits values (8 * i)) (range_with_len 0 (size_of values))
 
--- the number of bits that are left over behind those bytes
+-- the number of bits that are left over after those bytes
 abbrev pub left_over : List ℕ → ℕ
 left_over values = length values * 5 % 8
 
@@ -33,6 +34,6 @@ left_over values = length values * 5 % 8
 abbrev pub padding_of : List ℕ → ℕ
 padding_of values = slice_index values (length values - 1) % 2 ^ left_over values
 
--- the values of the row of these bytes, with zeros behind it to fill the last
+-- the values of the row of these bytes, with zeros after it to fill the last
 abbrev pub values_of : List ℕ → List ℕ
 values_of bytes = map (λ i. five_bits bytes (5 * i)) (range_with_len 0 ((length bytes * 8 + 4) / 5))

@@ -37,7 +37,7 @@ fn checksum_step(sum: u32, value: u8) -> u32
         ^ generator(top, 4, 0x2a14_62b3)
 }
 
-/// The checksum of a human-readable part and of the values behind the separator.
+/// The checksum of a human-readable part and of the values after the separator.
 #[tactic(auto, using(crate::proofs::Folds::parts))]
 pub(crate) fn checksum(prefix: &[u8], values: &[u8]) -> u32
     ensures { result ≡ polymod (expanded prefix.now ++ values.now) }

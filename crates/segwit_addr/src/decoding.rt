@@ -62,7 +62,7 @@ fn has_lower_case(text: &[u8]) -> bool
     text.iter().any(|c| c.is_ascii_lowercase())
 }
 
-/// How many bytes stand behind the last `1`. None exactly where there is none.
+/// How many bytes stand after the last `1`. None exactly where there is none.
 fn count_behind(text: &[u8]) -> Option<usize>
     ensures value { result ≡ behind_last text.now }
     ensures most { IfSome result (λ n. n + 1 ≤ length text.now) }
@@ -116,7 +116,7 @@ fn values_of_letters(alloc: Global, letters: &[u8]) -> Result<Vec<u8>, AllocErro
     letters.iter().map(|c| value(*c)).collect(alloc)
 }
 
-/// The script of what stands before the separator and what stands behind it.
+/// The script of what stands before the separator and what stands after it.
 #[tactic(auto, unfolding(crate::specs::Reading::parts_at))]
 fn script_of_parts(alloc: Global, prefix: &[u8], letters: &[u8]) -> Result<Script, AddrFault>
     requires { length letters.now ≤ 90 }
@@ -132,7 +132,7 @@ fn script_of_parts(alloc: Global, prefix: &[u8], letters: &[u8]) -> Result<Scrip
     script_of_summed(alloc, prefix, values.as_slice())
 }
 
-/// The script of a human-readable part and the values of all letters behind the separator.
+/// The script of a human-readable part and the values of all letters after the separator.
 #[tactic(auto, unfolding(crate::specs::Reading::summed_at))]
 fn script_of_summed(alloc: Global, prefix: &[u8], values: &[u8]) -> Result<Script, AddrFault>
     requires least { 7 ≤ length values.now }
@@ -163,7 +163,7 @@ fn script_of_values(alloc: Global, values: &[u8], sum: u32) -> Result<Script, Ad
     script_of_program(alloc, version, &values[1..])
 }
 
-/// Whether the bits behind the last whole byte of these values are five or more, or not all zero.
+/// Whether the bits after the last whole byte of these values are five or more, or not all zero.
 fn has_bad_padding(values: &[u8]) -> bool
     requires { length values.now ≤ 90 }
     ensures { result ≡ is_badly_padded values.now }

@@ -11,9 +11,9 @@ use std::alloc::{AllocError, AllocFailed};
 pub enum AddrFault {
     /// It has both an upper case and a lower case letter of ASCII.
     Case,
-    /// There is no `1`, or nothing before the last one, or there are fewer than seven characters behind it.
+    /// There is no `1`, or nothing before the last one, or there are fewer than seven characters after it.
     Separator,
-    /// A character before the separator is not in 33 to 126, or one behind it is not in the alphabet.
+    /// A character before the separator is not in 33 to 126, or one after it is not in the alphabet.
     Letter,
     /// The checksum is neither that of bech32 nor that of bech32m.
     Checksum,
@@ -23,7 +23,7 @@ pub enum AddrFault {
     Version,
     /// The text has fewer than 8 bytes or more than 90, or the program not 2 to 40, or at version 0 neither 20 nor 32.
     Length,
-    /// Five bits or more are left over behind the program's bytes, or one that is not zero.
+    /// Five bits or more are left over after the program's bytes, or one that is not zero.
     Padding,
     /// There was not enough memory.
     Memory,

@@ -10,7 +10,8 @@ ghost use Rattle.segwit_addr.specs.declared.fault.AddrFault.{AddrFault};
 ghost use Rattle.segwit_addr.specs.Bech32.{checksum_of, expanded, polymod};
 ghost use Rattle.segwit_addr.specs.Regrouping.{bytes_of, values_of};
 
-/// Two addresses of one script differ in the case of letters alone, and a text is an address of one script at most.
+/// The law of unique addresses: two addresses of one script differ in the case of letters alone, and a text is an
+/// address of one script at most.
 #[tactic(auto, using(crate::proofs::Addresses::one_text, crate::proofs::Addresses::one_script))]
 pub fn addresses_are_unique()
     ensures text { (first second script : List ℕ) → IsAddress first script → IsAddress second script →
@@ -18,14 +19,15 @@ pub fn addresses_are_unique()
     ensures script { (text first second : List ℕ) → IsAddress text first → IsAddress text second → first ≡ second }
 {}
 
-/// The checksum of a whole address is the constant of its version: that of bech32 at version 0, and else that of bech32m.
+/// The law of whole addresses: the checksum of one is the constant of its version, that of bech32 at version 0, and
+/// else that of bech32m.
 #[tactic(auto, using(crate::proofs::Addresses::address_sum))]
 pub fn addresses_check()
     ensures { (text script : List ℕ) → IsAddress text script →
         sum_in (map to_ascii_lowercase text) ≡ sum_of (version_of (slice_index script 0)) }
 {}
 
-/// The six values of a checksum give the whole row the constant that is asked for, and no other six do.
+/// The law of checksums: the six values of one give the whole row the constant that is asked for, and no other six do.
 #[tactic(auto, using(crate::proofs::Sums::checksum_reaches, crate::proofs::Sums::checksum_found))]
 pub fn checksums_are_unique()
     ensures reaches { (prefix values : List ℕ) (constant : ℕ) → constant < 2 ^ 30 →
@@ -34,8 +36,8 @@ pub fn checksums_are_unique()
         polymod (expanded prefix ++ (values ++ last)) ≡ constant → checksum_of prefix values constant ≡ last }
 {}
 
-/// Bytes regrouped into values of five bits are well padded, and regrouped back they are as before; so are values that are
-/// well padded.
+/// The law of regrouping: bytes regrouped into values of five bits are well padded, and regrouped back they are as
+/// before; so are values that are well padded.
 #[tactic(auto, using(crate::proofs::Regrouped::bytes_of_values, crate::proofs::Regrouped::values_of_bytes, crate::proofs::Regrouped::values_padded))]
 pub fn programs_regroup()
     ensures bytes { (bytes : List ℕ) → IsBytes bytes → bytes_of (values_of bytes) ≡ bytes }
@@ -43,8 +45,8 @@ pub fn programs_regroup()
     ensures values { (values : List ℕ) → All (λ v. v < 32) values → IsFalse (is_badly_padded values) → values_of (bytes_of values) ≡ values }
 {}
 
-/// What [`decode`](crate::decode) answers, in the words of the text: a script exactly where the text is an address of it, and
-/// each fault exactly where its rule is the first that the text breaks.
+/// The law of [`decode`](crate::decode): it answers a script exactly where the text is an address of it, and each fault
+/// exactly where its rule is the first that the text breaks.
 pub fn judges_texts()
     ensures script { (text script : List ℕ) → decode_of text ≡ Ok script ↔ IsAddress text script }
     ensures fault { (text : List ℕ) (fault : AddrFault) → decode_of text ≡ Err fault ↔ Breaks text fault }

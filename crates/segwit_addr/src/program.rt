@@ -8,7 +8,7 @@ ghost use Rattle.segwit_addr.specs.Regrouping.{bit_of, eight_bits, five_bits, by
 use crate::bech32::{BECH32, BECH32M};
 use std::alloc::{AllocError, Global};
 
-/// The bit at a place of a row of items of `width` bits, each from its highest bit on; 0 behind the row's end.
+/// The bit at a place of a row of items of `width` bits, each from its highest bit on; 0 after the row's end.
 #[tactic(auto, unfolding(crate::specs::Regrouping::bit_of))]
 fn bit(width: usize, items: &[u8], place: usize) -> u8
     requires some { 0 < width }
@@ -50,7 +50,7 @@ fn value_at(bytes: &[u8], at: usize) -> u8
         + bit(8, bytes, at + 4)
 }
 
-/// The bytes that the bits of these values fill, behind `first`.
+/// The bytes that the bits of these values fill, after `first`.
 #[tactic(auto, using(crate::proofs::Rows::row_none, crate::proofs::Rows::row_more))]
 pub(crate) fn push_bytes(bytes: &mut Vec<u8>, values: &[u8]) -> Result<(), AllocError>
     requires { length values.now ≤ 1_000 }
@@ -62,7 +62,7 @@ pub(crate) fn push_bytes(bytes: &mut Vec<u8>, values: &[u8]) -> Result<(), Alloc
     Ok(())
 }
 
-/// The values of the bits of these bytes, put behind those in `values`; zeros fill the last.
+/// The values of the bits of these bytes, put after those in `values`; zeros fill the last.
 #[tactic(auto, using(crate::proofs::Rows::row_none, crate::proofs::Rows::row_more))]
 pub(crate) fn push_values(values: &mut Vec<u8>, bytes: &[u8]) -> Result<(), AllocError>
     requires { length bytes.now ≤ 1_000 }
@@ -74,7 +74,7 @@ pub(crate) fn push_values(values: &mut Vec<u8>, bytes: &[u8]) -> Result<(), Allo
     Ok(())
 }
 
-/// Whether a program of `size` bytes may not stand behind the version: all have 2 to 40, and at version 0 they have
+/// Whether a program of `size` bytes may not stand after the version: all have 2 to 40, and at version 0 they have
 /// 20 or 32.
 pub(crate) fn is_refused_size(version: u8, size: usize) -> bool
     ensures { result ≡ is_refused version size }

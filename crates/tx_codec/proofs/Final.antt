@@ -1,4 +1,4 @@
--- A transaction's fault doesn't depend on the bytes behind the text, unless it says that they are missing.
+-- A transaction's fault doesn't depend on the bytes after the text, unless it says that they are missing.
 use Rattle.std.proofs.Common.{◌≡◌, ℕ, ◌==◌, cond, List, [], ◌∷◌, ◌++◌, Result, Ok, Err, refl, sym, ap, ◌∙◌, inl, inr}
 use Rattle.std.specs.Int.{w32, w64}
 use Rattle.std.proofs.lemmas.List.{append-nil}
@@ -102,7 +102,7 @@ segregated_longer more version at =
     then IsCut more _ _ _ _ (told more _ _ (take_longer 1 more at)) (λ a.
     pick IsCut more _ _ _ _ _ (witnessed_longer more version a.1) (refused IsCut more BadFlag))
 
--- behind the version, in one form or the other
+-- after the version, in one form or the other
 abbrev formed_at : ℕ → At → Result (Transaction × At) TxFault
 formed_at version at = cond (is_marked at.rest) (segregated_at version (after 1 at)) (legacy_at version at)
 
@@ -149,7 +149,7 @@ none_by item Is laws carries bytes fault e whole more tx rest fits is =
     let a = laws.again tx (start (bytes ++ more)) rest fits is in
     apart (item (start (bytes ++ more))) (tx, a.next) fault a.reads (final_by item carries bytes more fault e whole)
 
--- a list with another behind it is empty only where both are
+-- a list with another after it is empty only where both are
 pub no_more : (xs more : List ℕ) → xs ++ more ≡ [] → more ≡ []
 no_more [] more e = e
 no_more (x ∷ xs) more e = absurd cc

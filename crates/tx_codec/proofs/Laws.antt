@@ -18,9 +18,9 @@ use Rattle.tx_codec.specs.TransactionText.{input_text, output_text, stack_text, 
 use Rattle.tx_codec.proofs.LawsOfParts.{number32, bytes, BareFits, InputsFit, inputs_reads, outputs_reads}
 use Rattle.tx_codec.proofs.LawsOfStacks.{strips, IsBare, stacks_take, stacks_again, length-strips, flat_map-strips, fit_with_stacks, fit_without_stacks, stacks_fit, has_stack, not_empty, no_stack, all_bare, bare_fit}
 
--- ---- behind the version, the legacy form
+-- ---- after the version, the legacy form
 
--- what stands behind the version
+-- what stands after the version
 abbrev legacy_rest : Transaction → List ℕ
 legacy_rest t = counted input_text t.inputs ++ (counted output_text t.outputs ++ to_le_bytes w32 t.locktime)
 
@@ -93,7 +93,7 @@ legacy_again version t at rest fits is =
     let whole : read (record t { segwit = false }) c.next ≡ read t c.next = ap (λ (s : Bool). read (record t { segwit = s }) c.next) (sym fits.form) in
     record { next = c.next; reads = bind_is _ _ _ _ a.reads (bind_is _ _ _ _ b.reads (bind_is _ _ _ _ c.reads (named ∙ whole))); left = c.left }
 
--- ---- behind marker and flag, the segregated form
+-- ---- after marker and flag, the segregated form
 
 same_inputs : (inputs : List TxIn) → counted input_text (strips inputs) ≡ counted input_text inputs
 same_inputs inputs = rw (length-strips inputs, flat_map-strips inputs) refl
@@ -153,7 +153,7 @@ witnessed_again version t at rest fits is =
     let whole : read (record t { segwit = true }) d.next ≡ read t d.next = ap (λ (s : Bool). read (record t { segwit = s }) d.next) (sym fits.form) in
     record { next = d.next; reads = bind_is _ _ _ _ a.reads (bind_is _ _ _ _ b.reads (bind_is _ _ _ _ c.reads (rw stacked (bind_is _ _ _ _ d.reads (named ∙ whole))))); left = d.left }
 
--- ---- behind the marker
+-- ---- after the marker
 
 one_byte : (bytes : List ℕ) (b : ℕ) → length bytes ≡ 1 → slice_index bytes 0 ≡ b → bytes ≡ b ∷ []
 one_byte [] b len is = absurd (omega arith)

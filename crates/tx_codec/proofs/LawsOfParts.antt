@@ -85,7 +85,7 @@ input_reads = record { takes = input_takes; again = input_again }
 
 -- ---- an output
 
--- an output that fits behind others
+-- an output that fits after others
 pub record FitsBehind (before : List TxOut) (o : TxOut) : Type 0 where
   pub fits : OutputFits o
   pub range : worth before + o.value ≤ 2_100_000_000_000_000

@@ -1,4 +1,4 @@
--- Reading goes on as before where more bytes stand behind the text, unless it missed some.
+-- Reading goes on as before where more bytes stand after the text, unless it missed some.
 use Rattle.std.proofs.Common.{◌≡◌, ℕ, zero, suc, ◌+◌, ◌≤◌, Bool, true, false, cond, ltb, List, [], ◌∷◌, ◌++◌, length, take, drop, Result, Ok, Err, refl, ap, subst, ◌∙◌, arith, inl, inr, length-append}
 use Rattle.std.specs.Prelude.{◌⊎◌, slice_index}
 use Rattle.std.specs.Int.{Width, w16, w32, w64, byte_len, from_le_bytes}
@@ -13,11 +13,11 @@ use Rattle.fund_base.proofs.Laws.{bind_is}
 abbrev pub spot : List ℕ → ℕ → At
 spot rest place = record { rest = rest; place = place }
 
--- the same place, with more bytes behind those that are left
+-- the same place, with more bytes after those that are left
 abbrev pub longer : List ℕ → At → At
 longer more at = spot (at.rest ++ more) at.place
 
--- What was read is read again where more bytes stand behind, and a fault comes again, but for those of missing bytes.
+-- What was read is read again where more bytes stand after, and a fault comes again, but for those of missing bytes.
 pub record Carries {X E : Type 0} (Cut : E → Type 0) (more : List ℕ) (read again : Result (X × At) E) : Type 0 where
   pub ok : (x : X × At) → read ≡ Ok x → again ≡ Ok (x.0, longer more x.1)
   pub err : (e : E) → read ≡ Err e → Cut e ⊎ (again ≡ Err e)
@@ -52,7 +52,7 @@ done {X = X} {E = E} Cut more x at = record {
   err = λ d e. absurd cc;
 }
 
--- a test that the bytes behind don't change
+-- a test that the bytes after don't change
 pub pick : {X E : Type 0} (Cut : E → Type 0) (more : List ℕ) (b : Bool) (r s t u : Result (X × At) E) → Carries Cut more r s → Carries Cut more t u → Carries Cut more (cond b r t) (cond b s u)
 pick Cut more true r s t u h k = h
 pick Cut more false r s t u h k = k
@@ -79,7 +79,7 @@ long_more n xs more long = le-ltb (length (xs ++ more)) n (omega (arith, ltb-fal
 moved : (n : ℕ) (more : List ℕ) (at : At) → n ≤ length at.rest → after n (longer more at) ≡ longer more (after n at)
 moved n more at le = ap (λ (l : List ℕ). spot l (at.place + n)) (drop-append-le n at.rest more le)
 
--- a value that was read, and the place behind it
+-- a value that was read, and the place after it
 read_same : {X : Type 0} (more : List ℕ) (x y : X) (next new : At) → y ≡ x → new ≡ longer more next → Carries {X = X} {E = CutFault} IsShort more (Ok (x, next)) (Ok (y, new))
 read_same more x y next new same is = rw (same, is) (done IsShort more x next)
 
@@ -136,7 +136,7 @@ pub string_longer : (more : List ℕ) (at : At) → Carries IsShort more (string
 unfolding string_at
 string_longer more at = then IsShort more _ _ _ _ (count_longer more at) (λ n. take_longer n.0 more n.1)
 
--- ---- items one behind the other
+-- ---- items one after the other
 
 pub many_longer : {X E : Type 0} (Cut : E → Type 0) (more : List ℕ) (item : List X → At → Result (X × At) E) → ((before : List X) (at : At) → Carries Cut more (item before at) (item before (longer more at)))
     → (n : ℕ) (before : List X) (at : At) → Carries Cut more (many_from item n before at) (many_from item n before (longer more at))

@@ -1,4 +1,4 @@
--- Reading the outputs, one behind the other, with their number and the sum of their values.
+-- Reading the outputs, one after the other, with their number and the sum of their values.
 use Rattle.std.proofs.Common.{◌≡◌, ◌≢◌, ℕ, ◌+◌, ◌≤◌, ◌<◌, List, [], ◌∷◌, ◌++◌, length, Ok, Err, refl, arith}
 use Rattle.std.specs.Prelude.{sum_by}
 use Rattle.std.proofs.lemmas.List.{length-append}

@@ -1,4 +1,4 @@
--- Reading a transaction ends in no fault but those of its own text: not in that of the bytes behind it, and not in want
+-- Reading a transaction ends in no fault but those of its own text: not in that of the bytes after it, and not in want
 -- of memory.
 use Rattle.std.proofs.Common.{◌≡◌, ◌≢◌, ℕ, zero, suc, Bool, true, false, cond, eqb, List, [], ◌∷◌, ◌++◌, Result, Ok, Err, ap, ◌∙◌}
 use Rattle.fund_base.specs.declared.cursor.CutFault.{CutFault}
@@ -38,7 +38,7 @@ trailing place = record {
   stack = λ e. absurd cc;
 }
 
--- want of memory
+-- out of memory
 memory : Foreign
 memory = record {
   fault = Memory;
@@ -226,7 +226,7 @@ pub whole_never : (at : At) → whole_of Trailing (tx_at at) ≡ Err Memory → 
 unfolding memory
 whole_never at e = whole_own memory (tx_at at) (λ place is. absurd cc) (tx_never at) e
 
--- ---- nor has it the fault of the bytes behind
+-- ---- nor has it the fault of the bytes after
 
 pub record Untrailed {A : Type 0} (read : Result A TxFault) : Type 0 where
   pub never : (place : ℕ) → read ≡ Err (Trailing place) → ⊥

@@ -12,7 +12,7 @@ use Rattle.tx_codec.proofs.OwnFaults.{Untrailed}
 use Rattle.tx_codec.specs.declared.fault.TxFault.{TxFault}
 use Rattle.tx_codec.specs.declared.fault.TxFault.TheVariants.{Truncated, LongCompact, ValueRange, NoInputs, NoOutputs, BadFlag, EmptyWitness, Trailing, Memory}
 
--- a fault is want of memory where it can't be another
+-- a fault is out of memory where it can't be another
 pub only_memory : (e : TxFault) → (e ≢ Memory → ⊥) → e ≡ Memory
 only_memory (Truncated place) h = absurd (h (λ e. absurd cc))
 only_memory (LongCompact place) h = absurd (h (λ e. absurd cc))

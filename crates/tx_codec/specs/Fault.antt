@@ -1,4 +1,4 @@
--- How a fault of the cursor is told by one who reads a transaction.
+-- How a fault of the cursor is reported by one who reads a transaction.
 use Rattle.fund_base.specs.declared.cursor.CutFault.{CutFault}
 use Rattle.fund_base.specs.declared.cursor.CutFault.TheVariants as cuts
 use Rattle.tx_codec.specs.declared.fault.TxFault.{TxFault}

@@ -24,7 +24,7 @@ input_at at = do
   sequence ← cut (number_at w32 script.1)
   Ok (record { prev = record { txid = txid.0; index = index.0 }; script = script.0; sequence = sequence.0; witness = [] }, sequence.1)
 
--- The output of this index, behind others of this sum. Its value is tested before its script is read;
+-- The output of this index, after others of this sum. Its value is tested before its script is read;
 -- an index that doesn't fit the fault counts as the greatest that does.
 unfoldable pub output_at : ℕ → ℕ → At → Result (TxOut × At) TxFault
 output_at index sum at = do
@@ -33,7 +33,7 @@ output_at index sum at = do
     script ← cut (string_at value.1)
     Ok (record { value = value.0; script = script.0 }, script.1)
 
--- an output behind those before it
+-- an output after those before it
 abbrev pub output_in : List TxOut → At → Result (TxOut × At) TxFault
 output_in before at = output_at (length before) (sum_by (λ (o : TxOut). o.value) before) at
 
@@ -69,7 +69,7 @@ stacks_at (i ∷ inputs) at = do
 abbrev pub are_empty : List TxIn → Bool
 are_empty inputs = list_all (λ (i : TxIn). length i.witness == 0) inputs
 
--- behind the version, the legacy form
+-- after the version, the legacy form
 unfoldable pub legacy_at : ℕ → At → Result (Transaction × At) TxFault
 legacy_at version at = do
   inputs ← inputs_at at
@@ -77,7 +77,7 @@ legacy_at version at = do
   locktime ← cut (number_at w32 outputs.1)
   Ok (record { version = version; inputs = inputs.0; outputs = outputs.0; locktime = locktime.0; segwit = false }, locktime.1)
 
--- the segregated form, behind marker and flag
+-- the segregated form, after marker and flag
 unfoldable pub witnessed_at : ℕ → At → Result (Transaction × At) TxFault
 witnessed_at version at = do
   inputs ← inputs_at at
@@ -87,7 +87,7 @@ witnessed_at version at = do
     locktime ← cut (number_at w32 stacks.1)
     Ok (record { version = version; inputs = stacks.0; outputs = outputs.0; locktime = locktime.0; segwit = true }, locktime.1)
 
--- the segregated form, behind the marker
+-- the segregated form, after the marker
 unfoldable pub segregated_at : ℕ → At → Result (Transaction × At) TxFault
 segregated_at version at = do
   flag ← cut (take_at 1 at)
@@ -110,6 +110,6 @@ legacy_tx_at at = do
   version ← cut (number_at w32 at)
   legacy_at version.0 version.1
 
--- What was read is this transaction, and the cursor stands behind it, unless memory ran out.
+-- What was read is this transaction, and the cursor stands after it, unless memory ran out.
 abbrev pub IsRead : Transaction → List ℕ → At → Result Transaction TxFault → Type 0
 IsRead tx rest new result = MatchResult result (λ t. (t ≡ tx) × (new.rest ≡ rest)) (λ e. e ≡ Memory)

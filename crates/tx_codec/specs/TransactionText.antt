@@ -23,7 +23,7 @@ stack_text i = counted prefixed i.witness
 unfoldable pub bare_text : Transaction → List ℕ
 bare_text t = to_le_bytes w32 t.version ++ (counted input_text t.inputs ++ (counted output_text t.outputs ++ to_le_bytes w32 t.locktime))
 
--- the segregated form: marker 00 and flag 01 behind the version, the witnesses before the lock time
+-- the segregated form: marker 00 and flag 01 after the version, the witnesses before the lock time
 unfoldable pub segregated_text : Transaction → List ℕ
 segregated_text t =
     to_le_bytes w32 t.version ++ (0 ∷ 1 ∷ (counted input_text t.inputs ++ (counted output_text t.outputs ++ (flat_map stack_text t.inputs ++ to_le_bytes w32 t.locktime))))
@@ -71,7 +71,7 @@ pub record IsLegacy (t : Transaction) : Type 0 where
   pub whole : IsTransaction t
   pub form : t.segwit ≡ false
 
--- such a transaction, and from this place on other bytes behind its text
+-- such a transaction, and from this place on other bytes after its text
 pub record IsFollowed (Is : Transaction → Type 0) (bytes : List ℕ) (place : ℕ) : Type 0 where
   pub tx : Transaction
   pub rest : List ℕ

@@ -25,7 +25,7 @@ pub enum TxFault {
     BadFlag,
     /// The transaction has the segregated form, and every witness is empty.
     EmptyWitness,
-    /// Bytes stand behind the transaction, from this place on.
+    /// Bytes stand after the transaction, from this place on.
     Trailing(u64),
     /// There was not enough memory.
     Memory,

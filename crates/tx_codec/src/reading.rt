@@ -223,7 +223,7 @@ fn front_of(alloc: Global, cursor: &mut Cursor) -> Result<Tx, TxFault>
     Ok(tx)
 }
 
-/// The transaction that stands at the cursor (BIP 144), which ends behind it. The cursor stays where it
+/// The transaction that stands at the cursor (BIP 144), which ends after it. The cursor stays where it
 /// is after any fault. [`TxFault::Trailing`] never comes.
 pub fn read_tx(alloc: Global, cursor: &mut Cursor) -> Result<Tx, TxFault>
     // What is read is the text of a transaction, and each such text is read, memory aside.

@@ -34,7 +34,7 @@ pub fn write_bare_tx(alloc: Global, tx: &Tx) -> Result<Vec<u8>, Memory>
     Ok(text)
 }
 
-/// The text of an output: its value in eight bytes, low byte first, and its script behind its length.
+/// The text of an output: its value in eight bytes, low byte first, and its script after its length.
 pub fn write_tx_out(alloc: Global, output: &TxOut) -> Result<Vec<u8>, Memory>
     ensures { IfOk result (λ text. text.items ≡ output_text output.now) }
 {
@@ -98,7 +98,7 @@ fn write_bare<W: Writer>(out: &mut W, tx: &Tx) -> Result<(), W::Error>
     out.write_bytes(&tx.locktime.to_le_bytes())
 }
 
-/// The segregated form: the marker and the flag behind the version, the witnesses before the lock time.
+/// The segregated form: the marker and the flag after the version, the witnesses before the lock time.
 #[tactic(auto, unfolding(crate::specs::TransactionText::segregated_text))]
 fn write_segregated<W: Writer>(out: &mut W, tx: &Tx) -> Result<(), W::Error>
     ensures { OnOk result (Feeds W.holds out.old out.new (segregated_text tx.now)) }
@@ -176,7 +176,7 @@ fn write_stack<W: Writer>(out: &mut W, input: &TxIn) -> Result<(), W::Error>
     write_items(out, input.witness.as_slice())
 }
 
-/// The number of byte strings, and each behind its length.
+/// The number of byte strings, and each after its length.
 fn write_items<W: Writer>(out: &mut W, items: &[Vec<u8>]) -> Result<(), W::Error>
     ensures { OnOk result (Feeds W.holds out.old out.new (counted prefixed (lists items.now))) }
 {

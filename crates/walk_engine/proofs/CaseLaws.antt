@@ -152,7 +152,7 @@ pub far_never : (k : Kind) (p : PlainProblem) (b : Best) (q : List ℕ) (t : ℕ
 far_never Changeless p b q t e = refl
 far_never Lean p b q t e = ap (λ (o : Option (List ℕ)). is_far Lean p o q t) (none_is b e)
 
--- where all that is left reaches lo and t alone doesn't, there is a place behind t
+-- where all that is left reaches lo and t alone doesn't, there is a place after t
 pub place_behind : (p : PlainProblem) (t gap : ℕ) → t < length p.items → (item_at p.items t).value < gap →
     gap ≤ later_value p t → t + 1 < length p.items
 place_behind p t gap below low later =

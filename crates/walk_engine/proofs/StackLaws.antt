@@ -35,7 +35,7 @@ empty_stack p next s none gap weight cost room =
       room = room;
     }
 
--- with a place behind the chosen ones
+-- with a place after the chosen ones
 pub rises_with : (p : PlainProblem) (t : ℕ) (s : Stack) → t < length p.items → IsStack p t s →
     Rising (length p.items) 0 (with_place s t)
 rises_with p t s below is = Rising-push (length p.items) 0 t s.places.items (omega arith) below is.rising

@@ -59,7 +59,7 @@ stack_wider p j next s l is = record {
   room = is.room;
 }
 
--- the walk stops behind a place and its twins
+-- the walk stops after a place and its twins
 pub walked_at : (p : PlainProblem) (old : List ℕ) (s : Stack) (stop : Stop) → stop.done ≡ false →
     IsStack p stop.next s → HasWalked p (at (reverse s.places.items) stop.next) old old s stop
 walked_at p old s stop open_ is = record {

@@ -7,7 +7,7 @@ use Rattle.walk_engine.specs.declared.stack.Stack.{Stack}
 use Rattle.walk_engine.specs.declared.stop.Stop.{Stop}
 use Rattle.walk_engine.specs.Stack.{IsStack}
 
--- the letters of a way were written behind the old ones, and the stack and the next place are where it leads
+-- the letters of a way were written after the old ones, and the stack and the next place are where it leads
 pub record HasWalked (p : PlainProblem) (w : Way) (old new : List ℕ) (s : Stack) (stop : Stop) : Type 0 where
   pub chosen : s.places.items ≡ upward w.stack
   pub letters : new ≡ old ++ letters_of w.tokens

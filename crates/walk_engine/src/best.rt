@@ -91,7 +91,7 @@ fn sums_of(problem: &Problem, places: &[u32]) -> Sums
 }
 
 impl Best {
-    /// A best that was found before, or none, with room for every place. The error is want of memory.
+    /// A best that was found before, or none, with room for every place. The error is out of memory.
     pub(crate) fn of(
         alloc: Global,
         prepared: &Prepared,
@@ -107,7 +107,7 @@ impl Best {
         }
     }
 
-    /// An admissible selection that was found before. The error is want of memory.
+    /// An admissible selection that was found before. The error is out of memory.
     fn found(alloc: Global, prepared: &Prepared, best: &[u32]) -> Result<Best, Memory>
         requires { IsAdmissible prepared.now best.now }
         ensures best { IfOk result (λ b. IsBestSoFar prepared.now b) }
@@ -122,7 +122,7 @@ impl Best {
         })
     }
 
-    /// A copy of the places, if a selection was found. The error is want of memory.
+    /// A copy of the places, if a selection was found. The error is out of memory.
     pub(crate) fn copy(&self, alloc: Global) -> Result<Option<Places>, Memory>
         ensures { IfOk result (λ copy. copy ≡ plain_best self.now) }
     {
@@ -132,7 +132,7 @@ impl Best {
         Ok(Some(Places::new(Vec::from_slice(alloc, self.places.as_slice())?)))
     }
 
-    /// None yet, with room for every place. The error is want of memory.
+    /// None yet, with room for every place. The error is out of memory.
     pub(crate) fn new(alloc: Global, prepared: &Prepared) -> Result<Best, Memory>
         ensures best { IfOk result (λ b. IsBestSoFar prepared.now b) }
         ensures none { IfOk result (λ b. plain_best b ≡ None) }

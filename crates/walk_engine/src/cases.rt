@@ -126,7 +126,7 @@ fn is_far(prepared: &Prepared, best: &Best, stack: &Stack, t: u32) -> bool
     }
 }
 
-/// The first rule that applies where a place is put behind the chosen ones.
+/// The first rule that applies where a place is put after the chosen ones.
 #[inline(always)]
 #[tactic(auto, using(crate::proofs::CaseLaws::not_short))]
 pub(crate) fn first_case(prepared: &Prepared, best: &Best, stack: &Stack, t: u32) -> Case

@@ -38,7 +38,7 @@ fn are_plain(items: &[Item]) -> bool
 }
 
 impl Prepared {
-    /// The error is want of memory.
+    /// The error is out of memory.
     pub(crate) fn new(alloc: Global, problem: &Problem) -> Result<Prepared, Memory>
         ensures { IfOk result (λ p. p ≡ problem.now) }
     {
@@ -95,7 +95,7 @@ impl Prepared {
         self.problem.items()[t as usize]
     }
 
-    /// The place behind a place.
+    /// The place after a place.
     #[inline(always)]
     pub(crate) fn behind(&self, t: u32) -> u32
         requires { t < length self.now.items }
@@ -123,7 +123,7 @@ impl Prepared {
         self.tails.at(t).value
     }
 
-    /// The value of the places behind this one.
+    /// The value of the places after this one.
     #[inline(always)]
     pub(crate) fn value_behind(&self, t: u32) -> u128
         requires { t < length self.now.items }
@@ -132,7 +132,7 @@ impl Prepared {
         self.tails.at(t + 1).value
     }
 
-    /// The least weight of the places behind this one; behind the last one the greatest `u64`.
+    /// The least weight of the places after this one; after the last one the greatest `u64`.
     #[inline(always)]
     pub(crate) fn weight_behind(&self, t: u32) -> u64
         requires { t < length self.now.items }
@@ -142,7 +142,7 @@ impl Prepared {
         self.tails.at(t + 1).weight
     }
 
-    /// The first place behind this one that is no twin of it, or the number of items.
+    /// The first place after this one that is no twin of it, or the number of items.
     #[inline(always)]
     #[tactic(auto, using(pick_problem::proofs::TailLaws::run_is))]
     pub(crate) fn run_end(&self, t: u32) -> u32

@@ -30,7 +30,7 @@ fn letters_from(alloc: Global, tokens: &[u8], count: u32) -> Result<Vec<u8>, Mem
 }
 
 impl Search {
-    /// Where the search stands, with the tries from before it was restored. The error is want of memory.
+    /// Where the search stands, with the tries from before it was restored. The error is out of memory.
     pub fn position(&self, alloc: Global) -> Result<Position, Memory>
         ensures { IfOk result (λ q. q ≡ standing self.now) }
     {
@@ -45,12 +45,12 @@ impl Search {
         })
     }
 
-    /// A search that goes on from a position, behind letters that were written before, which may be any bytes. It has
+    /// A search that goes on from a position, after letters that were written before, which may be any bytes. It has
     /// no room for tries yet. `IllFormed` comes exactly where one of the rules of a position is broken: the chosen
     /// places don't rise below the next one; in an open position the next place isn't there, or the chosen value isn't
     /// below `lo`, or the chosen weight is above the limit; a done position has a chosen place, or a next place that
     /// isn't the number of items; there is a best that isn't admissible; or the tries aren't the number of I in the
-    /// letters. `Memory` comes for want of memory alone.
+    /// letters. `Memory` comes only when out of memory.
     pub fn restore(
         alloc: Global,
         problem: &Problem,

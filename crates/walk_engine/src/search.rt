@@ -54,7 +54,7 @@ impl Model for Search {
 impl Search {
     ghost use Rattle.walk_engine.specs.Search.{IsAfter, IsSearch, after, begun, letters, standing};
 
-    /// A new search of a problem, at the start of its walk; it has no room for tries yet. The error is want of memory.
+    /// A new search of a problem, at the start of its walk; it has no room for tries yet. The error is out of memory.
     pub fn new(alloc: Global, problem: &Problem) -> Result<Search, Memory>
         ensures begins { IfOk result (λ s. s ≡ begun problem.now) }
         ensures at_start { IfOk result (λ s. IsAfter s 0) }
@@ -79,7 +79,7 @@ impl Search {
     }
 
     /// Makes room for at least so many tries. Whatever it answers, the walk and its letters stay as they are. The error
-    /// is want of memory; no buffer holds the letters of more than 3,074,457,345,618,258,602 tries.
+    /// is out of memory; no buffer holds the letters of more than 3,074,457,345,618,258,602 tries.
     pub fn reserve(&mut self, tries: u64) -> Result<(), Memory>
         ensures walk { self.new ≡ record self.old { spare = self.new.spare } }
         ensures ok { OnOk result (tries ≤ self.new.spare) }

@@ -19,7 +19,7 @@ pub(crate) struct Stack {
     pub(crate) cost: i128,
 }
 
-/// A place behind the others, where there is room for it.
+/// A place after the others, where there is room for it.
 #[inline(always)]
 pub(crate) fn add(places: &mut Vec<u32>, place: u32)
     requires { length places.old.items < vec_capacity places.old }
@@ -34,7 +34,7 @@ pub(crate) fn add(places: &mut Vec<u32>, place: u32)
 impl Stack {
     ghost use Rattle.walk_engine.specs.Stack.{IsStack, with_place};
 
-    /// Nothing chosen yet, with room for every place. The error is want of memory.
+    /// Nothing chosen yet, with room for every place. The error is out of memory.
     #[tactic(auto, using(crate::proofs::StackLaws::empty_stack))]
     pub(crate) fn new(alloc: Global, prepared: &Prepared) -> Result<Stack, Memory>
         ensures stack { IfOk result (λ s. IsStack prepared.now 0 s) }
@@ -50,7 +50,7 @@ impl Stack {
     }
 
     /// These places chosen, which rise below the next one and bring at most the least value, with room for every place.
-    /// The error is want of memory.
+    /// The error is out of memory.
     #[tactic(auto, using(crate::proofs::RestoreLaws::stack_of))]
     pub(crate) fn of(
         alloc: Global,
@@ -98,7 +98,7 @@ impl Stack {
         self.cost + i128::from(item.cost) + i128::from(item.value.saturating_sub(self.gap))
     }
 
-    /// A place is chosen, which is behind the others; its value is at most the gap.
+    /// A place is chosen, which is after the others; its value is at most the gap.
     #[inline(always)]
     pub(crate) fn choose(&mut self, prepared: &Prepared, t: u32)
         requires below { t < length prepared.now.items }

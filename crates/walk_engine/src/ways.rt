@@ -59,7 +59,7 @@ pub(crate) fn begin(prepared: &Prepared, letters: &mut Vec<u8>) -> Stop
     }
 }
 
-/// T where twins of a place that is dropped stand behind it, before the given end.
+/// T where twins of a place that is dropped stand after it, before the given end.
 #[inline(always)]
 fn pass(letters: &mut Vec<u8>, j: u32, end: u32)
     requires room { length letters.old.items < vec_capacity letters.old }
@@ -74,7 +74,7 @@ fn pass(letters: &mut Vec<u8>, j: u32, end: u32)
     }
 }
 
-/// The last chosen place is dropped, and further ones as long as no place is left behind their twins. The chosen places
+/// The last chosen place is dropped, and further ones as long as no place is left after their twins. The chosen places
 /// are below the given one.
 #[inline(never)]
 fn leave(prepared: &Prepared, stack: &mut Stack, letters: &mut Vec<u8>, below: u32) -> Stop
@@ -262,7 +262,7 @@ fn follow(prepared: &Prepared, stack: &mut Stack, letters: &mut Vec<u8>, t: u32,
     }
 }
 
-/// One try: the next place is put behind the chosen ones, and the first rule that applies is followed.
+/// One try: the next place is put after the chosen ones, and the first rule that applies is followed.
 #[inline(always)]
 pub(crate) fn step(
     prepared: &Prepared,

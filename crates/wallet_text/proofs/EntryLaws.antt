@@ -1,4 +1,4 @@
--- When an entry of scripts is taken, and which fault is told of one that isn't.
+-- When an entry of scripts is taken, and which fault is reported of one that isn't.
 use Rattle.std.proofs.Common.{◌≡◌, ◌<◌, ◌≤◌, ℕ, Bool, true, false, List, [], length, codes, ◌⊎◌, inl, inr, is_some, Option, Some, None, Result, Ok, Err, Contains, get_or, zero, suc, refl, sym, ap, subst, ◌∙◌, true≢false, arith}
 use Rattle.std.proofs.lemmas.Bool.{cases_lt}
 use Rattle.std.specs.Option.{ok_or}
@@ -78,7 +78,7 @@ entry_bytes whole d w is listed index v e = judged_is listed index w v (hex_is (
 
 -- ---- how it is judged
 
--- where a form is read or refused, what is told behind it
+-- where a form is read or refused, what is reported after it
 behind : (whole : List ℕ) (d : Data) (listed : Watch → Bool) (index : ℕ) (out : Result Watch Refusal) → (field (watch_at whole d) >>= λ w. judged (listed w) index w) ≡ out
     → ((w : Watch) × IsEntry d w × (judged (listed w) index w ≡ out)) ⊎ ((fault : FieldFault) × (field {A = Watch} (Err fault) ≡ out))
 behind whole d listed index out e = by (watch_at whole d) refl e
@@ -143,7 +143,7 @@ script_refused index before d told = (
 abbrev BadWeight : ℕ → List (List ℕ) → Data → ℕ → Type 0
 BadWeight index before d told = (told ≡ told_index index) × ((w : Watch) × IsEntry d w × (¬ Contains before w.script) × (¬ IsNoScript w.script) × IsNoWeight w.weight)
 
--- a weight is told only of a script that is in order
+-- a weight is reported only of a script that is in order
 in_order : (listed : Bool) (index told : ℕ) (w : Watch) → judged listed index w ≡ Err (Weight told) → (listed ≡ true) ⊎ IsNoScript w.script → ⊥
 in_order listed index told w e why = let first = script_told listed index w why in cc (first, e)
 

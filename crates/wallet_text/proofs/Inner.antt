@@ -1,4 +1,4 @@
--- A refused transaction has a fault of its own, which isn't want of memory.
+-- A refused transaction has a fault of its own, which isn't out of memory.
 use Rattle.std.proofs.Common.{◌≡◌, ◌≢◌, ℕ, Bool, true, false, cond, List, [], ◌∷◌, ◌++◌, length, Option, Some, None, Result, Ok, Err, ap}
 use Rattle.std.specs.Prelude.{codes}
 use Rattle.serde_json.specs.Data.{Data, Items, no_items, item}
@@ -17,7 +17,7 @@ use Rattle.wallet_text.specs.declared.wallet.Watch.{Watch}
 use Rattle.wallet_text.specs.declared.wallet.Earlier.{Earlier}
 use Rattle.tx_codec.proofs.OwnFaults.{whole_never}
 
--- no transaction is refused for want of memory
+-- no transaction is refused for being out of memory
 pub record HasReasons {A : Type 0} (read : Result A Refusal) : Type 0 where
   pub never : (list : List ℕ) (index : ℕ) → read ≢ Err (Tx list index Memory)
 

@@ -59,7 +59,7 @@ repeat_step xs i d x seen new fresh total lt is front told known added so_far =
 
 -- ---- parents
 
--- behind the last there is nothing
+-- after the last there is nothing
 pub later_none : (ts : List Transaction) (later : List (List ℕ)) → later ≡ [] → (q : List ℕ) → is_among later q ≡ is_among (txids_of (drop (length ts) ts)) q
 later_none ts later empty q = ap (λ l. is_among l q) empty ∙ sym (ap (λ r. is_among (txids_of r) q) (drop-length ts))
 

@@ -102,7 +102,7 @@ earlier_taken most index d e = (λ is. by (earlier_at most d) refl is, λ is. rw
 abbrev made : ℕ → Transaction → Result Earlier Refusal
 made height tx = Ok (record { tx = tx; height = height })
 
--- behind a transaction an entry is made, whatever it is
+-- after a transaction an entry is made, whatever it is
 refused_tx : (index : ℕ) (bytes list : List ℕ) (told : ℕ) (fault : TxFault) (make : Transaction → Earlier) → (tx_in (codes "earlier") index bytes >>= λ tx. Ok (make tx)) ≡ Err (Tx list told fault)
     → (list ≡ codes "earlier") × (told ≡ told_index index) × (transaction_of bytes ≡ Err fault)
 refused_tx index bytes list told fault make e = by (tx_in (codes "earlier") index bytes) refl e

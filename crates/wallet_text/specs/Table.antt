@@ -25,7 +25,7 @@ earlier_said d = said [] (earlier_list_at (height_said d)) (get (codes "earlier"
 abbrev pub pending_said : Data → List Transaction
 pending_said d = said [] pending_list_at (get (codes "pending") d)
 
--- each member's own fault, in the order of the format's table, and behind them that of the rules over whole lists
+-- each member's own fault, in the order of the format's table, and after them that of the rules over whole lists
 unfoldable pub member_faults : Data → List (Option Refusal)
 member_faults d =
     wrong (λ m. field (number_at (codes "height") 100_000_000 m)) (get (codes "height") d)

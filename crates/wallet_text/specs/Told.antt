@@ -1,4 +1,4 @@
--- How a refusal is told.
+-- How a refusal is reported.
 use Rattle.std.specs.Prelude.{ℕ, ◌≡◌, ◌≢◌, List, Result, Ok, Err, string_bytes}
 use Rattle.json_fields.specs.declared.fault.FieldFault.TheVariants as fields
 use Rattle.tx_codec.specs.declared.fault.TxFault.TheVariants.{Memory as NoMemory}
@@ -26,6 +26,6 @@ abbrev pub Reads : Result PlainWallet WalletFault → Result PlainWallet Refusal
 Reads (Ok w) reading = reading ≡ Ok w
 Reads (Err fault) reading = fault ≢ told.Memory → reading ≡ Err (refusal_of fault)
 
--- A transaction is refused for a fault of its own, and not for want of memory.
+-- A transaction is refused for a fault of its own, and not for being out of memory.
 abbrev pub HasReason : WalletFault → Type 0
 HasReason fault = (list : List ℕ) (index : ℕ) → refusal_of fault ≢ Tx list index NoMemory

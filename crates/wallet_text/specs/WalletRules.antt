@@ -22,7 +22,7 @@ pub record IsWatch (w : Watch) : Type 0 where
 abbrev pub SpendsNone : Transaction → Transaction → Type 0
 SpendsNone t other = All (λ (i : TxIn). i.prev.txid ≢ txid_of other) t.inputs
 
--- No transaction spends an output of itself or of one behind it: each parent stands before its children.
+-- No transaction spends an output of itself or of one after it: each parent stands before its children.
 abbrev pub ParentsComeFirst : List Transaction → Type 0
 ParentsComeFirst ts = (i j : ℕ) (d : Transaction) → i ≤ j → j < length ts → SpendsNone (slice_index_or ts i d) (slice_index_or ts j d)
 
@@ -71,7 +71,7 @@ pub record IsFirstRepeat (txids : List (List ℕ)) (place : ℕ) : Type 0 where
   pub stood : Contains front txid
   pub distinct : AllPairs (λ x y. x ≢ y) front
 
--- the first place whose transaction spends an output of itself or of one behind it
+-- the first place whose transaction spends an output of itself or of one after it
 pub record IsFirstLater (ts : List Transaction) (place : ℕ) : Type 0 where
   pub front : List Transaction
   pub tx : Transaction

@@ -62,7 +62,7 @@ script_in index before d = do
   w ← field (watch_at (codes "scripts") d)
   judged (is_among before w.script) index w
 
--- an entry of scripts behind others
+-- an entry of scripts after others
 abbrev pub script_behind : List Watch → Data → Result Watch Refusal
 script_behind before d = script_in (length before) (scripts_of before) d
 
@@ -98,7 +98,7 @@ earlier_in most index d = do
   tx ← tx_in (codes "earlier") index e.0
   Ok (record { tx = tx; height = e.1 })
 
--- an earlier entry behind others
+-- an earlier entry after others
 abbrev pub earlier_behind : ℕ → List Earlier → Data → Result Earlier Refusal
 earlier_behind most before d = earlier_in most (length before) d
 
@@ -108,7 +108,7 @@ pending_in index d = do
   bytes ← field (hex_at (codes "pending") d)
   tx_in (codes "pending") index bytes
 
--- a pending transaction behind others
+-- a pending transaction after others
 abbrev pub pending_behind : List Transaction → Data → Result Transaction Refusal
 pending_behind before d = pending_in (length before) d
 
@@ -156,7 +156,7 @@ repeat_from before (x ∷ xs) = if is_among before x then Some (length before) e
 abbrev pub spends_one_of : List (List ℕ) → Transaction → Bool
 spends_one_of txids t = list_any (λ (i : TxIn). is_among txids i.prev.txid) t.inputs
 
--- of transactions from a place on, the first that spends an output of itself or of one behind it
+-- of transactions from a place on, the first that spends an output of itself or of one after it
 unfoldable pub later_from : ℕ → List Transaction → Option ℕ
 later_from index [] = None
 later_from index (t ∷ ts) = if spends_one_of (txids_of (t ∷ ts)) t then Some index else later_from (suc index) ts

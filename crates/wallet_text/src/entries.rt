@@ -1,4 +1,4 @@
-//! The entries of the wallet's lists, each read behind those before it.
+//! The entries of the wallet's lists, each read after those before it.
 
 ghost use Rattle.std.specs.Prelude.{◌≡◌, ◌≤◌, ◌++◌, [], ◌∷◌, ℕ, false, codes, IfOk};
 ghost use Rattle.fund_base.specs.Parsing.{YieldsAll};

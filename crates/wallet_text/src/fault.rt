@@ -10,8 +10,8 @@ use json_fields::{FieldFault, Name};
 use std::alloc::{AllocError, AllocFailed, Global};
 use tx_codec::TxFault;
 
-/// What is wrong with a wallet file: the first in the order in which it is tested. An index above 4,294,967,295 counts as
-/// that number.
+/// What is wrong with a wallet file: the first in the order in which it is tested. An index above 4,294,967,295 counts
+/// as that number.
 #[derive(Debug, Drop)]
 pub enum WalletFault {
     /// `serde_json` doesn't take the bytes.
@@ -31,7 +31,7 @@ pub enum WalletFault {
     Tx(String, u32, TxFault),
     /// The txid of the entry at this index stood before in the same list.
     Repeat(String, u32),
-    /// The pending transaction at this index spends an output of itself, or of one behind it.
+    /// The pending transaction at this index spends an output of itself, or of one after it.
     ParentLater(u32),
     /// There was not enough memory.
     Memory,

@@ -56,7 +56,7 @@ fn spends_one_of(txids: &Seen, tx: &Tx) -> bool
         .any(|input| txids.has(input.prev.txid.bytes()))
 }
 
-// This place, where the transaction spends an output of one of these, and else the one that was found behind it.
+// This place, where the transaction spends an output of one of these, and else the one that was found after it.
 fn first_place(index: usize, tx: &Tx, txids: &Seen, behind: Option<usize>) -> Option<usize>
     ensures { result ≡ (if spends_one_of txids.now tx.now then Some index else behind) }
 {
@@ -67,7 +67,7 @@ fn first_place(index: usize, tx: &Tx, txids: &Seen, behind: Option<usize>) -> Op
     }
 }
 
-/// The first transaction that spends an output of itself or of one behind it.
+/// The first transaction that spends an output of itself or of one after it.
 fn first_later(alloc: Global, pending: &[Tx], txids: &[Txid]) -> Result<Option<usize>, Memory>
     requires { txids.now ≡ txids_of pending.now }
     ensures { IfOk result (λ r. r ≡ later_from 0 pending.now) }

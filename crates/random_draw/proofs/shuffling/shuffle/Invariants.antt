@@ -3,7 +3,7 @@ use Rattle.random_draw.specs.Order.{shuffled_from}
 use Rattle.random_draw.proofs.OrderLaws.{words_at}
 use Rattle.random_draw.proofs.shuffling.shuffle.Given as goal
 
--- so many words are used as there are entries behind the last one that is left; what is left goes on to the whole order
+-- so many words are used as there are entries after the last one that is left; what is left goes on to the whole order
 abbrev pub invariant-loop-last : goal.invariant-loop-last
 invariant-loop-last l = record {
   within : l.last ≤ length l.places - 1;
