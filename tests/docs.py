@@ -1,6 +1,6 @@
 #!/usr/bin/env python3
-"""Checks the pages: links lead somewhere, names stand in the sources, the example is the stored
-run's, and sentences and cells are short.
+"""Checks the pages: links lead somewhere, names and clauses stand in the sources, the example is the
+stored run's, the kit's line is that of `rt version`, and sentences and cells are short.
 
     python3 tests/docs.py
 
@@ -9,6 +9,8 @@ are checked; tests/proved.sh checks the page itself.
 """
 
 import re
+import shutil
+import subprocess
 import sys
 from pathlib import Path
 
@@ -95,6 +97,45 @@ def check_definitions():
                 faults.append(f"DEFINITIONS.md:{number}: {name} isn't defined in {', '.join(files)}")
 
 
+def clauses_shown():
+    """The clauses that docs/PROVED.md shows of each call."""
+    shown, call = {}, None
+    for line in (TOP / "docs" / "PROVED.md").read_text().split("\n"):
+        found = re.match(r"\*\*`([^`]+)`\*\*", line)
+        if found:
+            call = found.group(1)
+        elif line.startswith("#"):
+            call = None
+        elif call:
+            clause = re.match(r"(\w+)  ", line)
+            shown.setdefault(call, set()).update(clause.groups() if clause else ())
+    return shown
+
+
+def check_rules():
+    """The table of rules names calls and clauses that docs/PROVED.md shows."""
+    shown = clauses_shown()
+    page = TOP / "docs" / "DEFINITIONS.md"
+    for number, line in parts_of(page):
+        if not line.startswith("|") or "](PROVED.md#" not in line:
+            continue
+        for part in line.split("|")[4].split(";"):
+            call, *clauses = re.findall(r"`([^`]+)`", part)
+            if call not in shown:
+                faults.append(f"DEFINITIONS.md:{number}: no call {call}")
+            for clause in clauses:
+                if clause not in shown.get(call, ()):
+                    faults.append(f"DEFINITIONS.md:{number}: {call} has no clause {clause}")
+
+
+def check_kit():
+    """The README's line of the kit is what `rt version` prints, where the kit is there."""
+    if shutil.which("rt"):
+        line = subprocess.run(["rt", "version"], capture_output=True, text=True).stdout.strip()
+        if f"`{line}`" not in (TOP / "README.md").read_text():
+            faults.append(f"README.md: rt version prints {line}")
+
+
 def check_names():
     """Names of code that a page gives stand somewhere in the sources."""
     known = set()
@@ -136,6 +177,8 @@ for page in PAGES:
     if page.name != "PROVED.md":
         check_words(page)
 check_definitions()
+check_rules()
+check_kit()
 check_names()
 check_map()
 check_example()

@@ -3,7 +3,7 @@
 
     python3 tools/proved.py              writes docs/PROVED.md
     python3 tools/proved.py --check      fails if docs/PROVED.md isn't what the sources make
-    python3 tools/proved.py where NAME   the file of a definition, and each clause that reaches it
+    python3 tools/proved.py where NAME   the file of a definition, and each clause that reaches it, nearest first
     python3 tools/proved.py unreached    the definitions that no clause of a public call reaches
 
 It reads crates.txt for the crates and their order, src/ for the calls and specs/ for the definitions. A crate that is
@@ -617,21 +617,51 @@ def reached_lines(crates, direct, through):
     return lines
 
 
+def above(known):
+    """For each definition those that name it."""
+    users = {}
+    for key, one in known.items():
+        for other in named_in(one.text, one.crate, one.file, one.imports, known):
+            if other != key:
+                users.setdefault(other, []).append(key)
+    return users
+
+
+def ways(key, users):
+    """The definitions that are built on this one, nearest first, each with the next one on its way down to it."""
+    below, waiting = {key: None}, deque([key])
+    while waiting:
+        one = waiting.popleft()
+        for user in users.get(one, []):
+            if user not in below:
+                below[user] = one
+                waiting.append(user)
+    return below
+
+
 def where(name):
     crates = crates_in_order()
-    known, direct, through = reach(crates)
+    known, direct, _ = reach(crates)
+    users = above(known)
     keys = [key for key in known if key[2] == name]
     if not keys:
         sys.exit(f"{name}: no definition of specs/ has this name")
     for key in keys:
         print(f"{name}: crates/{key[0]}/specs/{key[1].replace('.', '/')}.antt")
-        if key not in through:
+        below = ways(key, users)
+        if not any(one in direct for one in below):
             print("  no clause of a public call reaches it")
-        while key in through and key not in direct:
-            key = through[key]
-            print(f"  named in {key[2]} ({key[0]} {key[1]})")
-        for place in dict.fromkeys(direct.get(key, [])):
-            print(f"  {place.replace('`', '')}")
+        for one in below:
+            if one not in direct:
+                continue
+            way, at = [], one
+            while at != key:
+                way.append(at[2])
+                at = below[at]
+            if way:
+                print(f"  through {' on '.join(way)} ({one[0]} {one[1]})")
+            for place in dict.fromkeys(direct[one]):
+                print(f"    {place.replace('`', '')}")
 
 
 def unreached():
