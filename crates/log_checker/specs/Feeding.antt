@@ -1,4 +1,7 @@
 -- What a checker is, as plain data, and what it makes of letters.
+--
+-- The guarantee: where a checker takes all letters and ends well, they are a log that is accepted with its answer, in
+-- whatever pieces they came; and every such log is taken so. It follows the letters alone and knows no search.
 use Rattle.std.specs.Prelude.{◌≡◌, ℕ, ◌+◌, ◌<◌, ◌≤◌, ◌++◌, Bool, true, false, List, ◌∷◌, length, min, Option, Some, None, IsSome, IsSomeAnd}
 use Rattle.std.specs.Option.{ForSome}
 use Rattle.log_checker.specs.declared.fault.LogFault.{LogFault}

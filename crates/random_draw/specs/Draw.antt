@@ -1,4 +1,8 @@
 -- The draw (Bitcoin Core, single random draw): what is kept after each addition, and what is found.
+--
+-- The guarantee: what a draw finds is an admissible selection, and follows from the problem and the seed alone. It is
+-- what is kept after the first addition with which that reaches lo: too heavy selections lose their least valuable
+-- places first. Where no addition reaches lo nothing is found, which doesn't say that nothing is admissible.
 use Rattle.std.specs.Prelude.{ℕ, zero, suc, ◌==◌, List, [], ◌∷◌, length, filter, max, not, Option, Some, None, if◌then◌else◌, nat_lt, nat_le}
 use Rattle.pick_problem.specs.Pool.{item_at}
 use Rattle.pick_problem.specs.Problem.{PlainProblem, value_of, weight_of}

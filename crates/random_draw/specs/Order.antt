@@ -1,4 +1,7 @@
 -- The order in which a seed puts the places of a pool.
+--
+-- The guarantee: each place stands in an order once, and the order follows from the seed and the number of places alone.
+-- Nothing is said of how likely an order is.
 use Rattle.std.specs.Prelude.{ℕ, zero, suc, ◌-◌, ◌%◌, List, swap}
 use Rattle.std.specs.List.{range_with_len}
 use Rattle.rand_chacha.specs.ChaCha.{word_at, key_of}

@@ -1,4 +1,8 @@
 -- A search, as contracts see it.
+--
+-- The guarantee: in whatever pieces its tries are granted, a search stands where the walk stands after as many tries, with
+-- the same letters. So once it is done, what holds of the walk holds of it: its best is the best, and its letters are a log
+-- that is accepted with that.
 use Rattle.std.specs.Prelude.{◌≡◌, ℕ, ◌+◌, ◌-◌, ◌*◌, ◌<◌, ◌≤◌, ◌==◌, Bool, true, false, List, [], ◌++◌, length, Option}
 use Rattle.std.specs.Prelude.{reverse, drop, take}
 use Rattle.std.specs.List.{count_by}
