@@ -57,7 +57,7 @@ from_step test (suc n) p lt = by (from_step test n p) (cases_lt p n)
 
 -- ---- the first spender from a place on
 
--- none stands behind the list
+-- none stands after the list
 pub spender_none : (pending : List Transaction) (alive : List Bool) (o : OutPoint) → spender pending alive (length pending) o ≡ None
 spender_none pending alive o = none_from (λ k. slice_index_or alive k false && has_input o (slice_index_or pending k no_tx).inputs) (length pending) (length pending) (omega arith)
 
@@ -92,7 +92,7 @@ any_both true false h xs = never xs ∙ by (list_any h xs)
     by true = refl
     by false = refl
 
--- the least of the first spenders behind it of its outpoints
+-- the least of the first spenders after it of its outpoints
 pub replacer_found : (pending : List Transaction) (alive : List Bool) (p : ℕ) → least_by (λ (i : TxIn). spender pending alive (p + 1) i.prev) (slice_index_or pending p no_tx).inputs ≡ replacer_by pending alive p
 replacer_found pending alive p =
     sym (find_any (λ (i : TxIn) k. nat_le (p + 1) k && (slice_index_or alive k false && has_input i.prev (slice_index_or pending k no_tx).inputs)) (slice_index_or pending p no_tx).inputs (length pending))

@@ -55,7 +55,7 @@ filter_one (suc n) i lt = filter-append (λ j. i == j) (below n) (n ∷ []) ∙ 
     by r (inl e) = (λ k. filter_no n i (omega arith) k ++ cond (eq-eqb i n e k) (n ∷ []) []) ∙ ap (λ m. m ∷ []) (sym e)
     by r (inr ne) = (λ k. r (omega arith) k ++ cond (ne_eqb i n ne k) (n ∷ []) [])
 
--- a map is told by what the function gives
+-- a map is determined by what the function gives
 pub map_same : {X Y : Type 0} (f h : X → Y) (xs : List X) → ((x : X) → f x ≡ h x) → map f xs ≡ map h xs
 map_same f h [] same = refl
 map_same f h (x ∷ xs) same = (λ k. same x k ∷ map_same f h xs same k)

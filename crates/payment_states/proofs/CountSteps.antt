@@ -37,7 +37,7 @@ count_append p xs ys = sum_by-append (λ y. cond (p y) 1 0) xs ys
 pub count_more : (p : ℕ → Bool) (n : ℕ) → count_by p (below (n + 1)) ≡ count_by p (below n) + cond (p n) 1 0
 count_more p n = ap (count_by p) (below_more n) ∙ count_append p (below n) (n ∷ []) ∙ ap (λ m. count_by p (below n) + m) (one_count (p n))
 
--- nothing counts before, and nothing behind
+-- nothing counts before, and nothing after
 pub count_none : (p : ℕ → Bool) (n : ℕ) → ((j : ℕ) → j < n → p j ≡ false) → count_by p (below n) ≡ 0
 unfolding below
 count_none p zero h = refl

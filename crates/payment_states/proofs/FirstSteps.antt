@@ -58,7 +58,7 @@ pub find_any : {X : Type 0} (w : X → ℕ → Bool) (xs : List X) (n : ℕ) →
 find_any w [] n = find_never n
 find_any w (x ∷ xs) n = find_or (w x) (λ k. list_any (λ y. w y k) xs) n ∙ ap (lesser (find (w x) (below n))) (find_any w xs n)
 
--- it is told by what the test gives
+-- it is determined by what the test gives
 pub find_agree : {X : Type 0} (p q : X → Bool) (xs : List X) → ((x : X) → Contains xs x → p x ≡ q x) → find p xs ≡ find q xs
 find_agree p q [] same = refl
 find_agree p q (x ∷ xs) same = (λ k. cond (same x (0, omega arith, refl) k) (Some x) (find_agree p q xs (λ y c. same y (suc c.0, omega arith, c.2)) k))

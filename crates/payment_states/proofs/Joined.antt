@@ -122,7 +122,7 @@ module _ (w : World) where
       ∙ map_below_same (λ i. is_none (slice_index_or heights i None) && (is_none (slice_index_or conflicts i None) && not (slice_index_or given i false))) (is_alive w) (length w.pending)
       (alive_is w heights conflicts given heights_are conflicts_are given_are)
 
--- a conflict is told by the chain and the list alone
+-- a conflict is determined by the chain and the list alone
 pub conflict_free : (chain : List Confirmed) (pending : List Transaction) (abandoned : List (List ℕ)) (i : ℕ) → conflict (world chain pending []) i ≡ conflict (world chain pending abandoned) i
 unfolding conflict
 conflict_free chain pending abandoned i = refl

@@ -25,7 +25,7 @@ known_path : (g : List (List ℕ)) (i s j : ℕ) → Known g i s j → Reaches g
 known_path g i s j (inl e) = subst (Reaches g i) e itself
 known_path g i s j (inr f) = then_step g f.2 j f.3
 
--- a place that is reached is known from the places behind it
+-- a place that is reached is known from the places after it
 path_known : (g : List (List ℕ)) (i k : ℕ) → IsInOrder g → i < length g → Reaches g i k → Known g i (k + 1) k
 path_known g i k order lt r = by (last_step g r)
   where

@@ -47,7 +47,7 @@ lesser_swap a b c d =
     ∙ ap (lesser a) (sym (lesser_assoc b c d) ∙ ap (λ e. lesser e d) (lesser_comm b c) ∙ lesser_assoc c b d)
     ∙ sym (lesser_assoc a c (lesser b d))
 
--- the values of lists, one behind the other
+-- the values of lists, one after the other
 pub least_append : {X : Type 0} (f : X → Option ℕ) (xs ys : List X) → least_by f (xs ++ ys) ≡ lesser (least_by f xs) (least_by f ys)
 least_append f [] ys = refl
 least_append f (x ∷ xs) ys = ap (lesser (f x)) (least_append f xs ys) ∙ sym (lesser_assoc (f x) (least_by f xs) (least_by f ys))
@@ -59,7 +59,7 @@ least_more f own xs i d lt =
     lesser_assoc own (least_by f (take i xs)) (f (get_or xs i d))
     ∙ ap (lesser own) (ap (lesser (least_by f (take i xs))) (sym (lesser_none (f (get_or xs i d)))) ∙ sym (least_append f (take i xs) (get_or xs i d ∷ [])) ∙ ap (least_by f) (sym (take_more xs i d lt)))
 
--- it is told by the values
+-- it is determined by the values
 pub least_agree : {X : Type 0} (f h : X → Option ℕ) (xs : List X) → ((x : X) → Contains xs x → f x ≡ h x) → least_by f xs ≡ least_by h xs
 least_agree f h [] same = refl
 least_agree f h (x ∷ xs) same = (λ k. lesser (same x (0, omega arith, refl) k) (least_agree f h xs (λ y c. same y (suc c.0, omega arith, c.2)) k))

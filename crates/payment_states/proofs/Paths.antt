@@ -79,7 +79,7 @@ no_steps g i order lt le = by (steps g i) refl
     by [] e = refl
     by (p ∷ ps) e = absurd (let b : p < i = subst (λ qs. All (λ q. q < i) qs) e (order i lt) 0 0 (omega arith) in omega arith)
 
--- the test of a list is told by its elements
+-- the test of a list is determined by its elements
 pub any_agree : {X : Type 0} (p q : X → Bool) (xs : List X) → ((x : X) → Contains xs x → p x ≡ q x) → list_any p xs ≡ list_any q xs
 any_agree p q [] h = refl
 any_agree p q (x ∷ xs) h = (λ k. h x (0, omega arith, refl) k || any_agree p q xs (λ y c. h y (suc c.0, omega arith, c.2)) k)

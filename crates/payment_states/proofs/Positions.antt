@@ -21,7 +21,7 @@ position-cons p x xs = by (p x) (nat_lt (position_or_len p xs) (length xs)) (lt_
     by false true e = ap (λ d. cond d (Some (1 + position_or_len p xs)) None) e ∙ ap (λ n. Some n) (omega arith)
     by false false e = ap (λ d. cond d (Some (1 + position_or_len p xs)) None) e
 
--- it is told by what the test sees
+-- it is determined by what the test sees
 pub position-map : {X Y : Type 0} (p : Y → Bool) (f : X → Y) (xs : List X) → position p (map f xs) ≡ position (λ x. p (f x)) xs
 position-map p f [] = refl
 position-map p f (x ∷ xs) = position-cons p (f x) (map f xs) ∙ ap (λ (r : Option ℕ). cond (p (f x)) (Some 0) (option_map (λ i. suc i) r)) (position-map p f xs) ∙ sym (position-cons (λ y. p (f y)) x xs)

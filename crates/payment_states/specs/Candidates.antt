@@ -56,7 +56,7 @@ is_own w coins j = is_mine coins (tx_at w j) && not (replaces w (txid_of (tx_at 
 unfoldable pub is_safe : World → List Coin → ℕ → Bool
 is_safe w coins i = list_all (is_own w coins) (kin (pending_graph w) i)
 
--- the greatest number that is told
+-- the greatest number that is given
 abbrev pub most : ℕ
 most = 4_294_967_295
 

@@ -33,8 +33,8 @@ pub record IsConfirmedAt (chain : List Confirmed) (txid : List ℕ) (height : �
   pub height_is : by.height ≡ height
   pub first : IsUnconfirmed (take place chain) txid
 
--- The transaction at place p of the pending list is a parent of the one at place i, some input of which spends an output
--- of it. One that is confirmed is no parent.
+-- The transaction at place p of the pending list is a parent of the one at place i, some input of which spends an
+-- output of it. One that is confirmed is no parent.
 pub record IsParent (w : World) (i p : ℕ) : Type 0 where
   pub stands : p < length w.pending
   pub unconfirmed : IsUnconfirmed w.chain (txid_of (tx_at w p))
@@ -80,8 +80,8 @@ pub record Replaces (w : World) (j k : ℕ) : Type 0 where
 abbrev pub HasNoReplacer : World → ℕ → Type 0
 HasNoReplacer w i = (j k : ℕ) → IsKin w i j → Replaces w j k → ⊥
 
--- Of it and its ancestors the one at place j is the first in list order that is replaced, and the first that replaces this
--- one has the txid.
+-- Of it and its ancestors the one at place j is the first in list order that is replaced, and the first that replaces
+-- this one has the txid.
 pub record IsReplacedBy (w : World) (i : ℕ) (by : List ℕ) : Type 0 where
   pub j : ℕ
   pub k : ℕ

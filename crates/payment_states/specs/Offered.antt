@@ -14,8 +14,8 @@ use Rattle.payment_states.specs.declared.state.State.TheVariants as state
 abbrev pub WaitsAt : PlainWallet → History → ℕ → Type 0
 WaitsAt w h i = (i < length w.pending) × HasCause (world_of w h) i state.Pending
 
--- The coin's transaction is confirmed or Pending, no confirmed or Pending one spends the coin, it isn't locked, and if its
--- transaction is a coinbase, that is confirmed and at least 101 deep.
+-- The coin's transaction is confirmed or Pending, no confirmed or Pending one spends the coin, it isn't locked, and if
+-- its transaction is a coinbase, that is confirmed and at least 101 deep.
 pub record MayBeSpent (w : PlainWallet) (h : History) (tip : ℕ) (c : Coin) : Type 0 where
   pub counts : (c.height ≢ None) ⊎ ((i : ℕ) × WaitsAt w h i × (txid_of (tx_at (world_of w h) i) ≡ c.coin.txid))
   pub unspent : (s : Spend) → IsSpendOf h.confirmed c.coin s → ⊥

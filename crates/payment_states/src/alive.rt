@@ -1,4 +1,4 @@
-//! Which pending transactions are confirmed, given up or still alive.
+//! Which pending transactions are confirmed, abandoned or still alive.
 
 ghost use Rattle.std.specs.Prelude.{◌≡◌, ◌&&◌, [], List, ℕ, not, false, None, IfOk, map, vec_len, length, is_none, is_some, bytes_eq, slice_index_or};
 ghost use Rattle.std.specs.List.{list_any};
@@ -99,14 +99,14 @@ pub fn given_up(
     Ok(given)
 }
 
-/// Whether it is neither confirmed nor conflicted nor given up.
+/// Whether it is neither confirmed nor conflicted nor abandoned.
 fn is_alive(height: Option<u32>, conflict: Option<Txid>, given_up: bool) -> bool
     ensures { result ≡ (is_none height && (is_none conflict && not given_up)) }
 {
     height.is_none() && conflict.is_none() && !given_up
 }
 
-/// Which are neither confirmed nor conflicted nor given up.
+/// Which are neither confirmed nor conflicted nor abandoned.
 pub fn alive_of(
     alloc: Global,
     heights: &[Option<u32>],

@@ -77,12 +77,14 @@ fn both(a: bool, b: bool) -> bool
 /// Counts the marked places from `low` to `high` that are counted, adds one for each marked place, and takes the marks
 /// away.
 fn tally(marks: &mut [bool], counted: &[bool], downs: &mut [u32], low: usize, high: usize) -> u32
+    // One flag and one number for each place, and marks from `low` to `high` alone.
     requires counted { length counted.now ≡ length marks.old }
     requires downs { length downs.old ≡ length marks.old }
     requires low { low ≤ high }
     requires high { high < length marks.old }
     requires below { (j : ℕ) → j < low → slice_index_or marks.old j false ≡ false }
     requires above { (j : ℕ) → high < j → slice_index_or marks.old j false ≡ false }
+    // The count, one more for each marked place, and no mark left.
     ensures count { result ≡ min 4294967295 (count_by (λ j. is_counted counted.now j && slice_index_or marks.old j false) (below (length marks.old))) }
     ensures downs { (j : ℕ) → slice_index_or downs.new j 0 ≡ (if slice_index_or marks.old j false then min 4294967295 (slice_index_or downs.old j 0 + 1) else slice_index_or downs.old j 0) }
     ensures clean { (j : ℕ) → slice_index_or marks.new j false ≡ false }
@@ -105,12 +107,14 @@ fn count_one(
     marks: &mut [bool],
     descendants: &mut [u32],
 ) -> u32
+    // A place of a graph in order, one flag, mark and number for each, and no mark.
     requires order { IsInOrder parents.now }
     requires place { place < length parents.now }
     requires counted { length counted.now ≡ length parents.now }
     requires marks { length marks.old ≡ length parents.now }
     requires downs { length descendants.old ≡ length parents.now }
     requires clean { (j : ℕ) → slice_index_or marks.old j false ≡ false }
+    // The number of a counted place, one more for each of these, and no mark left.
     ensures ups { result ≡ (if is_counted counted.now place then min 4294967295 (ups parents.now counted.now place) else 0) }
     ensures downs { (j : ℕ) → slice_index_or descendants.new j 0 ≡ (if is_counted counted.now place && within parents.now (length parents.now) place j then min 4294967295 (slice_index_or descendants.old j 0 + 1) else slice_index_or descendants.old j 0) }
     ensures clean { (j : ℕ) → slice_index_or marks.new j false ≡ false }
@@ -131,12 +135,14 @@ fn count_all(
     marks: &mut [bool],
     descendants: &mut [u32],
 ) -> Result<Vec<u32>, Memory>
+    // A graph in order, one flag, mark and number for each place, no mark, and nothing counted.
     requires order { IsInOrder parents.now }
     requires counted { length counted.now ≡ length parents.now }
     requires marks { length marks.old ≡ length parents.now }
     requires downs { length descendants.old ≡ length parents.now }
     requires clean { (j : ℕ) → slice_index_or marks.old j false ≡ false }
     requires none { (j : ℕ) → slice_index_or descendants.old j 0 ≡ 0 }
+    // The numbers of all places.
     ensures ups { IfOk result (λ v. v.items ≡ map (λ i. if is_counted counted.now i then min 4294967295 (ups parents.now counted.now i) else 0) (below (length parents.now))) }
     ensures len { IfOk result (λ v. vec_len v ≡ length parents.now) }
     ensures downs { (j : ℕ) → OnOk result (slice_index_or descendants.new j 0 ≡ min 4294967295 (downs parents.now counted.now j)) }

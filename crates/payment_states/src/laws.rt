@@ -1,4 +1,4 @@
-//! What the definitions of states come to.
+//! Laws of states and of coins that may be spent. A call of any of them does nothing.
 
 ghost use Rattle.std.specs.Prelude.{◌≡◌, ◌<◌, ◌↔◌, ◌≢◌, ◌&&◌, [], true, not, min, IsTrue, List, ℕ, length, All, Any, Contains, Some, None, slice_get};
 ghost use Rattle.std.specs.List.{AllPairs, list_all};
@@ -46,23 +46,23 @@ pub fn safe_by_parents()
     ensures { (w : World) (coins : List Coin) (i : ℕ) → ParentsComeFirst w.pending → i < length w.pending → is_safe w coins i ≡ ((is_mine coins (tx_at w i) && not (replaces w (txid_of (tx_at w i)))) && list_all (is_safe w coins) (steps (pending_graph w) i)) }
 {}
 
-/// What it comes to that a payment is Pending: no confirmed transaction spends an outpoint that it spends, each of its
-/// parents is Pending too, and no other Pending payment spends an outpoint that it spends.
+/// The law of Pending payments: no confirmed transaction spends an outpoint that one spends, each of its parents is
+/// Pending too, and no other Pending payment spends an outpoint that it spends.
 pub fn pending_stands_clear()
     ensures inputs { (w : World) (i : ℕ) → ParentsComeFirst w.pending → i < length w.pending → is_pending w i ≡ true → All (λ (x : TxIn). spends_of w.chain x.prev ≡ []) (tx_at w i).inputs }
     ensures parents { (w : World) (i : ℕ) → AreDistinct w.pending → ParentsComeFirst w.pending → i < length w.pending → is_pending w i ≡ true → (p : ℕ) → Contains (steps (graph w) i) p → is_pending w p ≡ true }
     ensures apart { (w : World) (o : OutPoint) (i k : ℕ) → ParentsComeFirst w.pending → i < length w.pending → k < length w.pending → is_pending w i ≡ true → is_pending w k ≡ true → has_input o (tx_at w i).inputs ≡ true → has_input o (tx_at w k).inputs ≡ true → i ≡ k }
 {}
 
-/// The law of states: there is a payment for each transaction of the pending list, and it has a state exactly where that
-/// state's cause is there. The causes speak of inputs, of the chain and of ways from child to parent.
+/// The law of states: there is a payment for each transaction of the pending list, and it has a state exactly where
+/// that state's cause is there. The causes speak of inputs, of the chain and of ways from child to parent.
 pub fn states_by_causes()
     ensures count { (w : PlainWallet) (h : History) → length (payments_of w h) ≡ length w.pending }
     ensures exact { (w : PlainWallet) (h : History) (i : ℕ) (s : State) → AreDistinct w.pending → ParentsComeFirst w.pending → i < length w.pending → (slice_get (payments_of w h) i ≡ Some (record { txid = txid_of (tx_at (world_of w h) i); state = s })) ↔ HasCause (world_of w h) i s }
 {}
 
-/// The law of the numbers: they are those of the Pending ones among a payment and its ancestors, and among those of which
-/// it is one, each counted once.
+/// The law of the numbers: they are those of the Pending ones among a payment and its ancestors, and among those of
+/// which it is one, each counted once.
 pub fn counts_by_ways()
     ensures ancestors { (w : World) (i : ℕ) (places : List ℕ) → AreDistinct w.pending → ParentsComeFirst w.pending → i < length w.pending → AllPairs (λ (a b : ℕ). a < b) places → ((j : ℕ) → Contains places j ↔ (IsKin w i j × HasCause w j State.Pending)) → ancestors w i ≡ min 4294967295 (length places) }
     ensures descendants { (w : World) (i : ℕ) (places : List ℕ) → AreDistinct w.pending → ParentsComeFirst w.pending → i < length w.pending → AllPairs (λ (a b : ℕ). a < b) places → ((j : ℕ) → Contains places j ↔ ((j < length w.pending) × IsKin w j i × HasCause w j State.Pending)) → descendants w i ≡ min 4294967295 (length places) }

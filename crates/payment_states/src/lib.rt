@@ -1,5 +1,5 @@
-//! The states of a wallet's pending payments, and the coins that it may spend: both are told by the book of its coins
-//! and by the wallet's own lists, from the whole of them.
+//! The states of a wallet's pending payments, and the coins that it may spend. Both follow from the book of its coins
+//! and from the whole of the wallet's own lists.
 #![tactic(auto)]
 
 mod alive;

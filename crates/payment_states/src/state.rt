@@ -12,11 +12,11 @@ pub enum State {
     /// It or an ancestor spends an outpoint that a confirmed transaction spends. This is the txid of the first such in
     /// chain order.
     Conflicted(Txid),
-    /// The wallet has given it or an ancestor up.
+    /// The wallet has abandoned it or an ancestor.
     Abandoned,
     /// It or an ancestor spends an outpoint that a later transaction of the pending list spends, which is neither
-    /// Confirmed nor Conflicted nor Abandoned. Of it and its ancestors the first in list order that has such a later one
-    /// counts, and this is the txid of the first such later one.
+    /// Confirmed nor Conflicted nor Abandoned. Of it and its ancestors the first in list order that has such a later
+    /// one counts, and this is the txid of the first such later one.
     Replaced(Txid),
     /// It waits for a block.
     Pending,

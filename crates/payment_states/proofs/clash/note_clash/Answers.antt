@@ -6,7 +6,7 @@ use Rattle.payment_states.specs.Steps.{Tells, first_place}
 use Rattle.payment_states.proofs.LeastSteps.{least_more, lesser_either}
 use Rattle.payment_states.proofs.clash.note_clash.Goals as goal
 
--- the lesser of two places is told, where both are
+-- the lesser of two places is noted, where both are
 told_either : (chain : List Confirmed) (names : List (ℕ × List ℕ)) (a b r : Option ℕ) (k : ℕ) → r ≡ lesser a b → (a ≡ Some k → Tells chain names k) → (b ≡ Some k → Tells chain names k) → r ≡ Some k → Tells chain names k
 told_either chain names a b r k is left right e = by (lesser_either a b k (sym is ∙ e))
   where
