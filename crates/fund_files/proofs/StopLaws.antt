@@ -1,5 +1,5 @@
 -- A stop at one file is a stop of the reading of all.
-use Rattle.std.proofs.Common.{◌≡◌, ℕ, ◌≤◌, ◌<◌, List, [], length, Some, Err, Ok, Result, inl, inr, refl, sym, subst}
+use Rattle.std.proofs.Common.{◌≡◌, ℕ, ◌≤◌, ◌<◌, List, [], length, Some, Err, Ok, Result, inl, inr, refl, sym, subst, arith}
 use Rattle.std.specs.Prelude.{IfErr}
 use Rattle.fund_base.specs.Causes.{ShelfView, OnlyReads, Rose}
 use Rattle.fund_base.proofs.Outside.{rose_earlier}
@@ -120,3 +120,10 @@ asked_stop told name old new stops.Memory h = tt
 pub asked_stops : (told : Type 0) (name : List ℕ) (old new : ShelfView) (result : Result PlainRequest Stop) → IfErr result (StopsAt Request (Rose (old.reads name) (new.reads name)) (λ cause. told → IsAskedFault (old.files name) cause)) → IfErr result (StopsAsked told name old new)
 asked_stops told name old new (Ok request) h = tt
 asked_stops told name old new (Err stop) h = asked_stop told name old new stop h
+
+-- ---- what is asked for
+
+-- a wallet file that holds a wallet isn't refused
+pub not_refused : (file : List ℕ) (w : PlainWallet) (cause : FileCause) → HasWallet file w → IsWalletCause file cause → ⊥
+not_refused file w cause has (inl h) = omega (arith, has.fits, h.1)
+not_refused file w cause has (inr h) = absurd (cc (has.form, h.2))

@@ -1,5 +1,5 @@
 -- Why the reading of files stops.
-use Rattle.std.specs.Prelude.{ℕ, ◌≡◌, ◌<◌, ◌≤◌, ◌⊎◌, List, length, Some, Err}
+use Rattle.std.specs.Prelude.{ℕ, ◌≡◌, ◌<◌, ◌≤◌, ◌⊎◌, Bool, true, false, List, length, Some, Err}
 use Rattle.block_feed.specs.Block.{ChainBlock}
 use Rattle.block_feed.specs.BlockFile.{IsBlockFile}
 use Rattle.block_feed.specs.Blocks.{blocks_of}
@@ -8,6 +8,8 @@ use Rattle.block_feed.specs.declared.fault.FeedFault.TheVariants as feeds
 use Rattle.coin_book.specs.Faults.{fault_of}
 use Rattle.coin_book.specs.declared.fault.BookFault.{BookFault}
 use Rattle.fund_base.specs.Causes.{ShelfView, Rose}
+use Rattle.fund_base.specs.declared.pieces.ReadError.{ReadError}
+use Rattle.fund_base.specs.declared.pieces.ReadError.TheVariants as reads
 use Rattle.request_text.specs.RequestText.{request_of}
 use Rattle.request_text.specs.declared.fault.Refusal as requests
 use Rattle.wallet_text.specs.PlainWallet.{PlainWallet}
@@ -25,6 +27,19 @@ use Rattle.fund_files.specs.declared.stop.Stop.{Stop}
 use Rattle.fund_files.specs.declared.stop.Stop.TheVariants as stops
 
 -- ---- one file
+
+-- the stop of a file that wasn't read whole
+abbrev pub read_stop_of : File → ReadError → Stop
+read_stop_of file reads.Failed = stops.Read file
+read_stop_of file reads.TooLong = stops.Refused (refusals.TooLong file)
+read_stop_of file reads.Memory = stops.Memory
+
+-- The stop is of the wallet file: it wasn't read, or it is refused.
+abbrev pub is_of_wallet : Stop → Bool
+is_of_wallet (stops.Read Wallet) = true
+is_of_wallet (stops.Refused (refusals.TooLong Wallet)) = true
+is_of_wallet (stops.Refused (refusals.BadWallet fault)) = true
+is_of_wallet stop = false
 
 -- a read of this file failed, or the file is refused for a cause
 abbrev pub StopsAt : File → Type 0 → (FileCause → Type 0) → Stop → Type 0

@@ -1,13 +1,13 @@
 //! The blocks of the block file, read one by one into the book.
 
-ghost use Rattle.std.specs.Prelude.{◌≡◌, ◌≢◌, Err, IfErr, IsErrOf, IfOk};
-ghost use Rattle.fund_base.specs.Causes.{OnlyReads, Rose};
+ghost use Rattle.std.specs.Prelude.{◌≡◌, ◌≢◌, [], ◌∷◌, false, Ok, Err, IfErr, IsErrOf, IfOk};
+ghost use Rattle.fund_base.specs.Causes.{Asks, OnlyReads, Rose};
 ghost use Rattle.block_feed.specs.Block.{ChainBlock};
 ghost use Rattle.block_feed.specs.Blocks.{blocks_of};
 ghost use Rattle.fund_files.specs.Behind.{IsBehind};
 ghost use Rattle.fund_files.specs.Booked.{AreRead, IsBooked, IsRead};
 ghost use Rattle.fund_files.specs.Cause.{cause_of};
-ghost use Rattle.fund_files.specs.FileStops.{IsBlocksCause, StopsAt, stop_of};
+ghost use Rattle.fund_files.specs.FileStops.{IsBlocksCause, StopsAt, is_of_wallet, stop_of};
 ghost use Rattle.fund_files.specs.Outcome.{book_cause};
 ghost use Rattle.wallet_text.specs.WalletRules.{IsWallet};
 
@@ -23,6 +23,7 @@ use wallet_text::Wallet;
 
 /// What the wallet's earlier transactions make with those of the file `name`, whose blocks stand behind the wallet's,
 /// and the tip. The file is read to its end whatever the book says. The error is the first fault of the file.
+#[tactic(auto, using(fund_base::proofs::Asking::asks_none, fund_base::proofs::Asking::asks_again))]
 fn read_blocks<H: Shelf>(
     alloc: Global,
     shelf: &mut H,
@@ -33,7 +34,9 @@ fn read_blocks<H: Shelf>(
     ensures read { IfOk result (λ r. IsRead H.tells ((H.view shelf.old).files name.now) wallet.now r.1 r.0) }
     ensures fault { H.tells → IfErr result (λ e. e ≢ FeedFault.Memory → e ≢ FeedFault.Read → blocks_of ((H.view shelf.old).files name.now) wallet.now.hash wallet.now.height ≡ Err e) }
     ensures cause { IsErrOf result FeedFault.Read → Rose ((H.view shelf.old).reads name.now) ((H.view shelf.new).reads name.now) }
+    ensures unfailed { result ≢ Err FeedFault.Read → (H.view shelf.new).reads ≡ (H.view shelf.old).reads }
     ensures frame { OnlyReads H.tells (H.view shelf.old) (H.view shelf.new) }
+    ensures asked { H.tells → Asks (name.now ∷ []) (H.view shelf.old).asked (H.view shelf.new).asked }
 {
     let Ok(mut booked) = begin(alloc, wallet) else {
         return Err(FeedFault::Memory);
@@ -61,7 +64,9 @@ fn read_blocks<H: Shelf>(
 
 /// Why the reading of the blocks stops, as a stop.
 fn blocks_stop(fault: FeedFault) -> Stop
-    ensures { result ≡ stop_of fault }
+    ensures stop { result ≡ stop_of fault }
+    ensures own { is_of_wallet result ≡ false }
+    ensures memory { result ≡ Stop.Memory → fault ≡ FeedFault.Memory }
 {
     match fault {
         FeedFault::Read => Stop::Read(File::Blocks),
@@ -73,7 +78,8 @@ fn blocks_stop(fault: FeedFault) -> Stop
 
 /// Why a history is refused.
 fn book_refusal(fault: BookFault) -> FileRefusal
-    ensures { cause_of result ≡ book_cause fault }
+    ensures cause { cause_of result ≡ book_cause fault }
+    ensures own { is_of_wallet (Stop.Refused result) ≡ false }
 {
     match fault {
         BookFault::RepeatCoin(coin) => FileRefusal::RepeatCoin(coin),
@@ -91,6 +97,9 @@ pub fn book_from<H: Shelf>(
     requires { IsWallet wallet.now }
     ensures held { IfOk result (λ r. IsBehind H.tells ((H.view shelf.old).files name.now) wallet.now r.0 r.1) }
     ensures frame { OnlyReads H.tells (H.view shelf.old) (H.view shelf.new) }
+    ensures unfailed { result ≢ Err (Stop.Read File.Blocks) → (H.view shelf.new).reads ≡ (H.view shelf.old).reads }
+    ensures asked { H.tells → Asks (name.now ∷ []) (H.view shelf.old).asked (H.view shelf.new).asked }
+    ensures own { IfErr result (λ stop. is_of_wallet stop ≡ false) }
     ensures stop { IfErr result (StopsAt File.Blocks (Rose ((H.view shelf.old).reads name.now) ((H.view shelf.new).reads name.now)) (λ cause. H.tells → IsBlocksCause wallet.now ((H.view shelf.old).files name.now) cause)) }
 {
     let (booked, tip) = match read_blocks(alloc, shelf, name, wallet) {

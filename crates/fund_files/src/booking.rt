@@ -1,6 +1,6 @@
 //! The book while a wallet and blocks are read.
 
-ghost use Rattle.std.specs.Prelude.{◌≡◌, ◌≢◌, [], All, IfOk};
+ghost use Rattle.std.specs.Prelude.{◌≡◌, ◌≢◌, [], All, IfOk, OnErr};
 ghost use Rattle.tx_codec.specs.Transaction.{Transaction};
 ghost use Rattle.tx_codec.specs.TransactionText.{IsTransaction};
 ghost use Rattle.tx_codec.specs.Txid.{txid_of};
@@ -28,14 +28,14 @@ pub fn begin(alloc: Global, wallet: &Wallet) -> Result<Booked, Memory>
 {
     match Book::new(alloc, wallet) {
         Ok(book) => Ok(Booked::Kept(book)),
-        Err(BookFault::Memory) => Err(Memory),
-        Err(fault) => Ok(Booked::Broken(fault)),
+        Err(fault) => broken(fault),
     }
 }
 
-/// A fault of the book; or want of memory, which is none.
+/// A fault of the book; or out of memory, which is none, and which comes only where the book says so.
 fn broken(fault: BookFault) -> Result<Booked, Memory>
-    ensures { IfOk result (λ b. (fault ≢ BookFault.Memory) × (b ≡ Booked.Broken fault)) }
+    ensures fault { IfOk result (λ b. (fault ≢ BookFault.Memory) × (b ≡ Booked.Broken fault)) }
+    ensures memory { OnErr result (fault ≡ BookFault.Memory) }
 {
     match fault {
         BookFault::Memory => Err(Memory),

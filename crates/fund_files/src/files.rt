@@ -1,14 +1,14 @@
 //! The wallet file, the block file and the request file, read one by one.
 
-ghost use Rattle.std.specs.Prelude.{◌≡◌, ◌≤◌, ◌<◌, length, Ok, IfOk, IfErr, OnOk};
-ghost use Rattle.fund_base.specs.Causes.{OnlyReads, Rose};
+ghost use Rattle.std.specs.Prelude.{◌≡◌, ◌≢◌, ◌≤◌, ◌<◌, [], ◌∷◌, true, length, Ok, Err, IfOk, IfErr, OnOk};
+ghost use Rattle.fund_base.specs.Causes.{Asks, OnlyReads, Rose};
 ghost use Rattle.request_text.specs.RequestText.{request_of};
 ghost use Rattle.wallet_text.specs.WalletRules.{IsWallet};
 ghost use Rattle.wallet_text.specs.WalletText.{wallet_of};
 ghost use Rattle.fund_files.specs.Behind.{AreHeld};
-ghost use Rattle.fund_files.specs.Cause.{TooLong, cause_of};
+ghost use Rattle.fund_files.specs.Cause.{FileCause, TooLong, cause_of};
 ghost use Rattle.fund_files.specs.Contents.{HasRequest};
-ghost use Rattle.fund_files.specs.FileStops.{IsAskedFault, IsWalletCause, StopsAsked, StopsAt, StopsChain};
+ghost use Rattle.fund_files.specs.FileStops.{IsAskedFault, IsWalletCause, StopsAsked, StopsAt, StopsChain, is_of_wallet, read_stop_of};
 
 use crate::blocks::book_from;
 use crate::held::Held;
@@ -25,6 +25,18 @@ const WALLET_LIMIT: usize = 16_777_216;
 /// The greatest length of a request file, in bytes.
 const REQUEST_LIMIT: usize = 1_048_576;
 
+/// Why the reading stops at a file that wasn't read whole.
+fn read_stop(file: File, error: ReadError) -> Stop
+    ensures stop { result ≡ read_stop_of file error }
+    ensures memory { result ≡ Stop.Memory → error ≡ ReadError.Memory }
+{
+    match error {
+        ReadError::Failed => Stop::Read(file),
+        ReadError::TooLong => Stop::Refused(FileRefusal::TooLong(file)),
+        ReadError::Memory => Stop::Memory,
+    }
+}
+
 /// The bytes of a file, which has this name and at most `limit` bytes; a longer one is refused.
 fn read_input<H: Shelf>(
     alloc: Global,
@@ -38,12 +50,23 @@ fn read_input<H: Shelf>(
     ensures fits { H.tells → OnOk result (length ((H.view shelf.old).files name.now) ≤ limit) }
     ensures frame { OnlyReads H.tells (H.view shelf.old) (H.view shelf.new) }
     ensures stop { IfErr result (StopsAt file (Rose ((H.view shelf.old).reads name.now) ((H.view shelf.new).reads name.now)) (λ cause. (cause ≡ TooLong file) × (H.tells → limit < length ((H.view shelf.old).files name.now)))) }
+    ensures unfailed { result ≢ Err (Stop.Read file) → (H.view shelf.new).reads ≡ (H.view shelf.old).reads }
+    ensures asked { H.tells → Asks (name.now ∷ []) (H.view shelf.old).asked (H.view shelf.new).asked }
 {
     match read_whole(alloc, shelf, name, limit) {
         Ok(bytes) => Ok(bytes),
-        Err(ReadError::Failed) => Err(Stop::Read(file)),
-        Err(ReadError::TooLong) => Err(Stop::Refused(FileRefusal::TooLong(file))),
-        Err(ReadError::Memory) => Err(Stop::Memory),
+        Err(error) => Err(read_stop(file, error)),
+    }
+}
+
+/// Why the reading stops at a wallet file with this fault.
+fn wallet_stop(fault: WalletFault) -> Stop
+    ensures refused { result ≢ Stop.Memory → (fault ≢ WalletFault.Memory) × (result ≡ Stop.Refused (FileRefusal.BadWallet fault)) }
+    ensures memory { result ≡ Stop.Memory → fault ≡ WalletFault.Memory }
+{
+    match fault {
+        WalletFault::Memory => Stop::Memory,
+        fault => Stop::Refused(FileRefusal::BadWallet(fault)),
     }
 }
 
@@ -54,12 +77,13 @@ fn wallet_from<H: Shelf>(alloc: Global, shelf: &mut H, name: &str) -> Result<Wal
     ensures fits { H.tells → OnOk result (length ((H.view shelf.old).files name.now) ≤ WALLET_LIMIT) }
     ensures frame { OnlyReads H.tells (H.view shelf.old) (H.view shelf.new) }
     ensures stop { IfErr result (StopsAt File.Wallet (Rose ((H.view shelf.old).reads name.now) ((H.view shelf.new).reads name.now)) (λ cause. H.tells → IsWalletCause ((H.view shelf.old).files name.now) cause)) }
+    ensures unfailed { result ≢ Err (Stop.Read File.Wallet) → (H.view shelf.new).reads ≡ (H.view shelf.old).reads }
+    ensures asked { H.tells → Asks (name.now ∷ []) (H.view shelf.old).asked (H.view shelf.new).asked }
 {
     let bytes = read_input(alloc, shelf, File::Wallet, name, WALLET_LIMIT)?;
     match read_wallet(alloc, &bytes) {
         Ok(wallet) => Ok(wallet),
-        Err(WalletFault::Memory) => Err(Stop::Memory),
-        Err(fault) => Err(Stop::Refused(FileRefusal::BadWallet(fault))),
+        Err(fault) => Err(wallet_stop(fault)),
     }
 }
 
@@ -75,10 +99,30 @@ pub fn read_chain<H: Shelf>(
     ensures held { IfOk result (λ k. AreHeld H.tells ((H.view shelf.old).files wallet.now) ((H.view shelf.old).files blocks.now) k) }
     ensures frame { OnlyReads H.tells (H.view shelf.old) (H.view shelf.new) }
     ensures stop { IfErr result (StopsChain H.tells wallet.now blocks.now (H.view shelf.old) (H.view shelf.new)) }
+
+    // A count of failed reads rises only where one of the two files wasn't read.
+    ensures unfailed { result ≢ Err (Stop.Read File.Wallet) → result ≢ Err (Stop.Read File.Blocks) → (H.view shelf.new).reads ≡ (H.view shelf.old).reads }
+
+    // It asks for the wallet file, and then for the block file. Where the wallet file isn't read or is refused, it asks
+    // for no other.
+    ensures asked { H.tells → Asks (wallet.now ∷ blocks.now ∷ []) (H.view shelf.old).asked (H.view shelf.new).asked }
+    ensures wallet_alone { H.tells → IfErr result (λ stop. is_of_wallet stop ≡ true → Asks (wallet.now ∷ []) (H.view shelf.old).asked (H.view shelf.new).asked) }
+    ensures refused_alone { H.tells → (cause : FileCause) → IsWalletCause ((H.view shelf.old).files wallet.now) cause → Asks (wallet.now ∷ []) (H.view shelf.old).asked (H.view shelf.new).asked }
 {
     let wallet = wallet_from(alloc, shelf, wallet)?;
     let (book, tip) = book_from(alloc, shelf, blocks, &wallet)?;
     Ok(Held { wallet, book, tip })
+}
+
+/// Why the reading stops at a request file with this fault.
+fn request_stop(fault: RequestFault) -> Stop
+    ensures refused { result ≢ Stop.Memory → (fault ≢ RequestFault.Memory) × (result ≡ Stop.Refused (FileRefusal.BadRequest fault)) }
+    ensures memory { result ≡ Stop.Memory → fault ≡ RequestFault.Memory }
+{
+    match fault {
+        RequestFault::Memory => Stop::Memory,
+        fault => Stop::Refused(FileRefusal::BadRequest(fault)),
+    }
 }
 
 /// The request.
@@ -87,12 +131,13 @@ fn request_from<H: Shelf>(alloc: Global, shelf: &mut H, name: &str) -> Result<Re
     ensures fits { H.tells → OnOk result (length ((H.view shelf.old).files name.now) ≤ REQUEST_LIMIT) }
     ensures frame { OnlyReads H.tells (H.view shelf.old) (H.view shelf.new) }
     ensures stop { IfErr result (StopsAt File.Request (Rose ((H.view shelf.old).reads name.now) ((H.view shelf.new).reads name.now)) (λ cause. H.tells → IsAskedFault ((H.view shelf.old).files name.now) cause)) }
+    ensures unfailed { result ≢ Err (Stop.Read File.Request) → (H.view shelf.new).reads ≡ (H.view shelf.old).reads }
+    ensures asked { H.tells → Asks (name.now ∷ []) (H.view shelf.old).asked (H.view shelf.new).asked }
 {
     let bytes = read_input(alloc, shelf, File::Request, name, REQUEST_LIMIT)?;
     match read_request(alloc, &bytes) {
         Ok(request) => Ok(request),
-        Err(RequestFault::Memory) => Err(Stop::Memory),
-        Err(fault) => Err(Stop::Refused(FileRefusal::BadRequest(fault))),
+        Err(fault) => Err(request_stop(fault)),
     }
 }
 
@@ -101,6 +146,10 @@ pub fn read_asked<H: Shelf>(alloc: Global, name: &str, shelf: &mut H) -> Result<
     ensures asked { H.tells → IfOk result (HasRequest ((H.view shelf.old).files name.now)) }
     ensures frame { OnlyReads H.tells (H.view shelf.old) (H.view shelf.new) }
     ensures stop { IfErr result (StopsAsked H.tells name.now (H.view shelf.old) (H.view shelf.new)) }
+
+    // A count of failed reads rises only where the file wasn't read, and it alone is asked for.
+    ensures unfailed { result ≢ Err (Stop.Read File.Request) → (H.view shelf.new).reads ≡ (H.view shelf.old).reads }
+    ensures asked_for { H.tells → Asks (name.now ∷ []) (H.view shelf.old).asked (H.view shelf.new).asked }
 {
     request_from(alloc, shelf, name)
 }

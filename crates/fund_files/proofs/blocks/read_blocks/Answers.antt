@@ -1,5 +1,6 @@
-use Rattle.std.proofs.Common.{◌≡◌, ◌≤◌, ◌∙◌, ap, sym, subst, List, ℕ, length, arith, refl, Err, None}
+use Rattle.std.proofs.Common.{[], ◌∷◌, ◌≡◌, ◌≤◌, ◌∙◌, ap, sym, subst, List, ℕ, length, arith, refl, Err, None}
 use Rattle.std.proofs.lemmas.Result.{err_from_is_err_and}
+use Rattle.fund_base.proofs.Asking.{asks_again, asks_none}
 use Rattle.block_feed.specs.Block.{ChainBlock}
 use Rattle.block_feed.specs.Feed.{StandsBefore, next_of}
 use Rattle.wallet_text.specs.PlainWallet.{PlainWallet}
@@ -14,6 +15,8 @@ reading-init g c =
       same_file = tt;
       fine = refl;
       frame = record { same = λ t. refl; reads = λ name. omega arith; writes = refl };
+      reads = refl;
+      asked = λ t. asks_none (c.args.name.now ∷ []) (g.H.Shelf.view c.args.shelf.now).asked;
       so_far = so_far_none g.H.Shelf.tells ((g.H.Shelf.view c.args.shelf.now).files c.args.name.now) c.args.wallet.now (record { hash = c.wallet.inside.hash; height = c.wallet.inside.height; place = 0; fault = None; file = None }) c.in-Ok.booked refl hash height c.requires.height c.in-Ok.ensures;
     })
 
@@ -52,6 +55,17 @@ reading-preserved g c =
         reads = λ name. omega (arith, e.reads name, c.reading.invariant.frame.reads name);
         writes = e.writes ∙ c.reading.invariant.frame.writes;
       };
+      reads = e.unfailed (λ h. absurd cc) ∙ c.reading.invariant.reads;
+      asked = λ t. asks_again _ _ _ _ (c.reading.invariant.asked t) (e.asked t);
       so_far = so_far_more g.H.Shelf.tells _ _ _ _ c.reading.feed c.next.new.self c.reading.booked c.in-Ok-add_block.more c.in-Some.block _ _ linked moves (λ t. ap (λ (files : List ℕ → List ℕ). files c.args.name.now) (c.reading.invariant.frame.same t))
           (λ t. exact t c.reading.invariant.fine) (λ t. within t c.reading.invariant.fine) (λ t. before t c.reading.invariant.fine) _ _ height hash c.in-Ok-add_block.ensures c.reading.invariant.so_far;
     }
+
+pub returns-in_err-block-clause-asked : goal.returns-in_err-block-clause-asked
+returns-in_err-block-clause-asked g c = λ t. asks_again _ _ _ _ (c.reading.invariant.asked t) (c.in_err-block.ensures.asked t)
+
+pub returns-in_default-2-clause-asked : goal.returns-in_default-2-clause-asked
+returns-in_default-2-clause-asked g c = λ t. asks_again _ _ _ _ (c.reading.invariant.asked t) (c.in_ok-block.ensures.asked t)
+
+pub returns-in-Err-clause-asked : goal.returns-in-Err-clause-asked
+returns-in-Err-clause-asked g c = λ t. asks_again _ _ _ _ (c.reading.invariant.asked t) (c.in_ok-block.ensures.asked t)

@@ -1,5 +1,5 @@
-use Rattle.std.proofs.Common.{◌≡◌, None}
-use Rattle.fund_base.specs.Causes.{OnlyReads}
+use Rattle.std.proofs.Common.{◌≡◌, [], ◌∷◌, None}
+use Rattle.fund_base.specs.Causes.{Asks, OnlyReads}
 use Rattle.block_feed.specs.Feed.{IsSameFile}
 use Rattle.fund_files.proofs.FeedSteps.{SoFar}
 use Rattle.fund_files.proofs.blocks.read_blocks.Given as goal
@@ -9,5 +9,7 @@ invariant-reading g l = record {
   same_file : IsSameFile g.H.Shelf.tells l.feed l.name ((g.H.Shelf.view l.shelf).files l.name);
   fine : l.feed.fault ≡ None;
   frame : OnlyReads g.H.Shelf.tells (g.H.Shelf.view l.initial.shelf) (g.H.Shelf.view l.shelf);
+  reads : (g.H.Shelf.view l.shelf).reads ≡ (g.H.Shelf.view l.initial.shelf).reads;
+  asked : g.H.Shelf.tells → Asks (l.name ∷ []) (g.H.Shelf.view l.initial.shelf).asked (g.H.Shelf.view l.shelf).asked;
   so_far : SoFar g.H.Shelf.tells ((g.H.Shelf.view l.initial.shelf).files l.name) l.wallet l.feed l.tip l.booked;
 }

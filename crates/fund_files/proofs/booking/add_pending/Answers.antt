@@ -9,4 +9,4 @@ use Rattle.fund_files.proofs.booking.add_pending.Goals as goal
 pub returns-in-Err : goal.returns-in-Err
 returns-in-Err c = λ h is.
     let kept = rw c.in-Kept.is at is in
-    subst (λ (x : History). IfOk c.broken.result (λ (b : Booked). IsBooked b (with_pending x c.args.tx.now))) kept.0 (broken_is c.broken.result c.in-Err.fault (with_pending c.in-Kept.book c.args.tx.now) c.broken.ensures c.in-Err.ensures.exact)
+    subst (λ (x : History). IfOk c.broken.result (λ (b : Booked). IsBooked b (with_pending x c.args.tx.now))) kept.0 (broken_is c.broken.result c.in-Err.fault (with_pending c.in-Kept.book c.args.tx.now) c.broken.ensures.fault c.in-Err.ensures.exact)

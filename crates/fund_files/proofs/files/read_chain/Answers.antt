@@ -1,9 +1,10 @@
-use Rattle.std.proofs.Common.{◌≡◌, ap, ℕ, List}
+use Rattle.std.proofs.Common.{◌≡◌, ap, ℕ, List, [], ◌∷◌}
 use Rattle.std.proofs.lemmas.Result.{err_from_is_err_and}
+use Rattle.fund_base.proofs.Asking.{asks_first, asks_then}
 use Rattle.fund_files.specs.Contents.{HasWallet}
 use Rattle.fund_files.proofs.FrameLaws.{only_reads_on}
 use Rattle.fund_files.proofs.HeldLaws.{held_is}
-use Rattle.fund_files.proofs.StopLaws.{at_blocks, at_wallet}
+use Rattle.fund_files.proofs.StopLaws.{at_blocks, at_wallet, not_refused}
 use Rattle.fund_files.proofs.files.read_chain.Goals as goal
 
 pub returns-in_err-wallet-clause-stop : goal.returns-in_err-wallet-clause-stop
@@ -28,3 +29,34 @@ returns-clause-held g c =
 
 pub returns-clause-frame : goal.returns-clause-frame
 returns-clause-frame g c = only_reads_on _ (g.H.Shelf.view c.args.shelf.now) (g.H.Shelf.view c.wallet_from.new.shelf) (g.H.Shelf.view c.book_from.new.shelf) c.wallet_from.ensures.frame c.book_from.ensures.frame
+
+-- ---- what is asked for
+
+pub returns-in_err-wallet-clause-asked : goal.returns-in_err-wallet-clause-asked
+returns-in_err-wallet-clause-asked g c = λ t. asks_first (c.args.wallet.now ∷ []) (c.args.blocks.now ∷ []) _ _ (c.wallet_from.ensures.asked t)
+
+pub returns-in_err-book-clause-asked : goal.returns-in_err-book-clause-asked
+returns-in_err-book-clause-asked g c = λ t. asks_then (c.args.wallet.now ∷ []) (c.args.blocks.now ∷ []) _ _ _ (c.wallet_from.ensures.asked t) (c.book_from.ensures.asked t)
+
+pub returns-clause-asked : goal.returns-clause-asked
+returns-clause-asked g c = λ t. asks_then (c.args.wallet.now ∷ []) (c.args.blocks.now ∷ []) _ _ _ (c.wallet_from.ensures.asked t) (c.book_from.ensures.asked t)
+
+pub returns-in_err-wallet-clause-wallet_alone : goal.returns-in_err-wallet-clause-wallet_alone
+returns-in_err-wallet-clause-wallet_alone g c = λ t.
+    let p = err_from_is_err_and c.from_residual.result c.from_residual.ensures.1 in
+    rw (p.1, p.2) (λ of_wallet. c.wallet_from.ensures.asked t)
+
+pub returns-in_err-book-clause-wallet_alone : goal.returns-in_err-book-clause-wallet_alone
+returns-in_err-book-clause-wallet_alone g c = λ t.
+    let p = err_from_is_err_and c.from_residual-in_err-book.result c.from_residual-in_err-book.ensures.1 in
+    rw (p.1, p.2) (λ of_wallet. absurd (cc (of_wallet, c.in_err-book.ensures.own)))
+
+pub returns-in_err-book-clause-refused_alone : goal.returns-in_err-book-clause-refused_alone
+returns-in_err-book-clause-refused_alone g c = λ t cause refused.
+    let held : HasWallet ((g.H.Shelf.view c.args.shelf.now).files c.args.wallet.now) c.in_ok-wallet.wallet = record { fits = c.in_ok-wallet.ensures.fits t; form = c.in_ok-wallet.ensures.form t } in
+    absurd (not_refused _ c.in_ok-wallet.wallet cause held refused)
+
+pub returns-clause-refused_alone : goal.returns-clause-refused_alone
+returns-clause-refused_alone g c = λ t cause refused.
+    let held : HasWallet ((g.H.Shelf.view c.args.shelf.now).files c.args.wallet.now) c.in_ok-wallet.wallet = record { fits = c.in_ok-wallet.ensures.fits t; form = c.in_ok-wallet.ensures.form t } in
+    absurd (not_refused _ c.in_ok-wallet.wallet cause held refused)
