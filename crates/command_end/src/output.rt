@@ -106,6 +106,7 @@ pub fn finish<H: Shelf, O: Sink>(
     // What stays.
     ensures others { H.tells → SameElsewhere log.now (H.view shelf.old).files (H.view shelf.new).files }
     ensures reads { (H.view shelf.new).reads ≡ (H.view shelf.old).reads }
+    ensures asked { (H.view shelf.new).asked ≡ (H.view shelf.old).asked }
     ensures writes { NeverFall (H.view shelf.old).writes (H.view shelf.new).writes }
     ensures counts { CountsNeverFall (O.view out.old) (O.view out.new) }
 {
