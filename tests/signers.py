@@ -1,0 +1,212 @@
+#!/usr/bin/python3
+"""Signs what the program writes with Electrum, and verifies it with python-bitcoinlib; outside the gate.
+
+    tests/signers.py PROGRAM [COUNT] [SEED] [METHOD ..]
+
+PROGRAM is a built fund_cli. It wants Debian's python3-electrum and python3-bitcoinlib. COUNT requests (100) of the METHODs
+(manual) are made from the SEED (1), over wallets of P2WPKH, P2PKH, P2SH-P2WPKH, and 2 of 3 keys in P2WSH and P2SH. (Electrum 4.3 can't sign for
+P2TR.) Each payment is read by Electrum, signed and finished; each of its signatures is verified; its weight is compared
+with the declared one, and its fee with what the rate asks for its own size.
+"""
+import hashlib
+import json
+import os
+import random
+import struct
+import subprocess
+import sys
+import tempfile
+
+from bitcoin.core import CTransaction
+from bitcoin.core.key import CPubKey
+from bitcoin.core.script import CScript, SIGVERSION_WITNESS_V0, SignatureHash
+from electrum import bitcoin, ecc
+from electrum.transaction import multisig_script, tx_from_any
+
+
+def double_hash(data):
+    return hashlib.sha256(hashlib.sha256(data).digest()).digest()
+
+
+def hash160(data):
+    return bitcoin.hash_160(data)
+
+
+class Kind:
+    """A script, how it is spent, and the weight that is declared for an input that spends it."""
+
+    def __init__(self, name, random_source):
+        self.name = name
+        count = 3 if name.endswith("2-of-3") else 1
+        self.secrets = [random_source.getrandbits(255).to_bytes(32, "big") for _ in range(count)]
+        keys = sorted(ecc.ECPrivkey(secret).get_public_key_bytes(compressed=True) for secret in self.secrets)
+        self.keys = keys
+        self.pairs = {ecc.ECPrivkey(s).get_public_key_hex(compressed=True): (s, True) for s in self.secrets}
+        self.needed = 2 if count == 3 else 1
+        self.redeem = self.witness = None
+        if name == "p2wpkh":
+            self.script, self.weight, self.type = b"\x00\x14" + hash160(keys[0]), 272, "p2wpkh"
+        elif name == "p2pkh":
+            self.script, self.weight, self.type = b"\x76\xa9\x14" + hash160(keys[0]) + b"\x88\xac", 593, "p2pkh"
+        elif name == "p2sh-p2wpkh":
+            self.redeem = b"\x00\x14" + hash160(keys[0])
+            self.script, self.weight, self.type = b"\xa9\x14" + hash160(self.redeem) + b"\x87", 364, "p2wpkh-p2sh"
+        else:
+            inner = bytes.fromhex(multisig_script([key.hex() for key in keys], 2))
+            if name == "p2wsh-2-of-3":
+                self.witness = inner
+                self.script, self.weight, self.type = b"\x00\x20" + hashlib.sha256(inner).digest(), 418, "p2wsh"
+            else:
+                self.redeem = inner
+                self.script, self.weight, self.type = b"\xa9\x14" + hash160(inner) + b"\x87", 1189, "p2sh"
+
+
+KINDS = ["p2wpkh", "p2pkh", "p2sh-p2wpkh", "p2wsh-2-of-3", "p2sh-2-of-3"]
+
+
+def transaction(source, outputs):
+    """A legacy transaction of one input: its txid, its bytes."""
+    data = struct.pack("<I", 2) + b"\x01" + source + bytes(4) + b"\0" + b"\xff\xff\xff\xff" + bytes([len(outputs)])
+    for script, value in outputs:
+        data += struct.pack("<Q", value) + bytes([len(script)]) + script
+    data += bytes(4)
+    return double_hash(data)[::-1].hex(), data
+
+
+class Case:
+    """A wallet and a request, made by chance."""
+
+    def __init__(self, random_source, methods):
+        r = random_source
+        self.kinds = [Kind(name, r) for name in r.sample(KINDS, r.randint(1, 4))]
+        self.coins = {}
+        earlier = []
+        for _ in range(r.randint(2, 30)):
+            kind = r.choice(self.kinds)
+            value = r.randint(20_000, 2_000_000)
+            txid, data = transaction(r.randbytes(32), [(kind.script, value)])
+            self.coins[(txid, 0)] = (kind, value)
+            earlier.append({"tx": data.hex(), "height": r.randint(1, 90)})
+        entries = [{"script": kind.script.hex(), "weight": kind.weight} for kind in self.kinds]
+        self.wallet = {"height": 100, "hash": "00" * 32, "scripts": entries, "change": r.choice(entries), "earlier": earlier}
+        self.rate = r.randint(1_000, 30_000)
+        total = sum(value for _, value in self.coins.values())
+        parts = r.randint(1, 5)
+        amount = max(1_000, r.randint(total // 20, total) // (2 * parts))
+        recipients = [{"script": "0014" + r.randbytes(20).hex(), "amount": amount} for _ in range(parts)]
+        self.request = {"recipients": recipients, "rate": self.rate, "method": r.choice(methods), "seed": r.randbytes(32).hex(),
+                        "tries": 20_000, "replaceable": r.random() < 0.5, "locktime": r.choice([0, 1, 877_004, 2**31 - 1])}
+        if self.request["method"] == "manual" or r.random() < 0.2:
+            listed = r.sample(sorted(self.coins), r.randint(1, len(self.coins)))
+            self.request["coins"] = [f"{txid}:{index}" for txid, index in listed]
+
+    def fund(self, program, folder):
+        """The report's lines, or None where nothing pays."""
+        names = [os.path.join(folder, name) for name in ("wallet.json", "blocks.dat", "request.json", "log")]
+        for name, data in zip(names, (json.dumps(self.wallet), "", json.dumps(self.request))):
+            with open(name, "w", encoding="utf-8") as file:
+                file.write(data)
+        run = subprocess.run([program, "fund", *names], capture_output=True, text=True)
+        if run.returncode == 11:
+            return None
+        if run.returncode != 0:
+            raise AssertionError(f"status {run.returncode}: {run.stdout}")
+        return [line.split(" ") for line in run.stdout.splitlines()]
+
+
+def sign(case, text):
+    """What Electrum makes of a PSBT: the finished transaction."""
+    payment = tx_from_any(text)
+    pairs = {}
+    for txin in payment.inputs():
+        kind, value = case.coins[(txin.prevout.txid.hex(), txin.prevout.out_idx)]
+        assert txin.value_sats() == value and txin.scriptpubkey == kind.script, "a coin's value or script"
+        assert (txin.utxo is None) == (kind.type in ("p2wpkh", "p2wsh")), "which of the two tells of the coin"
+        txin.script_type, txin.pubkeys, txin.num_sig = kind.type, list(kind.keys), kind.needed
+        if kind.redeem is not None:
+            txin.redeem_script = kind.redeem
+        if kind.witness is not None:
+            txin.witness_script = kind.witness
+        pairs.update(kind.pairs)
+    payment.sign(pairs)
+    payment.finalize_psbt()
+    assert payment.is_complete(), "Electrum didn't finish it"
+    return bytes.fromhex(payment.serialize_to_network())
+
+
+def verify(case, data):
+    """Verifies each signature of a finished transaction."""
+    tx = CTransaction.deserialize(data)
+    for n, txin in enumerate(tx.vin):
+        kind, value = case.coins[(txin.prevout.hash[::-1].hex(), txin.prevout.n)]
+        stack = [bytes(item) for item in tx.wit.vtxinwit[n].scriptWitness.stack] if not tx.wit.is_null() else []
+        pushed = [bytes(item) for item in CScript(txin.scriptSig) if isinstance(item, bytes)]
+        if kind.type in ("p2wpkh", "p2wpkh-p2sh"):
+            code, amount, keys, signatures = b"\x76\xa9\x14" + hash160(kind.keys[0]) + b"\x88\xac", value, [stack[1]], stack[:1]
+        elif kind.type == "p2wsh":
+            code, amount, keys, signatures = kind.witness, value, kind.keys, [s for s in stack[:-1] if s]
+        elif kind.type == "p2pkh":
+            code, amount, keys, signatures = kind.script, None, [pushed[1]], pushed[:1]
+        else:
+            code, amount, keys, signatures = kind.redeem, None, kind.keys, [s for s in pushed[:-1] if s]
+        assert len(signatures) == kind.needed and all(key in kind.keys for key in keys), "keys and signatures"
+        if amount is None:
+            digest = SignatureHash(CScript(code), tx, n, 1)
+        else:
+            digest = SignatureHash(CScript(code), tx, n, 1, amount=amount, sigversion=SIGVERSION_WITNESS_V0)
+        for signature in signatures:
+            assert any(CPubKey(key).verify(digest, signature[:-1]) for key in keys), "a signature"
+    return tx
+
+
+def weight_of(tx, data):
+    bare = len(CTransaction(tx.vin, tx.vout, tx.nLockTime, tx.nVersion).serialize())
+    return 3 * bare + len(data)
+
+
+def try_one(case, program, folder):
+    """Funds, signs and verifies; the declared and the real weight, or None where nothing pays."""
+    report = case.fund(program, folder)
+    if report is None:
+        return None
+    lines = {line[0]: line[-1] for line in report}
+    data = sign(case, lines["psbt"])
+    tx = verify(case, data)
+    declared, weight = int(lines["weight"]), weight_of(tx, data)
+    spent = sum(case.coins[(txin.prevout.hash[::-1].hex(), txin.prevout.n)][1] for txin in tx.vin)
+    fee = spent - sum(out.nValue for out in tx.vout)
+    paid = [(out.scriptPubKey.hex(), out.nValue) for out in tx.vout][:len(case.request["recipients"])]
+    assert fee == int(lines["fee"]), "the fee"
+    assert paid == [(one["script"], one["amount"]) for one in case.request["recipients"]], "the recipients"
+    assert weight <= declared, f"it weighs {weight}, and {declared} were declared"
+    assert 1000 * fee >= case.rate * -(-weight // 4), "the fee is below the rate"
+    return declared, weight
+
+
+def main():
+    program = os.path.abspath(sys.argv[1])
+    count = int(sys.argv[2]) if len(sys.argv) > 2 else 100
+    seed = int(sys.argv[3]) if len(sys.argv) > 3 else 1
+    methods = sys.argv[4:] or ["manual"]
+    random_source = random.Random(seed)
+    funded, none, slack = 0, 0, 0
+    with tempfile.TemporaryDirectory() as folder:
+        for number in range(count):
+            case = Case(random_source, methods)
+            try:
+                made = try_one(case, program, folder)
+            except AssertionError as wrong:
+                print(f"WRONG, request {number} of seed {seed}: {wrong}")
+                return 1
+            if made is None:
+                none += 1
+                continue
+            funded += 1
+            slack = max(slack, made[0] - made[1])
+    print(f"{count} requests of seed {seed}: {funded} funded, signed and verified, {none} without a payment; "
+          f"at most {slack} weight units less than declared")
+    return 0
+
+
+if __name__ == "__main__":
+    sys.exit(main())

@@ -1,0 +1,358 @@
+#!/usr/bin/env python3
+"""Makes Ninelace's wallet file and block file from the answers of a Bitcoin Core node.
+
+    tools/core_to_files.py --wallet NAME --change ADDRESS --out wallet.json --block-file blocks.dat
+    tools/core_to_files.py --saved FOLDER --change ADDRESS --out wallet.json --block-file blocks.dat
+
+The first form asks the node by `bitcoin-cli`; `--save FOLDER` keeps its answers. The second form reads answers that
+were kept so, and needs no node. Both use these calls, all of which only read: getblockchaininfo, listunspent,
+listlockunspent, gettransaction, listtransactions, getaddressinfo, getblockhash, getblock.
+
+The coins are those of `listunspent`. Each script's input weight is worked out from its descriptor; coins of a script
+whose weight isn't known are left out and named. What an earlier transaction pays to a listed script and Core doesn't
+list, because it is spent, is locked. With `--last-blocks N` the last N blocks go into the block file, otherwise that
+file is empty and the wallet file has the chain's tip.
+"""
+import argparse
+import json
+import os
+import re
+import shlex
+import struct
+import subprocess
+import sys
+
+MAGIC = bytes.fromhex("f9beb4d9")
+MOST_TRANSACTIONS = 100_000
+
+
+class Refused(Exception):
+    """What stops the tool, in a sentence for its user."""
+
+
+# ---- the node's answers
+
+class Node:
+    """Answers of a node, asked by bitcoin-cli or read from a folder."""
+
+    def __init__(self, command, saved, save):
+        self.command, self.saved, self.save = command, saved, save
+
+    @staticmethod
+    def name_of(call, words):
+        """The file that keeps the answer to a call with these words."""
+        return "-".join([call, *[re.sub(r"[^0-9A-Za-z]", "_", word) for word in words]]) + ".json"
+
+    def ask(self, call, *words, unknown=None):
+        """The answer to a call; None where the node refuses it with this text, which says that it knows no such thing."""
+        name = self.name_of(call, words)
+        if self.saved is not None:
+            path = os.path.join(self.saved, name)
+            if not os.path.exists(path):
+                raise Refused(f"{path} isn't there: the answer of `{' '.join([call, *words])}` wasn't saved")
+            with open(path, encoding="utf-8") as file:
+                return json.load(file)
+        run = subprocess.run([*self.command, call, *words], capture_output=True, text=True)
+        if run.returncode != 0 and (unknown is None or unknown not in run.stderr):
+            raise Refused(f"`{' '.join([call, *words])}` failed: {run.stderr.strip()}")
+        text = run.stdout.strip() if run.returncode == 0 else "null"
+        try:
+            answer = json.loads(text)
+        except ValueError:
+            answer = text  # bitcoin-cli prints a bare text without quotes
+        if self.save is not None:
+            with open(os.path.join(self.save, name), "w", encoding="utf-8") as file:
+                json.dump(answer, file, indent=1)
+        return answer
+
+
+# ---- weights of inputs
+
+BASE = 4 * 41 + 1        # outpoint, empty script's length and sequence, at four; and the count of the witness's items
+SIGNATURE = 1 + 72       # its length and, with the sighash byte, 72 bytes at most
+MULTI_SIGNATURE = 1 + 72
+
+
+def compact(n):
+    """The length of a CompactSize."""
+    return 1 if n < 253 else 3 if n < 65_536 else 5
+
+
+def keys_of(inner):
+    """How many signatures and keys a multi(..) or sortedmulti(..) has, or None."""
+    found = re.fullmatch(r"(?:sorted)?multi\((\d+),(.*)\)", inner)
+    if not found:
+        return None
+    return int(found.group(1)), found.group(2).count(",") + 1
+
+
+def multi_script(keys):
+    """The bytes of a script of a multi-signature with compressed keys."""
+    return 3 + 34 * keys
+
+
+def push(n):
+    """The bytes that push n bytes in a script."""
+    return n + (1 if n < 76 else 2 if n < 256 else 3)
+
+
+def script_weight(script, witness):
+    """The weight of an input with a script of so many bytes, and a witness of so many beside its count."""
+    return 4 * (40 + compact(script) + script) + 1 + witness
+
+
+def weight_of(descriptor):
+    """The greatest weight of an input that spends a script of this descriptor, or None where it isn't known.
+
+    Keys are compressed, and each signature has 72 bytes at most, its sighash byte among them; a taproot coin is spent
+    by its key with the default sighash.
+    """
+    body = descriptor.split("#")[0]
+    body = re.sub(r"\[[^\]]*\]", "", body)  # origins of keys
+    key_hash = SIGNATURE + 1 + 33
+    if re.fullmatch(r"wpkh\([^()]*\)", body):
+        return script_weight(0, key_hash)
+    if re.fullmatch(r"sh\(wpkh\([^()]*\)\)", body):
+        return script_weight(23, key_hash)
+    if re.fullmatch(r"pkh\([^()]*\)", body):
+        return script_weight(SIGNATURE + 1 + 33, 0)
+    if re.match(r"(raw)?tr\(", body):
+        return script_weight(0, 1 + 64)
+    found = re.fullmatch(r"(sh\(wsh|wsh|sh)\((.*?)\)", body[:-1] if body.startswith("sh(wsh(") else body)
+    if not found:
+        return None
+    numbers = keys_of(found.group(2))
+    if numbers is None:
+        return None
+    needed, keys = numbers
+    script = multi_script(keys)
+    if found.group(1) == "sh":
+        return script_weight(1 + MULTI_SIGNATURE * needed + push(script), 0)
+    witness = 1 + MULTI_SIGNATURE * needed + compact(script) + script
+    return script_weight(0 if found.group(1) == "wsh" else 35, witness)
+
+
+# ---- transactions
+
+class Reader:
+    """Bytes, read from the front."""
+
+    def __init__(self, data):
+        self.data, self.at = data, 0
+
+    def take(self, n):
+        if self.at + n > len(self.data):
+            raise Refused("a transaction that the node gave is cut off")
+        self.at += n
+        return self.data[self.at - n:self.at]
+
+    def number(self, n):
+        return int.from_bytes(self.take(n), "little")
+
+    def compact(self):
+        first = self.number(1)
+        return first if first < 253 else self.number({253: 2, 254: 4, 255: 8}[first])
+
+
+def inputs_and_outputs(data):
+    """The outpoints that a transaction spends, and the script of each of its outputs (BIP 144)."""
+    reader = Reader(data)
+    reader.take(4)
+    count = reader.compact()
+    if count == 0:
+        reader.take(1)
+        count = reader.compact()
+    spent = []
+    for _ in range(count):
+        txid = reader.take(32)[::-1].hex()
+        spent.append((txid, reader.number(4)))
+        reader.take(reader.compact())
+        reader.take(4)
+    scripts = []
+    for _ in range(reader.compact()):
+        reader.take(8)
+        scripts.append(reader.take(reader.compact()).hex())
+    return spent, scripts
+
+
+def parents_first(transactions):
+    """Transactions by txid, each after those whose outputs it spends."""
+    ordered, seen = [], set()
+
+    def put(txid):
+        if txid in seen or txid not in transactions:
+            return
+        seen.add(txid)
+        for parent, _ in inputs_and_outputs(bytes.fromhex(transactions[txid]))[0]:
+            put(parent)
+        ordered.append(txid)
+
+    for txid in transactions:
+        put(txid)
+    return ordered
+
+
+# ---- the files
+
+class Wallet:
+    """What the node says of a wallet, gathered for the two files."""
+
+    def __init__(self, node, last_blocks, say):
+        self.node, self.say = node, say
+        chain = node.ask("getblockchaininfo")
+        if chain["chain"] != "main":
+            raise Refused(f"the node is on the chain `{chain['chain']}`: only the main network's addresses are read")
+        self.height = chain["blocks"] - last_blocks
+        if self.height < 0:
+            raise Refused("--last-blocks is more than the chain has")
+        self.hashes = [node.ask("getblockhash", str(h)) for h in range(self.height, chain["blocks"] + 1)]
+        self.weights, self.unspent, self.transactions, self.outputs = {}, set(), {}, {}
+
+    def add_script(self, script, descriptor, named):
+        """Lists a script, if the weight of an input that spends it is known."""
+        if script in self.weights:
+            return True
+        weight = weight_of(descriptor) if descriptor else None
+        if weight is None:
+            self.say(f"left out {named}: the weight of an input of `{descriptor or 'no descriptor'}` isn't known")
+            return False
+        self.weights[script] = weight
+        return True
+
+    def add_transaction(self, txid):
+        """Keeps a transaction, if it is one of the wallet, with the height of its block, or None where it has none."""
+        if txid in self.transactions:
+            return
+        if len(self.transactions) >= MOST_TRANSACTIONS:
+            raise Refused(f"the wallet has more than {MOST_TRANSACTIONS} transactions with coins")
+        told = self.node.ask("gettransaction", txid, "true", "true", unknown="non-wallet transaction")
+        if told is None:
+            return
+        height = told.get("blockheight") if told["confirmations"] > 0 else None
+        if told["confirmations"] > 0 and height is None:
+            raise Refused(f"gettransaction {txid} tells no blockheight (Bitcoin Core 0.20 or later does)")
+        if told["confirmations"] < 0:
+            self.say(f"left out transaction {txid}: it conflicts with a block")
+            return
+        self.transactions[txid] = (told["hex"], height)
+        self.outputs[txid] = told["decoded"]["vout"]
+
+    def add_coins(self):
+        """The coins that Core lists, confirmed or not, and the transactions that make them."""
+        for coin in self.node.ask("listunspent", "0", "9999999", "[]", "true"):
+            named = f"{coin['txid']}:{coin['vout']}"
+            if self.add_script(coin["scriptPubKey"], coin.get("desc"), named):
+                self.unspent.add((coin["txid"], coin["vout"]))
+                self.add_transaction(coin["txid"])
+
+    def add_pending(self):
+        """The unconfirmed transactions of the wallet, also those that leave it no coin, and the coins that they spend."""
+        for entry in self.node.ask("listtransactions", "*", "10000", "0", "true"):
+            if entry.get("confirmations") == 0 and not entry.get("abandoned", False):
+                self.add_transaction(entry["txid"])
+        for text in [text for text, height in self.transactions.values() if height is None]:
+            for parent, index in inputs_and_outputs(bytes.fromhex(text))[0]:
+                self.add_transaction(parent)
+                self.add_spent(parent, index)
+
+    def add_spent(self, txid, index):
+        """Lists the script of an output that a pending transaction spends, if it is one of the wallet's."""
+        if txid not in self.outputs or index >= len(self.outputs[txid]):
+            return
+        script = self.outputs[txid][index]["scriptPubKey"]
+        if script["hex"] in self.weights or "address" not in script:
+            return
+        told = self.node.ask("getaddressinfo", script["address"])
+        if told.get("ismine"):
+            self.add_script(script["hex"], told.get("desc"), f"{txid}:{index}")
+
+    def change(self, address):
+        told = self.node.ask("getaddressinfo", address)
+        if not told.get("ismine"):
+            raise Refused(f"{address} isn't an address of this wallet: change paid there would be lost")
+        weight = weight_of(told.get("desc", ""))
+        if weight is None:
+            raise Refused(f"the weight of an input that spends {address} isn't known")
+        self.weights.setdefault(told["scriptPubKey"], weight)
+        return {"script": told["scriptPubKey"], "weight": weight}
+
+    def locked(self):
+        """The outputs to listed scripts that Core doesn't list: spent ones; and those that Core has locked."""
+        spent_here = set()
+        for _, (text, height) in self.transactions.items():
+            spent_here.update(inputs_and_outputs(bytes.fromhex(text))[0])
+        coins = set()
+        for txid, (text, height) in self.transactions.items():
+            for index, script in enumerate(inputs_and_outputs(bytes.fromhex(text))[1]):
+                coin = (txid, index)
+                if script in self.weights and coin not in self.unspent and coin not in spent_here:
+                    coins.add(coin)
+        for entry in self.node.ask("listlockunspent"):
+            coins.add((entry["txid"], entry["vout"]))
+        return sorted(coins)
+
+    def wallet_file(self, change):
+        earlier = [(height, txid) for txid, (_, height) in self.transactions.items() if height is not None and height <= self.height]
+        pending = {txid: text for txid, (text, height) in self.transactions.items() if height is None}
+        return {
+            "height": self.height,
+            "hash": self.hashes[0],
+            "scripts": [{"script": script, "weight": weight} for script, weight in self.weights.items()],
+            "change": change,
+            "earlier": [{"tx": self.transactions[txid][0], "height": height} for height, txid in sorted(earlier)],
+            "pending": [pending[txid] for txid in parents_first(pending)],
+            "locked": [f"{txid}:{index}" for txid, index in self.locked()],
+        }
+
+    def blocks(self):
+        """The records of the last blocks, one by one."""
+        for block in self.hashes[1:]:
+            data = bytes.fromhex(self.node.ask("getblock", block, "0"))
+            yield MAGIC + struct.pack("<I", len(data)) + data
+
+
+def make(options, say):
+    """Writes both files, and says what they hold."""
+    command = shlex.split(options.cli) + ([f"-rpcwallet={options.wallet}"] if options.wallet else [])
+    wallet = Wallet(Node(command, options.saved, options.save), options.last_blocks, say)
+    wallet.add_coins()
+    wallet.add_pending()
+    made = wallet.wallet_file(wallet.change(options.change))
+    for path in (options.out, options.block_file):
+        if os.path.exists(path) and not options.overwrite:
+            raise Refused(f"{path} is there already (--overwrite replaces it)")
+    with open(options.out, "w", encoding="utf-8") as file:
+        json.dump(made, file, indent=1)
+        file.write("\n")
+    with open(options.block_file, "wb") as file:
+        for record in wallet.blocks():
+            file.write(record)
+    say(f"{options.out}: {len(wallet.unspent)} coins of {len(made['scripts'])} scripts, {len(made['earlier'])} earlier "
+        f"and {len(made['pending'])} pending transactions, {len(made['locked'])} locked outputs, height {made['height']}")
+    say(f"{options.block_file}: {options.last_blocks} blocks")
+
+
+def main():
+    parser = argparse.ArgumentParser(description=__doc__, formatter_class=argparse.RawDescriptionHelpFormatter)
+    parser.add_argument("--cli", default="bitcoin-cli", help="the command that asks the node, with its options")
+    parser.add_argument("--wallet", help="the wallet's name at the node")
+    parser.add_argument("--saved", metavar="FOLDER", help="read the node's answers from this folder")
+    parser.add_argument("--save", metavar="FOLDER", help="keep the node's answers in this folder")
+    parser.add_argument("--change", metavar="ADDRESS", required=True, help="an address of the wallet, for change")
+    parser.add_argument("--last-blocks", metavar="N", type=int, default=0, help="put the last N blocks into the block file")
+    parser.add_argument("--out", metavar="FILE", required=True, help="the wallet file to write")
+    parser.add_argument("--block-file", metavar="FILE", required=True, help="the block file to write")
+    parser.add_argument("--overwrite", action="store_true", help="replace files that are there")
+    options = parser.parse_args()
+    if options.save is not None:
+        os.makedirs(options.save, exist_ok=True)
+    try:
+        make(options, lambda line: print(line, file=sys.stderr))
+    except Refused as refused:
+        print(f"core_to_files: {refused}", file=sys.stderr)
+        return 1
+    return 0
+
+
+if __name__ == "__main__":
+    sys.exit(main())
