@@ -1,5 +1,5 @@
 -- A section that is checked.
-use Rattle.std.specs.Prelude.{ℕ, ◌≡◌, ◌⊎◌, ◌↔◌, Bool, true, false, List, Option, Some, None, Result, Ok, Err, IfErr, IsOk, OnOk, is_ok}
+use Rattle.std.specs.Prelude.{ℕ, ◌≡◌, ◌⊎◌, ◌↔◌, Bool, true, false, List, Option, Some, None, Result, Ok, Err, IfErr, IfOk, IsOk, OnOk, is_ok}
 use Rattle.std.proofs.Common.{refl, sym, ap, subst, ◌∙◌, inl, inr}
 use Rattle.log_checker.specs.declared.fault.LogFault.{LogFault}
 use Rattle.log_checker.specs.declared.fault.LogFault.TheVariants as fault
@@ -10,7 +10,7 @@ use Rattle.log_checker.proofs.TotalLaws.{judged}
 use Rattle.pick_problem.specs.Admissible.{IsFit}
 use Rattle.pick_problem.specs.Letters.{IsAcceptedText}
 use Rattle.pick_problem.specs.Problem.{PlainProblem}
-use Rattle.search_run.specs.Judged.{HasOrMemory}
+use Rattle.search_run.specs.Judged.{HasOrMemory, IsBegun}
 
 -- an answer that isn't unfit is fit
 pub fits : (p : PlainProblem) (a : Option (List ℕ)) (letters : List ℕ) → ((IsFit p a → ⊥) → ⊥) → IsFit p a
@@ -63,11 +63,14 @@ pub check_refuses : {X Y : Type 0} (p : PlainProblem) (a : Option (List ℕ)) (l
 check_refuses p a letters x made (Ok y) e unfit h = tt
 check_refuses p a letters x made (Err f) e unfit h = inr (inr (fit_by p a letters x made e unfit, h))
 
--- the same of a checker that is begun with the answer of a section, and fed its letters
-pub checked_ok : {X Y : Type 0} (p : PlainProblem) (a b : Option (List ℕ)) (ls letters : List ℕ) (k : PlainChecker) (x : X) (made : Result X LogFault) (r : Result Y LogFault) → b ≡ a → letters ≡ ls → k ≡ begun p a → made ≡ Ok x → (made ≡ Err fault.AnswerNotAdmissible ↔ ¬ IsFit p a) → OnOk r (Takes k ls × EndsWell (fed k ls)) → OnOk r (IsAcceptedText p b letters)
-checked_ok p a b ls letters k x made r same text is e unfit h =
-    subst (λ (t : List ℕ). OnOk r (IsAcceptedText p b t)) (sym text) (subst (λ (q : Option (List ℕ)). OnOk r (IsAcceptedText p q ls)) (sym same) (check_accepts p a ls x made r e unfit (subst (λ (c : PlainChecker). OnOk r (Takes c ls × EndsWell (fed c ls))) is h)))
+-- the same of a checker that was made for the answer of a section, and fed its letters
+made_is : (p : PlainProblem) (a : Option (List ℕ)) (k : PlainChecker) (made : Result PlainChecker LogFault) → made ≡ Ok k → IsBegun p a made → k ≡ begun p a
+made_is p a k made e h = subst (λ (m : Result PlainChecker LogFault). IfOk m (λ c. c ≡ begun p a)) e h.ok
 
-pub checked_err : {X Y : Type 0} (p : PlainProblem) (a b : Option (List ℕ)) (ls letters : List ℕ) (k : PlainChecker) (x : X) (made : Result X LogFault) (r : Result Y LogFault) → b ≡ a → letters ≡ ls → k ≡ begun p a → made ≡ Ok x → (made ≡ Err fault.AnswerNotAdmissible ↔ ¬ IsFit p a) → IfErr r (λ f. LettersHave k ls f) → IfErr r (λ f. HasOrMemory p b letters f)
-checked_err p a b ls letters k x made r same text is e unfit h =
-    subst (λ (t : List ℕ). IfErr r (λ f. HasOrMemory p b t f)) (sym text) (subst (λ (q : Option (List ℕ)). IfErr r (λ f. HasOrMemory p q ls f)) (sym same) (check_refuses p a ls x made r e unfit (subst (λ (c : PlainChecker). IfErr r (λ f. LettersHave c ls f)) is h)))
+pub checked_ok : {Y : Type 0} (p : PlainProblem) (a : Option (List ℕ)) (ls letters : List ℕ) (k : PlainChecker) (made : Result PlainChecker LogFault) (r : Result Y LogFault) → letters ≡ ls → made ≡ Ok k → IsBegun p a made → OnOk r (Takes k ls × EndsWell (fed k ls)) → OnOk r (IsAcceptedText p a letters)
+checked_ok p a ls letters k made r text e h ends =
+    subst (λ (t : List ℕ). OnOk r (IsAcceptedText p a t)) (sym text) (check_accepts p a ls k made r e h.unfit (subst (λ (c : PlainChecker). OnOk r (Takes c ls × EndsWell (fed c ls))) (made_is p a k made e h) ends))
+
+pub checked_err : {Y : Type 0} (p : PlainProblem) (a : Option (List ℕ)) (ls letters : List ℕ) (k : PlainChecker) (made : Result PlainChecker LogFault) (r : Result Y LogFault) → letters ≡ ls → made ≡ Ok k → IsBegun p a made → IfErr r (λ f. LettersHave k ls f) → IfErr r (λ f. HasOrMemory p a letters f)
+checked_err p a ls letters k made r text e h has =
+    subst (λ (t : List ℕ). IfErr r (λ f. HasOrMemory p a t f)) (sym text) (check_refuses p a ls k made r e h.unfit (subst (λ (c : PlainChecker). IfErr r (λ f. LettersHave c ls f)) (made_is p a k made e h) has))

@@ -1,14 +1,16 @@
 -- What is refused is refused for one cause.
-use Rattle.std.specs.Prelude.{ℕ, ◌≡◌, ◌≢◌, List, [], ◌∷◌, ◌++◌, length, Option, Result, Ok, Err, IfErr}
-use Rattle.std.proofs.Common.{refl, sym, ap, subst, ◌∙◌}
-use Rattle.closing_log.specs.Log.{PlainSection}
+use Rattle.std.specs.Prelude.{ℕ, ◌≡◌, ◌≢◌, List, [], ◌∷◌, ◌++◌, length, Option, Some, None, IfSome, IsSome, IsSomeAnd, Result, Ok, Err, IfErr}
+use Rattle.std.proofs.Common.{rules, refl, sym, ap, subst, ◌∙◌, inl, inr}
+use Rattle.closing_log.specs.Log.{PlainLog, PlainOpen, PlainSection}
 use Rattle.log_checker.specs.declared.fault.LogFault.{LogFault}
 use Rattle.log_checker.proofs.SectionLaws.{accepted_without_fault, one_fault}
-use Rattle.search_run.specs.Judged.{HasFaultAt, HasFaultFor, IsFirstNot, IsFirstRefused, IsRefusedLog}
-use Rattle.search_run.specs.Kept.{Along, At, IsAcceptedAt, IsAcceptedFor, IsDueAt, answered, comes_to, first_search}
+use Rattle.search_run.specs.Judged.{AreSectionsRight, HasFaultAt, HasFaultFor, IsFirstNot, IsFirstRefused, IsRefusedFor, IsRefusedLog, IsSectionWrong}
+use Rattle.search_run.specs.Kept.{Along, At, CanGoOn, IsAcceptedAt, IsAcceptedFor, IsDueAt, IsFitAt, IsOpenAt, PlainSaved, answered, comes_to, first_search}
 use Rattle.search_run.specs.Run.{Stand}
 use Rattle.search_run.specs.Stands.{IsKeptAt, IsStand}
 use Rattle.search_run.specs.Step.{PlainStep}
+use Rattle.search_run.specs.declared.fault.RestoreRefused.{RestoreRefused}
+use Rattle.search_run.specs.declared.fault.RestoreRefused.TheVariants as refused
 use Rattle.search_run.specs.declared.fault.VerifyFault.{VerifyFault}
 use Rattle.search_run.specs.declared.fault.VerifyFault.TheVariants as verified
 use Rattle.search_run.proofs.ComeLaws.{along_weaker}
@@ -42,6 +44,47 @@ module _ (P : At → PlainSection → Type 0) (seed : List ℕ) where
   pub one_first : (at : At) (ss : List PlainSection) (i j : ℕ) → IsFirstNot P seed at ss i → IsFirstNot P seed at ss j → i ≡ j
   one_first at ss i j h k =
       sym h.index ∙ (ap length (same_fronts at h.front k.front h.rest k.rest h.section k.section (sym h.parts ∙ k.parts) h.before h.fails k.before k.fails) ∙ k.index)
+
+-- ---- what is kept
+
+-- an open section that is right by one word is right by the other
+right_open : (seed : List ℕ) (steps : List PlainStep) (k : PlainSaved) (log : PlainLog) (t : Option PlainOpen) → IsSome t → IfSome t (IsOpenAt (comes_to seed (first_search seed steps) log.closed) k) → IsSomeAnd t (IsOpenAt (comes_to seed (first_search seed steps) log.closed) k)
+right_open seed steps k log None some h = absurd (search rules)
+right_open seed steps k log (Some o) some h = h
+
+can_sections : (seed : List ℕ) (steps : List PlainStep) (k : PlainSaved) (log : PlainLog) → CanGoOn seed steps k log → AreSectionsRight seed steps k log
+can_sections seed steps k log can = record { closed = can.closed; tail = right_open seed steps k log log.tail can.unfinished can.tail }
+
+wrong_not_right : (seed : List ℕ) (steps : List PlainStep) (k : PlainSaved) (log : PlainLog) (i : ℕ) → IsSectionWrong seed steps k log i → AreSectionsRight seed steps k log → ⊥
+wrong_not_right seed steps k log i (inl first) right = not_along IsDueAt seed (first_search seed steps) log.closed i first right.closed
+wrong_not_right seed steps k log i (inr (due, at, wrong)) right = wrong right.tail
+
+one_wrong : (seed : List ℕ) (steps : List PlainStep) (k : PlainSaved) (log : PlainLog) (i j : ℕ) → IsSectionWrong seed steps k log i → IsSectionWrong seed steps k log j → i ≡ j
+one_wrong seed steps k log i j (inl a) (inl b) = one_first IsDueAt seed (first_search seed steps) log.closed i j a b
+one_wrong seed steps k log i j (inl a) (inr (due, at, wrong)) = absurd (not_along IsDueAt seed (first_search seed steps) log.closed i a due)
+one_wrong seed steps k log i j (inr (due, at, wrong)) (inl b) = absurd (not_along IsDueAt seed (first_search seed steps) log.closed j b due)
+one_wrong seed steps k log i j (inr (due, at, wrong)) (inr (due', at', wrong')) = at ∙ sym at'
+
+pub kept_not_refused : (seed : List ℕ) (steps : List PlainStep) (k : PlainSaved) (log : PlainLog) (e : RestoreRefused) → CanGoOn seed steps k log → IsRefusedFor seed steps k log e → e ≡ refused.Memory
+kept_not_refused seed steps k log (refused.Section i) can h = absurd (wrong_not_right seed steps k log i h (can_sections seed steps k log can))
+kept_not_refused seed steps k log refused.IllFormed can h = absurd (h.1 can.position)
+kept_not_refused seed steps k log (refused.Answer i) can h = absurd (not_along IsFitAt seed (first_search seed steps) log.closed i h.2 can.answers)
+kept_not_refused seed steps k log refused.Memory can h = refl
+
+pub one_refusal : (seed : List ℕ) (steps : List PlainStep) (k : PlainSaved) (log : PlainLog) (e f : RestoreRefused) → e ≢ refused.Memory → f ≢ refused.Memory → IsRefusedFor seed steps k log e → IsRefusedFor seed steps k log f → e ≡ f
+one_refusal seed steps k log (refused.Section i) (refused.Section j) n m h l = ap refused.Section (one_wrong seed steps k log i j h l)
+one_refusal seed steps k log (refused.Section i) refused.IllFormed n m h l = absurd (wrong_not_right seed steps k log i h l.0)
+one_refusal seed steps k log (refused.Section i) (refused.Answer j) n m h l = absurd (wrong_not_right seed steps k log i h l.0)
+one_refusal seed steps k log refused.IllFormed (refused.Section j) n m h l = absurd (wrong_not_right seed steps k log j l h.0)
+one_refusal seed steps k log refused.IllFormed refused.IllFormed n m h l = refl
+one_refusal seed steps k log refused.IllFormed (refused.Answer j) n m h l = absurd (h.1 l.1)
+one_refusal seed steps k log (refused.Answer i) (refused.Section j) n m h l = absurd (wrong_not_right seed steps k log j l h.0)
+one_refusal seed steps k log (refused.Answer i) refused.IllFormed n m h l = absurd (l.1 h.1)
+one_refusal seed steps k log (refused.Answer i) (refused.Answer j) n m h l = ap refused.Answer (one_first IsFitAt seed (first_search seed steps) log.closed i j h.2 l.2)
+one_refusal seed steps k log refused.Memory f n m h l = absurd (n refl)
+one_refusal seed steps k log (refused.Section i) refused.Memory n m h l = absurd (m refl)
+one_refusal seed steps k log refused.IllFormed refused.Memory n m h l = absurd (m refl)
+one_refusal seed steps k log (refused.Answer i) refused.Memory n m h l = absurd (m refl)
 
 -- ---- a log
 

@@ -7,13 +7,14 @@ use Rattle.log_checker.specs.declared.fault.LogFault.TheVariants as fault
 use Rattle.log_checker.specs.Sections.{SectionHas}
 use Rattle.pick_problem.specs.Letters.{IsAcceptedText}
 use Rattle.search_run.specs.Along.{ComesTo}
+use Rattle.search_run.specs.Resumed.{HasFollowed}
 use Rattle.search_run.specs.Judged.{HasFaultAt, HasFaultFor, HasOrMemory, IsRefusedLog}
 use Rattle.search_run.specs.Kept.{Along, At, IsAcceptedAt, IsAcceptedFor, IsDueAt, NamesFirst, answered, comes_to, first_search}
 use Rattle.search_run.specs.Step.{PlainStep}
 use Rattle.search_run.specs.declared.coming.Coming.{Coming}
 use Rattle.search_run.specs.declared.fault.VerifyFault.{VerifyFault}
 use Rattle.search_run.specs.declared.fault.VerifyFault.TheVariants as verified
-use Rattle.search_run.proofs.AlongLaws.{along_at, first_refused, along_all, along_take, comes_take, named_below, step_at}
+use Rattle.search_run.proofs.AlongLaws.{comes_all, along_at, first_refused, along_all, along_take, comes_take, named_below, step_at}
 
 -- after the first sections, each of which is so
 pub record IsAlong (P : At → PlainSection → Type 0) (seed : List ℕ) (steps : List PlainStep) (closed : List PlainSection) (i : ℕ) (now : Coming) : Type 0 where
@@ -33,6 +34,9 @@ along_on P seed steps closed i now next s below is h here goes =
 
 pub along_ends : (P : At → PlainSection → Type 0) (seed : List ℕ) (steps : List PlainStep) (closed : List PlainSection) (i : ℕ) (now : Coming) → i ≡ length closed → IsAlong P seed steps closed i now → Along P seed (first_search seed steps) closed
 along_ends P seed steps closed i now e h = along_all P seed (first_search seed steps) closed i e h.so
+
+pub followed : (seed : List ℕ) (steps : List PlainStep) (closed : List PlainSection) (i : ℕ) (now : Coming) → i ≡ length closed → IsAlong IsDueAt seed steps closed i now → HasFollowed seed steps closed now
+followed seed steps closed i now e h = record { due = along_ends IsDueAt seed steps closed i now e h; comes = subst (ComesTo steps now) (comes_all seed (first_search seed steps) closed i e) h.comes }
 
 -- a section is that of the search to which a run comes exactly where it names the step there
 pub due_at : (steps : List PlainStep) (now : Coming) (at : At) (s : PlainSection) → ComesTo steps now at → NamesFirst (drop now.at steps) s.row s.stage s.digest → IsDueAt at s

@@ -13,7 +13,9 @@ pub mod KeptLaws
 pub mod LeadLaws
 pub mod MadeLaws
 pub mod PositionLaws
+pub mod ReplayLaws
 pub mod ResultLaws
+pub mod ResumeLaws
 pub mod RunLaws
 pub mod SearchedLaws
 pub mod StandLaws

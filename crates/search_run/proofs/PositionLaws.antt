@@ -1,6 +1,7 @@
 -- A kept position is one that a search is restored from exactly where a walk may stand there.
 use Rattle.std.specs.Prelude.{ℕ, ◌≡◌, ◌<◌, ◌≤◌, true, false, List}
 use Rattle.std.proofs.Common.{refl, subst, sym}
+use Rattle.pick_problem.specs.declared.position.Position.{Position}
 use Rattle.pick_problem.specs.Problem.{PlainProblem, Rising, value_of, weight_of}
 use Rattle.pick_problem.specs.Walk.{IsPosition}
 use Rattle.pick_problem.proofs.WayLaws.{upward_reverse}
@@ -34,3 +35,7 @@ stands_well p k letters h =
       best = h.fit;
       counted = refl;
     }
+
+-- a position that isn't well formed is one where no walk may stand
+pub no_place : (p q : PlainProblem) (k : PlainSaved) (place : Position) (letters : List ℕ) → q ≡ p → place ≡ kept_position k letters → ¬ IsWellFormed q place letters → ¬ IsPosition p (kept_walk k)
+no_place p q k place letters same is ill stands = ill (subst (λ (x : PlainProblem). IsWellFormed x place letters) (sym same) (subst (λ (x : Position). IsWellFormed p x letters) (sym is) (stands_well p k letters stands)))

@@ -6,6 +6,7 @@ pub mod Held
 pub mod Judged
 pub mod Kept
 pub mod Leads
+pub mod Resumed
 pub mod Run
 pub mod Runs
 pub mod Searched

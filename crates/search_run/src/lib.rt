@@ -11,6 +11,7 @@ mod hand;
 mod keeping;
 mod laws;
 mod outcome;
+mod restoring;
 mod resuming;
 mod run;
 mod sections;
@@ -21,7 +22,7 @@ mod walking;
 mod worked;
 
 pub use ending::End;
-pub use fault::VerifyFault;
+pub use fault::{RestoreRefused, VerifyFault};
 pub use found::{Found, choose};
 pub use laws::{
     ended_runs_have_the_answer, logs_have_each_search, one_answer, one_result_is_taken,
@@ -30,7 +31,7 @@ pub use laws::{
 };
 pub use resuming::{
     kept_positions_are_well_formed, kept_runs_are_accepted, kept_runs_go_on,
-    log_faults_have_one_cause, runs_stand, verified_runs_have_the_answer,
+    log_faults_have_one_cause, refusals_have_one_cause, runs_stand, verified_runs_have_the_answer,
 };
 pub use run::SearchRun;
 pub use sections::{open_section, section};

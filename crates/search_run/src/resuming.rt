@@ -6,12 +6,14 @@ ghost use Rattle.pick_problem.specs.Problem.{PlainProblem};
 ghost use Rattle.pick_problem.specs.Walk.{IsPosition};
 ghost use Rattle.search_run.specs.Answer.{AreWhole, IsAnswer};
 ghost use Rattle.search_run.specs.Found.{taken};
-ghost use Rattle.search_run.specs.Judged.{IsRefusedLog};
+ghost use Rattle.search_run.specs.Judged.{IsRefusedFor, IsRefusedLog};
 ghost use Rattle.search_run.specs.Kept.{Along, CanGoOn, IsAcceptedAt, IsBestAt, PlainSaved, first_search, kept_walk, log_of, saved_of, stand_of};
 ghost use Rattle.search_run.specs.Run.{Stand, beginning, end_of, go_on, run};
 ghost use Rattle.search_run.specs.Stands.{IsStand};
 ghost use Rattle.search_run.specs.Step.{AreSteps, PlainStep};
 ghost use Rattle.search_run.specs.Walks.{kept_position};
+ghost use Rattle.search_run.specs.declared.fault.RestoreRefused.{RestoreRefused};
+ghost use Rattle.search_run.specs.declared.fault.RestoreRefused.TheVariants as refused;
 ghost use Rattle.search_run.specs.declared.fault.VerifyFault.{VerifyFault};
 ghost use Rattle.search_run.specs.declared.fault.VerifyFault.TheVariants as verified;
 ghost use Rattle.walk_engine.specs.Search.{IsWellFormed, restored};
@@ -77,6 +79,16 @@ pub fn kept_positions_are_well_formed()
         (restored p (kept_position saved letters) letters).walk ≡ kept_walk saved }
     ensures before { (p : PlainProblem) (saved : PlainSaved) (letters : List ℕ) →
         (restored p (kept_position saved letters) letters).before ≡ letters }
+{}
+
+/// What is kept is refused for one cause: what can be gone on from is refused for out of memory alone, and two causes of
+/// a refusal are the same, unless one is out of memory.
+pub fn refusals_have_one_cause()
+    ensures none { (seed : List ℕ) (steps : List PlainStep) (saved : PlainSaved) (log : PlainLog) (e : RestoreRefused) →
+        CanGoOn seed steps saved log → IsRefusedFor seed steps saved log e → e ≡ refused.Memory }
+    ensures one { (seed : List ℕ) (steps : List PlainStep) (saved : PlainSaved) (log : PlainLog) (e f : RestoreRefused) →
+        e ≢ refused.Memory → f ≢ refused.Memory →
+        IsRefusedFor seed steps saved log e → IsRefusedFor seed steps saved log f → e ≡ f }
 {}
 
 /// A log is refused for one cause: one whose sections are all accepted is refused for out of memory alone, and two

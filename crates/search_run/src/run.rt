@@ -1,8 +1,8 @@
 //! The run over steps.
 
 ghost use Rattle.std.specs.Prelude.{◌≡◌, ◌↔◌, ◌<◌, ◌≤◌, ◌+◌, ◌^◌, ◌≢◌, [], ◌∷◌, ℕ, List, true, IfErr, IfOk, IfSome, IsTrue, MatchOption, None, Ok, OnErr, OnOk};
-ghost use Rattle.search_run.specs.Judged.{IsRefusedLog};
-ghost use Rattle.search_run.specs.Kept.{Along, IsAcceptedAt, first_search, log_of, saved_of, tail_of};
+ghost use Rattle.search_run.specs.Judged.{IsRefusedFor, IsRefusedLog, saved_in};
+ghost use Rattle.search_run.specs.Kept.{Along, CanGoOn, IsAcceptedAt, first_search, log_of, saved_of, stand_of, tail_of};
 ghost use Rattle.search_run.specs.Run.{beginning, end_of, go_on, over};
 ghost use Rattle.search_run.specs.Runs.{RunLeads, saved_with};
 ghost use Rattle.search_run.specs.Turns.{IsPassed, IsTurn, IsWalkedOn};
@@ -11,10 +11,11 @@ ghost use Rattle.search_run.specs.Step.{AreSteps, PlainStep};
 ghost use Rattle.search_run.specs.declared.fault.VerifyFault.TheVariants as verified;
 
 use crate::ending::End;
-use crate::fault::VerifyFault;
+use crate::fault::{RestoreRefused, VerifyFault};
 use crate::hand::{take_ended, take_partial};
 use crate::keeping::{copy_sections, place, tail};
 use crate::outcome::leave;
+use crate::restoring::resume;
 use crate::step::Step;
 use crate::trail::Trail;
 use crate::verifying::verify;
@@ -72,7 +73,7 @@ impl SearchRun {
         }
     }
 
-    /// The tries of the run so far.
+    /// The tries of the run so far, with those from before it was restored.
     pub fn tries(&self) -> u64
         ensures tries { result ≡ self.now.stand.past.tries }
         // What is true of each run: its steps are steps, and it stands where a run over them may stand.
@@ -263,6 +264,21 @@ impl SearchRun {
             best: place.best,
             parts,
         }))
+    }
+
+    /// Goes on from a saved position and a log, which may be any, wherever it stood before. A refusal is the first that
+    /// [`RestoreRefused`] tells of, and leaves the run as it was; `Memory` comes for out of memory alone.
+    pub fn restore(&mut self, saved: &Saved, log: &LogText) -> Result<(), RestoreRefused>
+        ensures accepts { OnOk result (CanGoOn self.old.seed self.old.steps (saved_in saved.now) log.now) }
+        ensures goes_on { OnOk result (self.new ≡ record self.old { stand = stand_of self.old.seed self.old.steps (saved_in saved.now) log.now }) }
+        ensures refuses { IfErr result (λ e. IsRefusedFor self.old.seed self.old.steps (saved_in saved.now) log.now e) }
+        ensures same { OnErr result (self.new ≡ self.old) }
+    {
+        let kept = resume(self.alloc, self.seed, self.steps.as_slice(), saved, log)?;
+        self.at = kept.at;
+        self.walk = Some(kept.walk);
+        self.past = kept.past;
+        Ok(())
     }
 
     /// Whether the letters of each finished search are accepted with its answer, by a checker that knows no search.

@@ -1,0 +1,234 @@
+//! Going on from what is kept.
+
+ghost use Rattle.std.specs.Prelude.{◌≡◌, ◌↔◌, ◌≤◌, List, IfErr, IfOk, IsTrue, drop, length, option_to_list};
+ghost use Rattle.pick_problem.specs.Admissible.{IsFit};
+ghost use Rattle.search_run.specs.Resumed.{HasDrawn, HasFollowed, IsNoWalk, IsNotFollowed, IsReplayed, IsRestored, IsUnfit, IsWalkKept};
+ghost use Rattle.search_run.specs.Found.{PlainFound, found_of};
+ghost use Rattle.search_run.specs.Judged.{IsRefusedFor, saved_in};
+ghost use Rattle.search_run.specs.Kept.{Along, IsDueAt, IsOpenAt, Names, NamesFirst, first_search};
+ghost use Rattle.search_run.specs.Walks.{kept_position};
+ghost use Rattle.walk_engine.specs.Search.{tries_in};
+
+use crate::coming::{Coming, answered, first};
+use crate::fault::RestoreRefused;
+use crate::found::Found;
+use crate::keeping::{copy_answer, copy_section};
+use crate::outcome::drawn_result;
+use crate::step::Step;
+use crate::trail::{Trail, next};
+use closing_log::{LogText, OpenSection, Section, Stage};
+use fund_base::{Memory, Places};
+use pick_problem::{Position, Problem, RestoreFault};
+use search_keep::{Saved, Walk};
+use std::alloc::Global;
+
+/// Whether row, stage and digest are those of a step.
+fn names(step: &Step, row: u8, stage: Stage, digest: &[u8; 32]) -> bool
+    ensures { IsTrue result ↔ Names step.now row stage digest.now }
+{
+    row == step.row() && stage == step.stage() && *digest == step.problem().digest()
+}
+
+/// Whether row, stage and digest are those of the step at a place; never where none is left.
+fn names_at(steps: &[Step], at: usize, row: u8, stage: Stage, digest: &[u8; 32]) -> bool
+    ensures { IsTrue result ↔ NamesFirst (drop at steps.now) row stage digest.now }
+{
+    match steps.get(at) {
+        None => false,
+        Some(step) => names(step, row, stage, digest),
+    }
+}
+
+/// The search to which a run comes after these sections, each of which is that of the search to which it comes there.
+#[tactic(auto, using(crate::proofs::FollowLaws::along_begins, crate::proofs::FollowLaws::followed, crate::proofs::FollowLaws::due_below, crate::proofs::FollowLaws::named_at, crate::proofs::AlongLaws::first_not))]
+fn follow(
+    alloc: Global,
+    seed: [u8; 32],
+    steps: &[Step],
+    closed: &[Section],
+) -> Result<Coming, RestoreRefused>
+    ensures ok { IfOk result (λ c. HasFollowed seed steps.now closed.now c) }
+    ensures refused { IfErr result (λ e. IsNotFollowed seed steps.now closed.now e) }
+{
+    let mut now = first(alloc, seed, steps)?;
+    'along: for (i, section) in closed.iter().enumerate() {
+        if !names_at(steps, now.at, section.row, section.stage, &section.digest) {
+            return Err(RestoreRefused::Section(i as u64));
+        }
+        now = answered(alloc, seed, steps, now, section.answer.is_some())?;
+    }
+    Ok(now)
+}
+
+/// Whether an open section is that of the search to which a run comes, which the saved row and stage name too.
+fn is_open_right(steps: &[Step], at: usize, saved: &Saved, tail: &OpenSection) -> bool
+    ensures { (found : List PlainFound) → (IsTrue result ↔ IsOpenAt (record { left = drop at steps.now; found = found }) (saved_in saved.now) tail.now) }
+{
+    names_at(steps, at, tail.row, tail.stage, &tail.digest)
+        && tail.row == saved.row
+        && tail.stage == saved.stage
+}
+
+/// How many tries letters tell of: each writes one I.
+fn tries_in(letters: &[u8]) -> u64
+    ensures { result ≡ tries_in letters.now }
+{
+    letters.iter().filter(|letter| **letter == b'I').count() as u64
+}
+
+/// What is saved, as the open position of a search after these letters. The error is out of memory.
+fn open_position(alloc: Global, saved: &Saved, letters: &[u8]) -> Result<Position, Memory>
+    ensures { IfOk result (λ q. q ≡ kept_position (saved_in saved.now) letters.now) }
+{
+    let chosen = saved.chosen.copy(alloc)?;
+    let best = copy_answer(alloc, &saved.best)?;
+    Ok(Position {
+        chosen,
+        next: saved.next,
+        best,
+        tries: tries_in(letters),
+        done: false,
+    })
+}
+
+/// The walk of a step at a saved position, after these letters.
+fn walk_at(
+    alloc: Global,
+    step: &Step,
+    saved: &Saved,
+    letters: &[u8],
+) -> Result<Walk, RestoreRefused>
+    ensures walk { IfOk result (λ w. IsWalkKept step.now.problem (saved_in saved.now) letters.now w) }
+    ensures refused { IfErr result (λ e. IsNoWalk step.now.problem (saved_in saved.now) e) }
+{
+    let position = open_position(alloc, saved, letters)?;
+    match Walk::restore(alloc, step.problem(), &position, letters) {
+        Ok(walk) => Ok(walk),
+        Err(RestoreFault::IllFormed) => Err(RestoreRefused::IllFormed),
+        Err(RestoreFault::Memory) => Err(RestoreRefused::Memory),
+    }
+}
+
+/// Whether an answer is none or admissible.
+fn is_fit(problem: &Problem, answer: &Option<Places>) -> bool
+    ensures { IsTrue result ↔ IsFit problem.now answer.now }
+{
+    match answer {
+        None => true,
+        Some(places) => {
+            problem.are_places(places.as_slice()) && problem.admissible(places.as_slice())
+        }
+    }
+}
+
+/// An admissible answer as a result of a step.
+fn answer_result(
+    alloc: Global,
+    step: &Step,
+    answer: &Option<Places>,
+) -> Result<Option<Found>, Memory>
+    requires { IsFit step.now.problem answer.now }
+    ensures { IfOk result (λ f. option_to_list f ≡ found_of step.now answer.now) }
+{
+    match answer {
+        None => Ok(None),
+        Some(places) => {
+            let found = Found::new(alloc, step, places.as_slice())?;
+            Ok(Some(found))
+        }
+    }
+}
+
+/// Passes the draws from here on, with what they find. The answer is the place of the next search.
+#[tactic(auto, using(crate::proofs::ReplayLaws::draws_begin, crate::proofs::ReplayLaws::draws_at_search, crate::proofs::ReplayLaws::draws_at_end))]
+fn draws(
+    alloc: Global,
+    seed: [u8; 32],
+    steps: &[Step],
+    from: usize,
+    trail: &mut Trail,
+) -> Result<usize, Memory>
+    requires { from ≤ length steps.now }
+    ensures { IfOk result (λ at. HasDrawn seed steps.now from at trail.old trail.new) }
+{
+    let mut at = from;
+    'drawing: while at < steps.len() {
+        let step = &steps[at];
+        if !step.is_drawn() {
+            return Ok(at);
+        }
+        let found = drawn_result(alloc, seed, step)?;
+        trail.put(found, None)?;
+        at = next(steps, at, trail.found.as_slice());
+    }
+    Ok(at)
+}
+
+/// What a run has that has made the searches of these sections with their answers. The refusal is the first
+/// answer that isn't admissible.
+#[tactic(auto, using(crate::proofs::ReplayLaws::replay_begins, crate::proofs::ReplayLaws::replay_ends))]
+fn replay(
+    alloc: Global,
+    seed: [u8; 32],
+    steps: &[Step],
+    closed: &[Section],
+    tries: u64,
+) -> Result<Trail, RestoreRefused>
+    requires { Along IsDueAt seed (first_search seed steps.now) closed.now }
+    ensures ok { IfOk result (λ t. IsReplayed seed steps.now closed.now tries t) }
+    ensures refused { IfErr result (λ e. IsUnfit seed steps.now closed.now e) }
+{
+    let mut trail = Trail {
+        found: Vec::new(alloc),
+        closed: Vec::new(alloc),
+        tries,
+    };
+    let mut at = draws(alloc, seed, steps, 0, &mut trail)?;
+    'along: for (i, section) in closed.iter().enumerate() {
+        let step = &steps[at];
+        if !is_fit(step.problem(), &section.answer) {
+            return Err(RestoreRefused::Answer(i as u64));
+        }
+        let found = answer_result(alloc, step, &section.answer)?;
+        let section = copy_section(alloc, section)?;
+        trail.put(found, Some(section))?;
+        let after = next(steps, at, trail.found.as_slice());
+        at = draws(alloc, seed, steps, after, &mut trail)?;
+    }
+    Ok(trail)
+}
+
+/// What a run that is restored has: the place of its step, the walk of that, and what it has done.
+#[derive(Debug, Drop)]
+pub(crate) struct Restored {
+    pub(crate) at: usize,
+    pub(crate) walk: Walk,
+    pub(crate) past: Trail,
+}
+
+/// What a run over these steps has that goes on from what is kept.
+pub(crate) fn resume(
+    alloc: Global,
+    seed: [u8; 32],
+    steps: &[Step],
+    saved: &Saved,
+    log: &LogText,
+) -> Result<Restored, RestoreRefused>
+    ensures ok { IfOk result (λ r. IsRestored seed steps.now (saved_in saved.now) log.now r) }
+    ensures refused { IfErr result (λ e. IsRefusedFor seed steps.now (saved_in saved.now) log.now e) }
+{
+    let open = follow(alloc, seed, steps, log.closed.as_slice())?;
+    let Some(tail) = &log.tail else {
+        return Err(RestoreRefused::Section(log.closed.len() as u64));
+    };
+    if !is_open_right(steps, open.at, saved, tail) {
+        return Err(RestoreRefused::Section(log.closed.len() as u64));
+    }
+    let walk = walk_at(alloc, &steps[open.at], saved, tail.tokens.as_slice())?;
+    let past = replay(alloc, seed, steps, log.closed.as_slice(), saved.tries)?;
+    Ok(Restored {
+        at: open.at,
+        walk,
+        past,
+    })
+}
