@@ -7,13 +7,15 @@ use Rattle.fee_rates.specs.Fee.{fee_of, vsize_of}
 use Rattle.fee_rates.specs.Terms.{base_of, change_fee_of, change_least_of}
 use Rattle.request_text.specs.PlainRequest.{paid_to}
 use Rattle.fund_steps.specs.Amounts.{fees_of, value_of}
-use Rattle.fund_plan.specs.Answer.{Answers, PaysAlone, answer_of}
+use Rattle.fund_plan.specs.Answer.{AnswersAlone, PaysAlone, given_from}
 use Rattle.fund_plan.specs.Pays.{raised_of}
+use Rattle.fund_plan.specs.Selection.{PlainFunded}
 use Rattle.fund_steps.specs.Plan.{IsPlan, PlainPlan}
 use Rattle.fund_steps.specs.Terms.{load_of, rates_of}
 use Rattle.fund_plan.specs.declared.outcome.Outcome.{Outcome}
-use Rattle.fund_plan.specs.declared.outcome.Outcome.TheVariants.{Funded, NoSelection}
-use Rattle.fund_plan.proofs.AnswerLaws.{answer_means}
+use Rattle.fund_plan.specs.declared.outcome.Outcome.TheVariants.{Funded, NoSelection, Unfinished}
+use Rattle.fund_plan.specs.Outcome.{given_of}
+use Rattle.fund_plan.proofs.AnswerLaws.{given_means}
 use Rattle.fund_plan.proofs.PaysLaws.{sum_plain, sum_change}
 use Rattle.fund_steps.proofs.OrderLaws.{one_listed}
 
@@ -48,18 +50,21 @@ one_change p coins (Some n) (Some m) t u x y =
 with_coins : (p : PlainPlan) (xs ys : List Candidate) (amount : Option ℕ) (t : Transaction) → xs ≡ ys → PaysAlone p xs amount t → PaysAlone p ys amount t
 with_coins p xs ys amount t e h = subst (λ (l : List Candidate). PaysAlone p l amount t) e h
 
-pub one_outcome : (p : PlainPlan) (a b : Outcome) → IsPlan p → Answers p a → Answers p b → a ≡ b
+pub one_outcome : (p : PlainPlan) (a b : Outcome) → IsPlan p → AnswersAlone p a → AnswersAlone p b → a ≡ b
+one_outcome p Unfinished b h x y = absurd x
+one_outcome p NoSelection Unfinished h x y = absurd y
+one_outcome p (Funded f) Unfinished h x y = absurd y
 one_outcome p NoSelection NoSelection h x y = refl
 one_outcome p NoSelection (Funded g) h x y = absurd (x.2 g.change _ (with_coins p g.coins x.0 g.change _ (one_listed p g.coins x.0 h y.0 x.1) y.1))
 one_outcome p (Funded f) NoSelection h x y = absurd (y.2 f.change _ (with_coins p f.coins y.0 f.change _ (one_listed p f.coins y.0 h x.0 y.1) x.1))
 one_outcome p (Funded f) (Funded g) h x y =
     let coins = one_listed p f.coins g.coins h x.0 y.0 in
     let change = one_change p g.coins f.change g.change _ _ (with_coins p f.coins g.coins f.change _ coins x.1) y.1 in
-    ap (λ (cs : List Candidate). Funded (record { coins = cs; change = f.change })) coins ∙ ap (λ (o : Option ℕ). Funded (record { coins = g.coins; change = o })) change
+    ap (λ (k : PlainFunded). Funded k) (x.2 ∙ ap (λ (cs : List Candidate). given_from p cs f.change) coins ∙ ap (λ (o : Option ℕ). given_from p g.coins o) change ∙ sym y.2)
 
 -- what is reckoned is the outcome
-pub outcome_where : (p : PlainPlan) (o : Outcome) → IsPlan p → (Answers p o ↔ (o ≡ answer_of p))
+pub outcome_where : (p : PlainPlan) (o : Outcome) → IsPlan p → (AnswersAlone p o ↔ (o ≡ given_of p))
 outcome_where p o h = (
-  λ a. one_outcome p o (answer_of p) h a (answer_means p h.eligible),
-  λ e. subst (Answers p) (sym e) (answer_means p h.eligible),
+  λ a. one_outcome p o (given_of p) h a (given_means p h.eligible),
+  λ e. subst (AnswersAlone p) (sym e) (given_means p h.eligible),
 )

@@ -1,30 +1,24 @@
 -- The unsigned transaction of a payment has a text.
-use Rattle.std.specs.Prelude.{ℕ, ◌≡◌, ◌+◌, ◌≤◌, ◌<◌, ◌^◌, List, [], ◌∷◌, ◌++◌, length, map, sum_by, All, Contains, Bool, true, false, Option, Some, None}
-use Rattle.std.proofs.Common.{arith, refl, subst, get_or, length-append}
+use Rattle.std.specs.Prelude.{ℕ, ◌≡◌, ◌+◌, ◌≤◌, ◌<◌, ◌^◌, List, [], ◌∷◌, ◌++◌, length, map, min, sum_by, All, Bool, true, false, Option, Some, None}
+use Rattle.std.proofs.Common.{arith, refl, subst, length-append}
 use Rattle.std.proofs.lemmas.List.{length-map}
-use Rattle.std.proofs.lemmas.List.Elements.{All-nil, All-cons, All-append, All-map}
+use Rattle.std.proofs.lemmas.List.Elements.{All-nil, All-cons, All-append, All-map, All-weaker}
 use Rattle.std.proofs.lemmas.List.Sums.{sum_by-cons}
 use Rattle.fund_base.specs.Cursor.{IsBytes}
 use Rattle.fund_base.specs.declared.candidate.Candidate.{Candidate}
-use Rattle.fund_base.specs.declared.outpoint.OutPoint.{OutPoint}
 use Rattle.tx_codec.specs.declared.tx.TxIn.{TxIn}
 use Rattle.tx_codec.specs.declared.tx.TxOut.{TxOut}
 use Rattle.tx_codec.specs.TransactionText.{HasWitness, InputFits, IsTransaction, OutputFits}
 use Rattle.fee_rates.specs.Output.{output_size_of}
-use Rattle.request_text.specs.PlainRequest.{IsRequest, PlainRequest}
+use Rattle.request_text.specs.PlainRequest.{IsRequest, PlainRequest, paid_to}
 use Rattle.request_text.specs.declared.request.Recipient.{Recipient}
 use Rattle.wallet_text.specs.WalletRules.{IsWatch}
 use Rattle.wallet_text.specs.declared.wallet.Watch.{Watch}
-use Rattle.fund_steps.specs.Amounts.{AreWithin}
-use Rattle.fund_plan.specs.Answer.{Answers}
-use Rattle.fund_steps.specs.Listed.{AreListed}
-use Rattle.fund_steps.specs.Plan.{IsPlan, PlainPlan}
-use Rattle.fund_steps.specs.Terms.{load_of}
-use Rattle.fund_plan.specs.declared.outcome.Outcome.TheVariants.{Funded}
-use Rattle.fund_steps.proofs.OrderLaws.{listed_fit}
-use Rattle.fund_plan.specs.Pays.{change_outputs, outputs_of, payment_of, payment_weight, recipient_output, sequence_of, unsigned_input}
-use Rattle.fund_plan.specs.Selection.{Selection}
-use Rattle.fund_plan.proofs.PaysLaws.{outputs_sum, pays_within, pays_some}
+use Rattle.fund_plan.specs.Pays.{change_outputs, outputs_of, payment_from, payment_of, payment_weight, recipient_output, sequence_of, unsigned_input}
+use Rattle.fund_plan.specs.Selection.{PlainFunded}
+use Rattle.fee_rates.specs.declared.terms.Load.{Load}
+use Rattle.fund_plan.specs.Weighed.{HasOutpoint}
+use Rattle.fund_plan.proofs.PaysLaws.{outputs_sum}
 
 sequence_fits : (replaceable : Bool) → sequence_of replaceable < 2 ^ 32
 sequence_fits true = omega arith
@@ -49,10 +43,10 @@ no_witness replaceable coins h =
     h.4 (subst (λ (i : TxIn). i.witness ≡ []) h.3 (all h.0 h.1 h.2))
 
 -- its inputs and outputs having texts
-pub payment_text : (r : PlainRequest) (w : Watch) (f : Selection) → r.locktime < 2 ^ 32 → 1 ≤ length r.recipients → 0 < length f.coins → length f.coins < 2 ^ 64 → outputs_of r f.change ≤ 2_100_000_000_000_000
+pub payment_text : (r : PlainRequest) (w : Watch) (f : PlainFunded) → r.locktime < 2 ^ 32 → 1 ≤ length r.recipients → 0 < length f.coins → length f.coins < 2 ^ 64 → outputs_of r f.change ≤ 2_100_000_000_000_000
     → All InputFits (map (unsigned_input r.replaceable) f.coins) → All OutputFits (map recipient_output r.recipients ++ change_outputs w f.change) → length (map recipient_output r.recipients ++ change_outputs w f.change) < 2 ^ 64
     → IsTransaction (payment_of r w f)
-unfolding payment_of
+unfolding payment_from
 payment_text r w f locktime some_recipients some few money inputs outputs outputs_few =
     let same = length-map f.coins (unsigned_input r.replaceable) in
     let both = length-append (map recipient_output r.recipients) (change_outputs w f.change) in
@@ -75,43 +69,37 @@ payment_text r w f locktime some_recipients some few money inputs outputs output
 plain_output : (r : PlainRequest) → IsRequest r → All OutputFits (map recipient_output r.recipients)
 plain_output r h = All-map OutputFits recipient_output r.recipients (λ k d lt. let q = h.recipients k d lt in record { script = q.bytes; script_len = omega (arith, q.most) })
 
-outputs_fit : (r : PlainRequest) (w : Watch) (amount : Option ℕ) → IsRequest r → IsWatch w → All OutputFits (map recipient_output r.recipients ++ change_outputs w amount)
+pub outputs_fit : (r : PlainRequest) (w : Watch) (amount : Option ℕ) → IsRequest r → IsWatch w → All OutputFits (map recipient_output r.recipients ++ change_outputs w amount)
 outputs_fit r w None h hw = All-append OutputFits (map recipient_output r.recipients) [] (plain_output r h) (All-nil OutputFits)
 outputs_fit r w (Some amount) h hw =
     let o : TxOut = record { value = amount; script = w.script } in
     All-append OutputFits (map recipient_output r.recipients) (o ∷ []) (plain_output r h) (All-cons OutputFits o [] (record { script = hw.bytes; script_len = omega (arith, hw.most) }) (All-nil OutputFits))
 
-listed_input : (r : PlainRequest) (c : Candidate) → IsRequest r → Contains r.coins c.coin → InputFits (unsigned_input r.replaceable c)
-listed_input r c h (k, lt, is) =
-    let point = h.coins k c.coin lt in
-    input_fits r.replaceable c (subst (λ (q : OutPoint). length q.txid ≡ 32) is point.txid.len) (subst (λ (q : OutPoint). IsBytes q.txid) is point.txid.bytes) (subst (λ (q : OutPoint). q.index < 2 ^ 32) is point.index)
-
-pub inputs_fit : (p : PlainPlan) (coins : List Candidate) → IsRequest p.request → AreListed p coins → All InputFits (map (unsigned_input p.request.replaceable) coins)
-inputs_fit p coins h listed = All-map InputFits (unsigned_input p.request.replaceable) coins (λ k d lt. listed_input p.request (get_or coins k d) h (listed.only k d lt))
+pub points_fit : (r : PlainRequest) (coins : List Candidate) → All (λ (c : Candidate). HasOutpoint c) coins → All InputFits (map (unsigned_input r.replaceable) coins)
+points_fit r coins h =
+    All-map InputFits (unsigned_input r.replaceable) coins
+    (All-weaker (λ (c : Candidate). HasOutpoint c) (λ (c : Candidate). InputFits (unsigned_input r.replaceable c)) (λ c point. input_fits r.replaceable c point.len point.bytes point.index) coins h)
 
 -- there are no more of them than they weigh
 few_recipients : (rs : List Recipient) → length rs ≤ sum_by (λ (q : Recipient). output_size_of q.script) rs
 few_recipients [] = omega arith
 few_recipients (q ∷ rs) = omega (arith, few_recipients rs, sum_by-cons (λ (p : Recipient). output_size_of p.script) q rs)
 
-pub recipients_few : (r : PlainRequest) (w : Watch) (coins : List Candidate) (amount : Option ℕ) → payment_weight (load_of r w coins) coins amount ≤ 400_000 → length r.recipients ≤ 100_000
-unfolding load_of
-recipients_few r w coins None h = omega (arith, h, few_recipients r.recipients)
-recipients_few r w coins (Some amount) h = omega (arith, h, few_recipients r.recipients)
+-- a load has the recipients of the request and the change of the script
+pub record IsLoadOf (r : PlainRequest) (w : Watch) (l : Load) : Type 0 where
+  pub outputs : l.outputs ≡ min (sum_by (λ (q : Recipient). output_size_of q.script) r.recipients) 1_000_000_000
+  pub count : l.count ≡ min (length r.recipients) 1_000_000_000
+  pub change_size : l.change_size ≡ output_size_of w.script
+  pub paid : l.paid ≡ paid_to r.recipients
 
-outputs_few : (r : PlainRequest) (w : Watch) (amount : Option ℕ) → length (map recipient_output r.recipients ++ change_outputs w amount) ≤ length r.recipients + 1
+pub recipients_few : (r : PlainRequest) (w : Watch) (l : Load) (coins : List Candidate) (amount : Option ℕ) → IsLoadOf r w l → payment_weight l coins amount ≤ 400_000 → length r.recipients ≤ 100_000
+recipients_few r w l coins None is h = omega (arith, h, few_recipients r.recipients, is.outputs)
+recipients_few r w l coins (Some amount) is h = omega (arith, h, few_recipients r.recipients, is.outputs)
+
+pub outputs_few : (r : PlainRequest) (w : Watch) (amount : Option ℕ) → length (map recipient_output r.recipients ++ change_outputs w amount) ≤ length r.recipients + 1
 outputs_few r w None = omega (arith, length-append (map recipient_output r.recipients) (change_outputs w None), length-map r.recipients recipient_output)
 outputs_few r w (Some amount) = omega (arith, length-append (map recipient_output r.recipients) (change_outputs w (Some amount)), length-map r.recipients recipient_output)
 
-pub answer_text : (p : PlainPlan) (f : Selection) → IsPlan p → Answers p (Funded f) → IsTransaction (payment_of p.request p.change f)
-answer_text p f h a =
-    let r = p.request in
-    let fit : AreWithin f.coins = listed_fit p f.coins h a.0 in
-    let money = pays_within r p.change (load_of r p.change f.coins) f.coins f.change _ a.1 in
-    let few = recipients_few r p.change f.coins f.change a.1.weight in
-    payment_text r p.change f h.request.locktime h.request.some (pays_some r p.change f.coins f.change _ a.1) (omega (arith, fit.count)) (omega (arith, money, fit.value)) (inputs_fit p f.coins h.request a.0)
-    (outputs_fit r p.change f.change h.request h.change) (omega (arith, few, outputs_few r p.change f.change))
-
-pub none_signed : (r : PlainRequest) (w : Watch) (f : Selection) → All (λ (i : TxIn). (i.script ≡ []) × (i.witness ≡ [])) (payment_of r w f).inputs
-unfolding payment_of
+pub none_signed : (r : PlainRequest) (w : Watch) (f : PlainFunded) → All (λ (i : TxIn). (i.script ≡ []) × (i.witness ≡ [])) (payment_of r w f).inputs
+unfolding payment_from
 none_signed r w f = All-map (λ (i : TxIn). (i.script ≡ []) × (i.witness ≡ [])) (unsigned_input r.replaceable) f.coins (λ k d lt. (refl, refl))

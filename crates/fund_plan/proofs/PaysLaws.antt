@@ -20,8 +20,8 @@ use Rattle.request_text.specs.declared.request.Recipient.{Recipient}
 use Rattle.wallet_text.specs.declared.wallet.Watch.{Watch}
 use Rattle.fund_steps.specs.Amounts.{AreWithin, fees_of, value_of, weight_of}
 use Rattle.fund_plan.specs.Answer.{IsSelection}
-use Rattle.fund_plan.specs.Figures.{cost_of, excess_of}
-use Rattle.fund_plan.specs.Pays.{Pays, change_outputs, outputs_of, payment_of, raised_of, recipient_output}
+use Rattle.fund_plan.specs.Selection.{PlainFunded}
+use Rattle.fund_plan.specs.Pays.{Balances, Pays, change_outputs, outputs_of, payment_from, payment_weight, raised_of, recipient_output}
 use Rattle.fund_steps.specs.Presets.{presets_of}
 use Rattle.fund_steps.specs.Selection.{AreSorted}
 use Rattle.fund_steps.specs.Terms.{load_of, rates_of}
@@ -86,12 +86,12 @@ left_back : (paid base burden raised value fees cf cl change : ℕ) → value �
 left_back paid base burden raised value fees cf cl change a b = omega (arith, ints)
 
 -- the target is raised where there are no coins
-raised_as : (some : Bool) (n value fees : ℕ) → (some ≡ false → (value ≡ 0) × (fees ≡ 0))
+pub raised_as : (some : Bool) (n value fees : ℕ) → (some ≡ false → (value ≡ 0) × (fees ≡ 0))
     → (if some then pos n -ℤ (pos value -ℤ pos fees) else int_max (pos n -ℤ (pos value -ℤ pos fees)) (pos 1)) ≡ pos (n + (if some then 0 else 1 - n)) -ℤ (pos value -ℤ pos fees)
 raised_as true n value fees none = ap (λ m. pos m -ℤ (pos value -ℤ pos fees)) (omega arith)
 raised_as false n value fees none = omega (arith, ints, int_max_is (pos n -ℤ (pos value -ℤ pos fees)) (pos 1), (none refl).0, (none refl).1)
 
-none_worth : (rate : ℕ) (coins : List Candidate) → not (length coins == 0) ≡ false → (value_of coins ≡ 0) × (fees_of rate coins ≡ 0)
+pub none_worth : (rate : ℕ) (coins : List Candidate) → not (length coins == 0) ≡ false → (value_of coins ≡ 0) × (fees_of rate coins ≡ 0)
 none_worth rate [] e = (refl, refl)
 none_worth rate (c ∷ coins) e = let none = eqb-true (length (c ∷ coins)) 0 (not-false _ e) in absurd (omega (arith, none))
 
@@ -183,9 +183,50 @@ change_rest r w coins amount is small =
     (is ∙ ap (λ (t : ℤ). unsigned_abs ((pos 0 -ℤ t) -ℤ pos cf)) (target_here r w coins))
     (subst (λ (t : ℤ). (t +ℤ pos cf +ℤ pos cl) ≤ℤ pos 0) (target_here r w coins) small)
 
+-- coins that balance without change pay
+pub pays_without : (r : PlainRequest) (w : Watch) (l : Load) (coins : List Candidate) → AreSorted coins → Balances r l coins None (value_of coins) (paid_to r.recipients) → payment_weight l coins None ≤ 400_000
+    → Pays r w l coins None (payment_from r w coins None)
+unfolding payment_from
+pays_without r w l coins sorted balance weight =
+    let total = sum_plain r.recipients (map recipient_output r.recipients ++ []) refl in
+    let due : paid_to r.recipients + fee_of r.rate (vsize_of (base_of l)) + fees_of r.rate coins + l.burden + raised_of r.rate l ≤ value_of coins = balance.0 in
+    record {
+      inputs = refl;
+      sorted = sorted;
+      outputs = refl;
+      version = refl;
+      locktime = refl;
+      bare = refl;
+      fee = rw total balance;
+      change_worth = tt;
+      weight = weight;
+      fee_covers = rw total (plain_covers r.rate (base_of l) (paid_to r.recipients) (l.burden + raised_of r.rate l) (value_of coins) coins (omega (arith, due)));
+    }
+
+-- coins that balance with this change pay
+pub pays_with : (r : PlainRequest) (w : Watch) (l : Load) (coins : List Candidate) (amount : ℕ) → AreSorted coins → Balances r l coins (Some amount) (value_of coins) (paid_to r.recipients + amount) → change_least_of (rates_of r) l ≤ amount
+    → payment_weight l coins (Some amount) ≤ 400_000 → Pays r w l coins (Some amount) (payment_from r w coins (Some amount))
+unfolding payment_from
+pays_with r w l coins amount sorted balance worth weight =
+    let change : TxOut = record { value = amount; script = w.script } in
+    let total = sum_change r.recipients (map recipient_output r.recipients ++ change ∷ []) change refl in
+    let due : value_of coins ≡ paid_to r.recipients + amount + fee_of r.rate (vsize_of (base_of l)) + fees_of r.rate coins + l.burden + raised_of r.rate l + fee_of r.rate l.change_size = balance in
+    record {
+      inputs = refl;
+      sorted = sorted;
+      outputs = refl;
+      version = refl;
+      locktime = refl;
+      bare = refl;
+      fee = rw total balance;
+      change_worth = worth;
+      weight = weight;
+      fee_covers = rw total (change_covers r.rate (base_of l) (paid_to r.recipients + amount) (l.burden + raised_of r.rate l) (value_of coins) l.change_size coins (omega (arith, due)));
+    }
+
 -- without change they pay
-pub pays_plain : (r : PlainRequest) (w : Watch) (coins : List Candidate) → AreSorted coins → presets_of (rates_of r) (load_of r w coins) ≡ Plain → Pays r w (load_of r w coins) coins None (payment_of r w (record { coins = coins; change = None }))
-unfolding presets_of load_of payment_of
+pub pays_plain : (r : PlainRequest) (w : Watch) (coins : List Candidate) → AreSorted coins → presets_of (rates_of r) (load_of r w coins) ≡ Plain → Pays r w (load_of r w coins) coins None (payment_from r w coins None)
+unfolding presets_of load_of payment_from
 pays_plain r w coins sorted e =
     let l = load_of r w coins in
     let f = plain_facts (target_of (rates_of r) l) (hi_of (rates_of r) l) (base_of l + weight_of coins) (was_plain _ _ _ e) in
@@ -206,8 +247,8 @@ pays_plain r w coins sorted e =
 
 -- with change they pay
 pub pays_change : (r : PlainRequest) (w : Watch) (coins : List Candidate) (amount : ℕ) → AreSorted coins → presets_of (rates_of r) (load_of r w coins) ≡ Change amount
-    → Pays r w (load_of r w coins) coins (Some amount) (payment_of r w (record { coins = coins; change = Some amount }))
-unfolding presets_of load_of payment_of
+    → Pays r w (load_of r w coins) coins (Some amount) (payment_from r w coins (Some amount))
+unfolding presets_of load_of payment_from
 pays_change r w coins amount sorted e =
     let l = load_of r w coins in
     let b = was_change _ _ _ _ e in
@@ -276,22 +317,11 @@ pub pays_some : (r : PlainRequest) (w : Watch) (coins : List Candidate) (amount 
 pays_some r w [] amount t p = absurd (none_pay r w amount t p)
 pays_some r w (c ∷ coins) amount t p = omega arith
 
-amount_most : (r : PlainRequest) (amount : Option ℕ) → outputs_of r amount ≤ 2_100_000_000_000_000 → IfSome amount (λ n. n ≤ 2_100_000_000_000_000)
+pub amount_most : (r : PlainRequest) (amount : Option ℕ) → outputs_of r amount ≤ 2_100_000_000_000_000 → IfSome amount (λ n. n ≤ 2_100_000_000_000_000)
 amount_most r None h = tt
 amount_most r (Some n) h = omega (arith, h)
 
-pub selection_is : (r : PlainRequest) (w : Watch) (coins : List Candidate) (amount : Option ℕ) (t : Transaction) → AreWithin coins → Pays r w (load_of r w coins) coins amount t → IsSelection r (record { coins = coins; change = amount })
-selection_is r w coins amount t h p =
-    let within = pays_within r w (load_of r w coins) coins amount t p in
-    record { coins = h; some = pays_some r w coins amount t p; change = amount_most r amount (omega (arith, within, h.value)); within = within }
-
--- ---- what coins bring beyond what is due
-
-excess : (paid base burden raised value fees : ℕ) (cost : ℤ) → cost -ℤ needed paid base burden raised value fees ≡ cost +ℤ (pos value -ℤ pos (paid + base + fees + burden + raised))
-excess paid base burden raised value fees cost = omega (arith, ints)
-
-pub by_excess : (r : PlainRequest) (w : Watch) (coins : List Candidate) → cost_of r coins -ℤ target_of (rates_of r) (load_of r w coins) ≡ cost_of r coins +ℤ excess_of r (load_of r w coins) coins
-unfolding load_of
-by_excess r w coins =
-    ap (λ (t : ℤ). cost_of r coins -ℤ t) (target_here r w coins)
-    ∙ excess (paid_to r.recipients) (base_fee r w coins) 0 (raised_of r.rate (load_of r w coins)) (value_of coins) (fees_of r.rate coins) (cost_of r coins)
+pub selection_is : (r : PlainRequest) (w : Watch) (l : Load) (f : PlainFunded) (t : Transaction) → AreWithin f.coins → 0 < length f.coins → Pays r w l f.coins f.change t → IsSelection r f
+selection_is r w l f t h some p =
+    let within = pays_within r w l f.coins f.change t p in
+    record { coins = h; some = some; change = amount_most r f.change (omega (arith, within, h.value)); within = within }

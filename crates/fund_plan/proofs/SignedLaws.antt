@@ -18,19 +18,17 @@ use Rattle.fee_rates.proofs.FeeLaws.{fee_below, vsize_below}
 use Rattle.request_text.specs.PlainRequest.{PlainRequest}
 use Rattle.wallet_text.specs.declared.wallet.Watch.{Watch}
 use Rattle.fund_steps.specs.Amounts.{AreWithin, value_of, weight_of}
-use Rattle.fund_plan.specs.Answer.{Answers}
-use Rattle.fund_plan.specs.Figures.{figures_of}
-use Rattle.fund_plan.specs.Pays.{change_outputs, payment_of, payment_weight, recipient_output}
-use Rattle.fund_steps.specs.Plan.{IsPlan, PlainPlan}
-use Rattle.fund_plan.specs.Selection.{Selection}
-use Rattle.fund_steps.specs.Terms.{load_of}
+use Rattle.fund_plan.specs.Answer.{IsPayment}
+use Rattle.fund_plan.specs.Chosen.{load_for}
+use Rattle.fund_plan.specs.Pays.{change_outputs, payment_from, payment_of, payment_weight, recipient_output}
+use Rattle.fund_steps.specs.Plan.{PlainPlan}
+use Rattle.fund_plan.specs.Selection.{PlainFunded}
+use Rattle.fee_rates.specs.declared.terms.Load.{Load}
 use Rattle.fund_plan.specs.Weighed.{AreWithinDeclared}
-use Rattle.fund_plan.specs.declared.outcome.Outcome.TheVariants.{Funded}
 use Rattle.fund_plan.proofs.FigureLaws.{figures_agree}
-use Rattle.fund_steps.proofs.OrderLaws.{listed_fit}
-use Rattle.fund_plan.proofs.PaymentLaws.{recipients_few}
+use Rattle.fund_plan.proofs.PaymentLaws.{IsLoadOf, recipients_few}
 use Rattle.fund_plan.proofs.PaysLaws.{sum_one}
-use Rattle.fund_plan.proofs.WeightLaws.{all_outputs, bare_len, base_is, change_counted, coins_weigh, inputs_bytes, inputs_count, outputs_count, recipients_size, size_of, sizes_few, sizes_of}
+use Rattle.fund_plan.proofs.WeightLaws.{all_outputs, at_hand_count, bare_len, base_is, bytes_kept, coins_weigh, inputs_bytes, inputs_count, load_is, outputs_count, recipients_size, size_of, sizes_few, sizes_of}
 
 -- ---- the text with its witnesses
 
@@ -86,8 +84,8 @@ inputs_within (i ∷ is) (c ∷ cs) h =
 
 -- ---- the payment
 
-outputs_are : (r : PlainRequest) (w : Watch) (f : Selection) → (payment_of r w f).outputs ≡ map recipient_output r.recipients ++ change_outputs w f.change
-unfolding payment_of
+outputs_are : (r : PlainRequest) (w : Watch) (f : PlainFunded) → (payment_of r w f).outputs ≡ map recipient_output r.recipients ++ change_outputs w f.change
+unfolding payment_from
 outputs_are r w f = refl
 
 -- what a transaction weighs that pays so many change outputs, so large together
@@ -102,31 +100,32 @@ signed_most r w coins amount t k size count sized few outputs within =
     let total : sum_by size_of t.outputs ≡ sizes_of r + size = omega (arith, ap (sum_by size_of) outputs, sized, sum_by-append size_of paid (change_outputs w amount), recipients_size r.recipients) in
     omega (arith, weight_most t, bare_len t, ins, outs, total, all_outputs t.outputs, inputs_within t.inputs coins within)
 
-signed_within : (r : PlainRequest) (w : Watch) (coins : List Candidate) (amount : Option ℕ) (t : Transaction) → AreWithin coins → payment_weight (load_of r w coins) coins amount ≤ 400_000
-    → t.outputs ≡ map recipient_output r.recipients ++ change_outputs w amount → AreWithinDeclared t.inputs coins → text_weight t ≤ payment_weight (load_of r w coins) coins amount
-signed_within r w coins None t fit light outputs within =
+signed_within : (r : PlainRequest) (w : Watch) (l : Load) (coins : List Candidate) (amount : Option ℕ) (t : Transaction) → IsLoadOf r w l → length coins ≤ l.coins → AreWithin coins → payment_weight l coins amount ≤ 400_000
+    → t.outputs ≡ map recipient_output r.recipients ++ change_outputs w amount → AreWithinDeclared t.inputs coins → text_weight t ≤ payment_weight l coins amount
+signed_within r w l coins None t is there fit light outputs within =
     let k = length r.recipients in
     let low = coins_weigh coins fit.each in
-    let few = recipients_few r w coins None light in
+    let few = recipients_few r w l coins None is light in
     let most = signed_most r w coins None t 0 0 refl refl (omega (arith, low, light)) outputs within in
     let same : length (compact (k + 0)) ≡ length (compact k) = ap (λ (m : ℕ). length (compact m)) (omega arith) in
-    omega (arith, most, same, base_is r w coins few (sizes_few r w coins (omega (arith, light))), (outputs_count k (omega (arith, few))).0)
-signed_within r w coins (Some amount) t fit light outputs within =
+    omega (arith, most, same, base_is r w l is few (sizes_few r w l is (omega (arith, light))), (outputs_count k (omega (arith, few))).0, bytes_kept (length coins) l.coins there)
+signed_within r w l coins (Some amount) t is there fit light outputs within =
     let low = coins_weigh coins fit.each in
-    let few = recipients_few r w coins (Some amount) light in
+    let few = recipients_few r w l coins (Some amount) is light in
     let change = output_size_of w.script in
     let most = signed_most r w coins (Some amount) t 1 change refl (sum_one size_of (record { value = amount; script = w.script })) (omega (arith, low, light)) outputs within in
-    omega (arith, most, base_is r w coins few (sizes_few r w coins (omega (arith, light))), change_counted r w coins)
+    omega (arith, most, base_is r w l is few (sizes_few r w l is (omega (arith, light))), is.change_size, bytes_kept (length coins) l.coins there)
 
-pub signed_light : (p : PlainPlan) (f : Selection) (t : Transaction) → IsPlan p → Answers p (Funded f) → t.outputs ≡ (payment_of p.request p.change f).outputs → AreWithinDeclared t.inputs f.coins → text_weight t ≤ (figures_of p.request p.change f).weight
-signed_light p f t h a outputs within = signed_within p.request p.change f.coins f.change t (listed_fit p f.coins h a.0) a.1.weight (outputs ∙ outputs_are p.request p.change f) within
+pub signed_light : (p : PlainPlan) (f : PlainFunded) (t : Transaction) → IsPayment p f → t.outputs ≡ (payment_of p.request p.change f).outputs → AreWithinDeclared t.inputs f.coins → text_weight t ≤ f.weight
+signed_light p f t a outputs within =
+    let l = load_for p f.row in
+    omega (arith, a.weight_is, signed_within p.request p.change l f.coins f.change t (load_is p f.row) (at_hand_count p f a) a.coins a.pays.weight (outputs ∙ outputs_are p.request p.change f) within)
 
-pub signed_pays : (p : PlainPlan) (f : Selection) (t : Transaction) → IsPlan p → Answers p (Funded f) → t.outputs ≡ (payment_of p.request p.change f).outputs → AreWithinDeclared t.inputs f.coins
+pub signed_pays : (p : PlainPlan) (f : PlainFunded) (t : Transaction) → IsPayment p f → t.outputs ≡ (payment_of p.request p.change f).outputs → AreWithinDeclared t.inputs f.coins
     → sum_by (λ (o : TxOut). o.value) t.outputs + fee_of p.request.rate (vsize_of (text_weight t)) ≤ value_of f.coins
-signed_pays p f t h a outputs within =
+signed_pays p f t a outputs within =
     let r = p.request in
-    let agree = figures_agree p f h a in
-    let told : ℕ = (figures_of r p.change f).weight in
-    let smaller = vsize_below (text_weight t) told (signed_light p f t h a outputs within) in
-    let less = fee_below r.rate (vsize_of (text_weight t)) r.rate (vsize_of told) (omega arith) smaller in
+    let agree = figures_agree p f a in
+    let smaller = vsize_below (text_weight t) f.weight (signed_light p f t a outputs within) in
+    let less = fee_below r.rate (vsize_of (text_weight t)) r.rate (vsize_of f.weight) (omega arith) smaller in
     omega (arith, agree.money, agree.rate, less, ap (sum_by (λ (o : TxOut). o.value)) outputs)

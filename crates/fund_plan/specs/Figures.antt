@@ -8,9 +8,9 @@ use Rattle.fee_rates.specs.declared.terms.Load.{Load}
 use Rattle.request_text.specs.PlainRequest.{PlainRequest, paid_to}
 use Rattle.wallet_text.specs.declared.wallet.Watch.{Watch}
 use Rattle.fund_steps.specs.Amounts.{fees_of, value_of}
-use Rattle.fund_plan.specs.Pays.{due_of, outputs_of, payment_of, payment_weight}
-use Rattle.fund_plan.specs.Selection.{Selection}
-use Rattle.fund_steps.specs.Terms.{load_of, rates_of}
+use Rattle.fund_plan.specs.Pays.{due_of, outputs_of, payment_of, raised_of}
+use Rattle.fund_plan.specs.Selection.{PlainFunded}
+use Rattle.fund_steps.specs.Terms.{rates_of}
 use Rattle.fund_plan.specs.declared.figures.Figures.{Figures}
 
 -- what it costs to spend coins now and not in the long run
@@ -27,13 +27,13 @@ abbrev pub waste_of : PlainRequest → Load → List Candidate → Option ℕ �
 waste_of r l coins None = cost_of r coins +ℤ excess_of r l coins
 waste_of r l coins (Some amount) = cost_of r coins +ℤ pos (change_fee_of (rates_of r) l + change_spend_of (rates_of r) l)
 
--- What a payment from given coins comes to. Its fee is what the coins are worth less what the outputs take.
-abbrev pub figures_of : PlainRequest → Watch → Selection → Figures
-figures_of r change f = record {
-  weight = payment_weight (load_of r change f.coins) f.coins f.change;
-  vsize = vsize_of (payment_weight (load_of r change f.coins) f.coins f.change);
+-- What a payment comes to. Its fee is what the coins are worth less what the outputs take.
+abbrev pub figures_of : PlainRequest → PlainFunded → Figures
+figures_of r f = record {
+  weight = f.weight;
+  vsize = vsize_of f.weight;
   fee = value_of f.coins - outputs_of r f.change;
-  waste = waste_of r (load_of r change f.coins) f.coins f.change;
+  waste = f.waste;
 }
 
 -- what the spending of the change costs later, where there is any
@@ -43,10 +43,11 @@ spending_of r l (Some amount) = change_spend_of (rates_of r) l
 
 -- How the figures of a payment stand to its money. What the coins are worth goes to the outputs and the fee. The fee is no
 -- less than that of the virtual size at the rate, and that size is a quarter of the weight, rounded up. The waste is what
--- the fee is above the fee of the base and of the same inputs at the long-term rate, and what the change's spending costs.
-pub record AddUp (r : PlainRequest) (change : Watch) (f : Selection) (g : Figures) : Type 0 where
+-- the fee is above the fee of the base and of the same inputs at the long-term rate, the burden of a replacement and the 1
+-- by which the target may be raised, and what the change's spending costs. The load is what the payment is to carry.
+pub record AddUp (r : PlainRequest) (change : Watch) (l : Load) (f : PlainFunded) (g : Figures) : Type 0 where
   pub money : value_of f.coins ≡ sum_by (λ (o : TxOut). o.value) (payment_of r change f).outputs + g.fee
   pub rate : fee_of r.rate g.vsize ≤ g.fee
   pub size : (g.weight ≤ 4 * g.vsize) × (4 * g.vsize ≤ g.weight + 3)
   pub light : g.weight ≤ 400_000
-  pub waste : g.waste +ℤ pos (fee_of r.rate (vsize_of (base_of (load_of r change f.coins))) + fees_of r.long_term f.coins) ≡ pos (g.fee + spending_of r (load_of r change f.coins) f.change)
+  pub waste : g.waste +ℤ pos (fee_of r.rate (vsize_of (base_of l)) + fees_of r.long_term f.coins + l.burden + raised_of r.rate l) ≡ pos (g.fee + spending_of r l f.change)

@@ -1,5 +1,11 @@
 pub mod Answer
+pub mod Chosen
+pub mod Claims
 pub mod Figures
+pub mod Kept
+pub mod Outcome
 pub mod Pays
 pub mod Selection
+pub mod State
+pub mod Steps
 pub mod Weighed

@@ -11,7 +11,7 @@ use Rattle.request_text.specs.PlainRequest.{PlainRequest, paid_to}
 use Rattle.request_text.specs.declared.request.Recipient.{Recipient}
 use Rattle.wallet_text.specs.declared.wallet.Watch.{Watch}
 use Rattle.fund_steps.specs.Amounts.{fees_of, value_of, weight_of}
-use Rattle.fund_plan.specs.Selection.{Selection}
+use Rattle.fund_plan.specs.Selection.{PlainFunded}
 use Rattle.fund_steps.specs.Selection.{AreSorted}
 use Rattle.fund_steps.specs.Terms.{rates_of}
 
@@ -78,12 +78,16 @@ pub record Pays (r : PlainRequest) (change : Watch) (l : Load) (coins : List Can
   -- no less than the fee of the declared weight
   pub fee_covers : sum_by (λ (o : TxOut). o.value) t.outputs + fee_of r.rate (vsize_of (payment_weight l coins amount)) ≤ value_of coins
 
--- the unsigned transaction of a payment
-unfoldable pub payment_of : PlainRequest → Watch → Selection → Transaction
-payment_of r change f = record {
+-- the unsigned transaction that spends these coins, with this change or with none
+unfoldable pub payment_from : PlainRequest → Watch → List Candidate → Option ℕ → Transaction
+payment_from r change coins amount = record {
   version = 2;
-  inputs = map (unsigned_input r.replaceable) f.coins;
-  outputs = map recipient_output r.recipients ++ change_outputs change f.change;
+  inputs = map (unsigned_input r.replaceable) coins;
+  outputs = map recipient_output r.recipients ++ change_outputs change amount;
   locktime = r.locktime;
   segwit = false;
 }
+
+-- the same of a payment
+abbrev pub payment_of : PlainRequest → Watch → PlainFunded → Transaction
+payment_of r change f = payment_from r change f.coins f.change

@@ -1,19 +1,15 @@
 //! What a payment comes to.
 
-ghost use Rattle.std.specs.Prelude.{◌≡◌, ◌≤◌, ◌≤ℤ◌, pos, neg_ℤ, IfSome};
-ghost use Rattle.wallet_text.specs.WalletRules.{IsWatch};
-ghost use Rattle.fund_steps.specs.Amounts.{AreWithin};
+ghost use Rattle.std.specs.Prelude.{◌≡◌, ◌≤◌, IfSome};
 ghost use Rattle.fund_plan.specs.Answer.{IsSelection};
-ghost use Rattle.fund_plan.specs.Figures.{cost_of, figures_of, waste_of};
-ghost use Rattle.fund_plan.specs.Pays.{outputs_of, payment_weight};
-ghost use Rattle.fund_steps.specs.Terms.{load_of};
+ghost use Rattle.fund_plan.specs.Figures.{figures_of};
+ghost use Rattle.fund_plan.specs.Pays.{outputs_of};
 
 use crate::outcome::Funded;
-use fee_rates::{Terms, vsize};
-use fund_base::{Candidate, MAX_MONEY};
-use fund_steps::{fees, load, paid, rates, value};
+use fee_rates::vsize;
+use fund_base::MAX_MONEY;
+use fund_steps::{paid, value};
 use request_text::Request;
-use wallet_text::Watch;
 
 /// What a payment comes to.
 #[derive(Clone, Copy, Debug, PartialEq, Eq)]
@@ -30,49 +26,6 @@ pub struct Figures {
     pub waste: i128,
 }
 
-/// What it costs to spend the coins now and not in the long run, in satoshi.
-fn cost(request: &Request, coins: &[Candidate]) -> i128
-    requires { AreWithin coins.now }
-    ensures value { result ≡ cost_of request.now coins.now }
-    ensures low { neg_ℤ (pos 1_000_000_000_000_000) ≤ℤ result }
-    ensures high { result ≤ℤ pos 1_000_000_000_000_000 }
-{
-    request.keeps_rules();
-    let now = fees(request.rate, coins);
-    let later = fees(request.long_term, coins);
-    i128::from(now) - i128::from(later)
-}
-
-/// The waste of the payment from these coins, in satoshi.
-fn waste(request: &Request, change: &Watch, coins: &[Candidate], amount: Option<u64>) -> i128
-    requires change { IsWatch change.now }
-    requires coins { AreWithin coins.now }
-    ensures { result ≡ waste_of request.now (load_of request.now change.now coins.now) coins.now amount }
-{
-    let terms = Terms::new(&rates(request), &load(request, change, coins));
-    let cost = cost(request, coins);
-    match amount {
-        None => cost - terms.target,
-        Some(_) => cost + i128::from(terms.change_fee + terms.change_spend),
-    }
-}
-
-/// The declared weight of the payment from these coins, in weight units.
-#[tactic(auto, unfolding(fund_steps::specs::Terms::load_of))]
-fn weight(request: &Request, change: &Watch, coins: &[Candidate], amount: Option<u64>) -> u64
-    requires change { IsWatch change.now }
-    requires coins { AreWithin coins.now }
-    ensures { result ≡ payment_weight (load_of request.now change.now coins.now) coins.now amount }
-{
-    let load = load(request, change, coins);
-    let terms = Terms::new(&rates(request), &load);
-    let plain = terms.base + load.preset_weight;
-    match amount {
-        None => plain,
-        Some(_) => plain + 4 * load.change_size,
-    }
-}
-
 /// What the outputs take together, in satoshi.
 fn outputs(request: &Request, amount: Option<u64>) -> u64
     requires { IfSome amount (λ n. n ≤ MAX_MONEY) }
@@ -85,19 +38,17 @@ fn outputs(request: &Request, amount: Option<u64>) -> u64
 }
 
 impl Figures {
-    /// What the payment of an outcome comes to, as a report gives it. The change script keeps the rules of a wallet's, and
-    /// the coins and the change those of an outcome of [`crate::Plan::go`].
-    pub fn new(request: &Request, change: &Watch, funded: &Funded) -> Figures
-        requires change { IsWatch change.now }
-        requires funded { IsSelection request.now funded.now }
-        ensures { result ≡ figures_of request.now change.now funded.now }
+    /// What a payment of the request comes to, as a report gives it: its coins and its change are those of an outcome of
+    /// [`crate::Plan::go`].
+    pub fn new(request: &Request, funded: &Funded) -> Figures
+        requires { IsSelection request.now funded.now }
+        ensures { result ≡ figures_of request.now funded.now }
     {
-        let weight = weight(request, change, &funded.coins, funded.change);
         Figures {
-            weight,
-            vsize: vsize(weight),
+            weight: funded.weight,
+            vsize: vsize(funded.weight),
             fee: value(&funded.coins) - outputs(request, funded.change),
-            waste: waste(request, change, &funded.coins, funded.change),
+            waste: funded.waste,
         }
     }
 }

@@ -1,20 +1,24 @@
 //! Plans of payments: which coins fund a request, with which change, and the unsigned transaction that pays it. A plan
-//! knows no file and no book of coins: it is made from a request, a change script and the coins that may be spent.
-//! So far it spends exactly the coins that the request lists.
+//! knows no file and no book of coins: it is made from a request, a change script and the coins that may be spent. It goes
+//! through rows and stages by tries, and stands where they led.
 #![tactic(auto)]
 
+mod chosen;
 mod figures;
+mod funding;
 mod laws;
 mod outcome;
 mod payment;
 mod plan;
+mod worth;
 
 pub use figures::Figures;
-pub use fund_steps::PlanFault;
 pub use laws::{
-    answers_once, figures_add_up, pays_in_text, reckons_the_outcome, signed_pays_the_rate,
-    weighs_as_declared,
+    answers_once, ended_plans_have_the_answer, figures_add_up, new_plans_come_to, none_is_proved,
+    payments_keep_their_claims, payments_spend_eligible_coins, pays_in_text, reckons_the_outcome,
+    results_pay, signed_pays_the_rate, steps_have_their_problems,
+    unfinished_plans_used_their_tries, weighs_as_declared,
 };
-pub use outcome::{Funded, Outcome};
+pub use outcome::{Funded, Outcome, Place};
 pub use payment::unsigned;
 pub use plan::Plan;

@@ -118,7 +118,7 @@ fn outputs(
 ///
 /// There is at least one coin, and the recipients' amounts and the change are together at most
 /// [`fund_base::MAX_MONEY`].
-#[tactic(auto, unfolding(crate::specs::Pays::payment_of))]
+#[tactic(auto, unfolding(crate::specs::Pays::payment_from))]
 pub fn unsigned(
     alloc: Global,
     request: &Request,

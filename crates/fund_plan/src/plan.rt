@@ -1,52 +1,90 @@
-//! Plans, and what they come to.
+//! Plans, and how they go on.
 
-ghost use Rattle.std.specs.Prelude.{◌≡◌, All, IfErr, IfOk, None};
+ghost use Rattle.std.specs.Prelude.{◌≡◌, ◌-◌, min, All, IfErr, IfOk, OnErr, OnOk, None};
 ghost use Rattle.fund_base.specs.Candidates.{AreCandidates};
-ghost use Rattle.request_text.specs.declared.request.Method.TheVariants.{Manual};
 ghost use Rattle.wallet_text.specs.WalletRules.{IsWatch};
-ghost use Rattle.fund_plan.specs.Answer.{Answers, HasSelection, answer_of, by_presets};
 ghost use Rattle.fund_steps.specs.Plan.{HasEligible, IsFault, IsPlan, IsRoomy, IsWithin, ladder_in};
+ghost use Rattle.fund_plan.specs.Answer.{ArePayments, HasSelection};
+ghost use Rattle.search_run.specs.Kept.{log_of};
+ghost use Rattle.search_run.specs.Run.{end_of, go_on};
+ghost use Rattle.search_run.specs.Stands.{IsEndOf};
+ghost use Rattle.search_run.specs.Step.{AreSteps};
+ghost use Rattle.fund_plan.specs.Outcome.{beginning_of, is_partial, most_tries};
+ghost use Rattle.fund_plan.specs.State.{IsCutShort, IsRunCut, end_in, moved, partial_of, place_of, told};
+ghost use Rattle.fund_plan.specs.Steps.{steps_of};
 
-use crate::outcome::{Funded, Outcome};
+use crate::funding::Funding;
+use crate::outcome::{Outcome, Place};
+use closing_log::{LogText, Mark};
 use fund_base::{Candidate, Memory};
-use fund_steps::{Funds, PlanFault, Prepared, Presets};
+use fund_steps::{Funds, PlanFault, Prepared};
 use request_text::Request;
+use search_run::{End, Found, SearchRun};
 use std::alloc::Global;
 use std::marker::Model;
 use wallet_text::Watch;
 
+/// The greatest number of tries that all runs of a plan make together.
+const MOST_TRIES: u64 = 10_000_000;
+
 /// How a request is funded: what it was made from is a request, the script that its change is paid to, and the
-/// candidates, which are the coins that may be spent. It keeps the rules that [`Plan::keeps_rules`] states.
+/// candidates, which are the coins that may be spent. It keeps the rules that [`Plan::keeps_rules`] states. It searches
+/// row by row, and stands where its tries led.
 #[derive(Drop)]
 pub struct Plan {
-    alloc: Global,
-    funds: Funds,
+    funding: Funding,
+    run: SearchRun,
+    partial: Option<Found>,
 }
 
 impl Model for Plan {
-    ghost use Rattle.fund_steps.specs.Plan.{PlainPlan};
+    ghost use Rattle.fund_plan.specs.State.{PlanState};
+    ghost use Rattle.fund_plan.specs.Kept.{IsRunOf};
 
-    ghost Value = { PlainPlan };
+    ghost Value = { PlanState };
 
-    ghost view = { λ p. p.funds };
+    ghost view = { λ p. record { plan = p.funding; stand = p.run.stand; partial = p.partial } };
+
+    ghost invariant = { λ p. IsRunOf p.funding p.run p.partial };
 }
 
-/// The outcome of coins that pay so.
-fn outcome(alloc: Global, coins: &[Candidate], way: Presets) -> Result<Outcome, Memory>
-    ensures { IfOk result (λ o. o ≡ by_presets coins.now way) }
+/// Goes on with at most so many tries, of which all together are at most 10,000,000, and tells how the run ends where it
+/// stands then. The error is out of memory.
+fn ended(run: &mut SearchRun, take: bool, budget: u64) -> Result<End, Memory>
+    ensures run { OnOk result (run.new ≡ record run.old { stand = go_on run.old.seed run.old.stand (min budget (most_tries - run.old.stand.past.tries)) }) }
+    ensures end { IfOk result (λ e. e ≡ end_of take run.new.seed run.new.stand) }
+    ensures admissible { IfOk result (λ e. IsEndOf run.new.steps e) }
+    ensures memory { OnErr result (IsRunCut run.old (min budget (most_tries - run.old.stand.past.tries)) run.new) }
 {
-    let change = match way {
-        Presets::Short => return Ok(Outcome::NoSelection),
-        Presets::Plain => None,
-        Presets::Change(amount) => Some(amount),
-    };
-    let coins = Candidate::copy_all(alloc, coins)?;
-    Ok(Outcome::Funded(Funded { coins, change }))
+    let left = MOST_TRIES.saturating_sub(run.tries());
+    run.go(budget.min(left))?;
+    let end = run.end(take)?;
+    Ok(end)
+}
+
+/// The result that was taken for want of tries, if one was.
+fn taken(end: End) -> Option<Found>
+    ensures { result ≡ partial_of end }
+{
+    match end {
+        End::Partial(found) => Some(found),
+        End::Ended(_) | End::Unfinished => None,
+    }
+}
+
+/// Whether a result was taken for want of tries.
+fn is_partial(end: &End) -> bool
+    ensures { result ≡ is_partial end.now }
+{
+    match end {
+        End::Partial(_) => true,
+        End::Ended(_) | End::Unfinished => false,
+    }
 }
 
 impl Plan {
     /// The plan of a request that replaces no payment, whatever its method. The change script keeps the rules of a
-    /// wallet's, and the candidates are at most 100,000, each outpoint once.
+    /// wallet's, and the candidates are at most 100,000, each outpoint once. No try is made yet.
     ///
     /// [`PlanFault::Total`] comes exactly where the candidates are worth more than 21,000,000 bitcoin together. Otherwise
     /// [`PlanFault::NotEligible`] comes exactly where the request lists an outpoint at which there is no candidate that is
@@ -62,36 +100,100 @@ impl Plan {
         requires bump { request.now.bump ≡ None }
         requires change { IsWatch change.now }
         requires candidates { AreCandidates candidates.items }
-        ensures made { IfOk result (λ p. p ≡ record { request = request.now; change = change.now; candidates = candidates.items }) }
-        ensures within { IfOk result (λ p. IsWithin p) }
-        ensures eligible { IfOk result (λ p. All (HasEligible p) p.request.coins) }
-        ensures roomy { IfOk result (λ p. All (IsRoomy p) (ladder_in p)) }
+        ensures plan { IfOk result (λ s. s.plan ≡ record { request = request.now; change = change.now; candidates = candidates.items }) }
+        ensures stand { IfOk result (λ s. s.stand ≡ beginning_of s.plan) }
+        ensures partial { IfOk result (λ s. s.partial ≡ None) }
+        ensures within { IfOk result (λ s. IsWithin s.plan) }
+        ensures eligible { IfOk result (λ s. All (HasEligible s.plan) s.plan.request.coins) }
+        ensures roomy { IfOk result (λ s. All (IsRoomy s.plan) (ladder_in s.plan)) }
         ensures fault { IfErr result (IsFault (record { request = request.now; change = change.now; candidates = candidates.items })) }
     {
-        let Prepared { funds, .. } = Funds::new(alloc, request, change, candidates)?;
-        Ok(Plan { alloc, funds })
+        let Prepared { funds, steps } = Funds::new(alloc, request, change, candidates)?;
+        let run = SearchRun::new(alloc, request.seed, steps);
+        let funding = Funding::new(alloc, request, funds);
+        Ok(Plan {
+            funding,
+            run,
+            partial: None,
+        })
     }
 
     /// That the plan keeps its rules: those of the request, of the change script and of the candidates; that the
     /// candidates are worth at most 21,000,000 bitcoin together; that at each listed outpoint there is a candidate that
     /// the request may list; and that each row of the ladder keeps at most 10,000 groups of the others. A call does nothing.
     pub fn keeps_rules(&self)
-        ensures { IsPlan self.now }
+        ensures { IsPlan self.now.plan }
     {
-        self.funds.keeps_rules();
+        self.funding.keeps_rules();
     }
 
-    /// What a plan of the method `manual` comes to: [`Outcome::Funded`] where the listed coins pay, all of them and no
-    /// other, and otherwise [`Outcome::NoSelection`]. They pay without change where they bring what is needed and less
-    /// than the least change takes, with change where they bring that much, and in either case if the payment weighs at
-    /// most 400,000 weight units. Another call answers the same.
-    pub fn go(&self) -> Result<Outcome, Memory>
-        requires { self.now.request.method ≡ Manual }
-        ensures exact { IfOk result (λ o. o ≡ answer_of self.now) }
-        ensures answers { IfOk result (Answers self.now) }
-        ensures fits { IfOk result (HasSelection self.now.request) }
+    /// That the steps of its run are searches and draws, each with a problem that keeps its rules. A call does nothing.
+    pub fn keeps_steps(&self)
+        ensures { AreSteps (steps_of self.now.plan) }
     {
-        self.keeps_rules();
-        outcome(self.alloc, self.funds.presets(), self.funds.alone())
+        let _ = self.run.tries();
+    }
+
+    /// The tries of all its runs.
+    pub fn tries(&self) -> u64
+        ensures { result ≡ self.now.stand.past.tries }
+    {
+        self.run.tries()
+    }
+
+    /// Goes on with at most so many tries, of which all runs of the plan together make at most 10,000,000, and says what
+    /// the plan comes to. One that has come to its end, or of which a result was taken for want of tries, stays there and
+    /// answers the same again. The error is out of memory: the plan then stands where some of the tries lead, and a
+    /// further call goes on from there.
+    pub fn go(&mut self, budget: u64) -> Result<Outcome, Memory>
+        ensures moved { OnOk result (self.new ≡ moved self.old budget) }
+        ensures told { IfOk result (λ o. o ≡ told self.new) }
+        ensures pays { IfOk result (ArePayments self.old.plan) }
+        ensures fits { IfOk result (HasSelection self.old.plan.request) }
+        ensures memory { OnErr result (IsCutShort self.old budget self.new) }
+    {
+        if let Some(found) = &self.partial {
+            let funded = self.funding.funded(Mark::Partial, found)?;
+            return Ok(Outcome::Funded(funded));
+        }
+        let take = self.funding.take();
+        let end = ended(&mut self.run, take, budget)?;
+        let outcome = self.funding.outcome(&end)?;
+        self.partial = taken(end);
+        Ok(outcome)
+    }
+
+    /// The row and the stage at which it stands; `None` exactly where its run has come to its end.
+    pub fn place(&self) -> Option<Place>
+        ensures { result ≡ place_of self.now.stand.left }
+    {
+        match self.run.step() {
+            Some(step) => Some(Place {
+                row: step.row(),
+                stage: step.stage(),
+            }),
+            None => None,
+        }
+    }
+
+    /// Whether a result is taken for want of tries where it stands. The error is out of memory.
+    fn is_partial(&self) -> Result<bool, Memory>
+        ensures { IfOk result (λ b. b ≡ is_partial (end_in self.now)) }
+    {
+        if self.partial.is_some() {
+            return Ok(true);
+        }
+        let end = self.run.end(self.funding.take())?;
+        Ok(is_partial(&end))
+    }
+
+    /// Its log: the searches that are done, and the one that goes on. Where a result was taken for want of tries the log is
+    /// ended, and has the searches that are done alone. The error is out of memory.
+    pub fn log(&self) -> Result<LogText, Memory>
+        ensures { IfOk result (λ log. log ≡ log_of (is_partial (end_in self.now)) self.now.stand) }
+    {
+        let partial = self.is_partial()?;
+        let log = self.run.log(partial)?;
+        Ok(log)
     }
 }

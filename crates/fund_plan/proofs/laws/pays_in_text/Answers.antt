@@ -1,4 +1,5 @@
-use Rattle.fund_plan.proofs.PaymentLaws.{answer_text, none_signed}
+use Rattle.fund_plan.proofs.PaymentLaws.{none_signed}
+use Rattle.fund_plan.proofs.TextLaws.{answer_text}
 use Rattle.fund_plan.proofs.laws.pays_in_text.Goals as goal
 
 pub returns-clause-text : goal.returns-clause-text
