@@ -1,5 +1,5 @@
--- No answer of the method `auto`, in sums over coins.
-use Rattle.std.specs.Prelude.{ℕ, ℤ, pos, negsuc, ◌≡◌, ◌+◌, ◌≤◌, ◌≤ℤ◌, ◌+ℤ◌, ◌↔◌, ◌&&◌, ◌==◌, Bool, true, false, not, int_le, List, [], ◌∷◌, ◌++◌, All, length, map, slice_index_or, unsigned_abs, Option, Some, None, if◌then◌else◌}
+-- Where there is no answer, in sums over coins.
+use Rattle.std.specs.Prelude.{ℕ, ℤ, pos, negsuc, ◌≡◌, ◌≢◌, ◌≤ℤ◌, ◌+ℤ◌, ◌↔◌, Bool, true, false, List, [], ◌∷◌, ◌++◌, All, length, map, slice_index_or, sum_by, unsigned_abs, Option, Some, None, if◌then◌else◌}
 use Rattle.std.specs.List.{flat_map, AllByRecursion}
 use Rattle.std.proofs.Common.{refl, sym, ap, subst, ◌∙◌, arith}
 use Rattle.std.proofs.Math.ListN.{get_or-map}
@@ -10,7 +10,7 @@ use Rattle.std.proofs.lemmas.List.Elements.{All-nil, All-cons, All-head, All-tai
 use Rattle.std.proofs.lemmas.List.Sums.{sum_by-append}
 use Rattle.closing_log.specs.declared.log.Stage.{Stage}
 use Rattle.closing_log.specs.declared.log.Stage.TheVariants as stage
-use Rattle.fee_rates.specs.Terms.{target_of}
+use Rattle.fee_rates.specs.Terms.{terms_of}
 use Rattle.fee_rates.specs.declared.terms.Terms.{Terms}
 use Rattle.fee_rates.proofs.TermsLaws.{terms_agree}
 use Rattle.fund_base.specs.declared.candidate.Candidate.{Candidate}
@@ -26,14 +26,15 @@ use Rattle.pick_problem.specs.Problem.{IsProblem, PlainProblem, Rising, value_of
 use Rattle.pick_problem.specs.declared.item.Item.{Item}
 use Rattle.pick_problem.proofs.WindowLaws.{window_part}
 use Rattle.request_text.specs.declared.request.Method.{Method}
-use Rattle.request_text.specs.declared.request.Method.TheVariants.{Auto}
+use Rattle.request_text.specs.declared.request.Method.TheVariants.{Auto, Changeless, Weight, Draw, Manual}
 use Rattle.search_run.proofs.StandLaws.{draw_fits}
 use Rattle.search_run.specs.Answer.{HasNone, IsAnswer}
 use Rattle.search_run.specs.Step.{AreSteps, IsStep, PlainStep}
+use Rattle.fund_steps.proofs.TermLaws.{some_where, target_grows}
 use Rattle.fund_steps.specs.Basis.{Basis, load_alone}
-use Rattle.fund_steps.specs.Reached.{DoesChange, DoesPlain, IsChoice, NothingDoes, brought, coins_at}
+use Rattle.fund_steps.specs.Reached.{DoesChange, DoesPlain, IsChoice, NothingDoes, NothingDoesBy, brought, coins_at}
 use Rattle.fund_steps.specs.Searches.{PlainRow, is_given, is_high, load_in, problem_by, row_in, rows_in, step_by, steps_at, steps_of, terms_in, turns_in}
-use Rattle.fund_steps.specs.Terms.{load_of, rates_of}
+use Rattle.fund_steps.specs.Terms.{rates_of}
 use Rattle.fund_steps.specs.Turns.{last, turns_of}
 use Rattle.fund_steps.specs.declared.turns.Turn.{Turn}
 
@@ -75,12 +76,15 @@ record ArePositive (t : Terms) : Type 0 where
   gap : t.small ≡ t.hi +ℤ pos 1
   big : t.small ≤ℤ t.big
 
--- where no coin is given they are
-positive : (b : Basis) (r : PlainRow) → b.presets ≡ [] → ArePositive (terms_in b r)
-unfolding load_of
-positive b r none =
-    let h = terms_agree (rates_of b.request) (load_in b r) in
-    record { target = h.some (ap (λ (cs : List Candidate). not (length cs == 0)) none); order = h.order; gap = h.gap; big = h.big }
+-- where coins are searched for they are
+positive : (b : Basis) (r : PlainRow) → is_given b ≡ false → ArePositive (terms_in b r)
+unfolding terms_of
+positive b r searched =
+    let x = rates_of b.request in
+    let h = terms_agree x (load_in b r) in
+    let alone = some_where x (load_alone b) searched in
+    let more = target_grows x (load_alone b) (sum_by (λ (g : List Candidate). length g) r.pool.groups) in
+    record { target = omega (arith, ints, alone, more); order = h.order; gap = h.gap; big = h.big }
 
 -- ---- one row
 
@@ -164,25 +168,46 @@ module _ (b : Basis) (r : PlainRow) (t : ArePositive (terms_in b r)) (is : AreOf
   abbrev Empty : List ℕ → List Turn → Type 0
   Empty seed us = AllByRecursion (HasNone seed) (map at us)
 
-  nothing_does : (seed : List ℕ) (high : Bool) → Fine (turns_of Auto high) → Empty seed (turns_of Auto high) → NothingDoes b r
-  nothing_does seed true fine none = λ q c. (plain_barren fine.0.problem none.0 q c, change_barren none.1.1.1.0 q c)
-  nothing_does seed false fine none = λ q c. (plain_barren fine.0.problem none.0 q c, change_barren none.1.1.0 q c)
+  nothing_does : (m : Method) (seed : List ℕ) (high : Bool) → m ≢ Manual → Fine (turns_of m high) → Empty seed (turns_of m high) → NothingDoesBy m b r
+  nothing_does Auto seed true some fine none = λ q c. (plain_barren fine.0.problem none.0 q c, change_barren none.1.1.1.0 q c)
+  nothing_does Auto seed false some fine none = λ q c. (plain_barren fine.0.problem none.0 q c, change_barren none.1.1.0 q c)
+  nothing_does Changeless seed high some fine none = λ q c. plain_barren fine.0.problem none.0 q c
+  nothing_does Weight seed high some fine none = λ q c. change_barren none.1.0 q c
+  nothing_does Draw seed high some fine none = λ q c. change_barren none.1.0 q c
+  nothing_does Manual seed high some fine none = absurd (some refl)
 
-  no_plain : NothingDoes b r → IsBarren stage.Changeless
-  no_plain nothing q h = (nothing q (choice stage.Changeless q refl h)).0 (plain_of q h)
+  -- no choice does for a payment without change, or for one with change
+  abbrev NonePlain : Type 0
+  NonePlain = (q : List ℕ) → IsChoice r.pool q → DoesPlain b r q → ⊥
 
-  no_big : NothingDoes b r → IsBarren stage.LeanBig
-  no_big nothing q h = (nothing q (choice stage.LeanBig q refl h)).1 (big_of q h)
+  abbrev NoneChange : Type 0
+  NoneChange = (q : List ℕ) → IsChoice r.pool q → DoesChange b r q → ⊥
 
-  no_small : NothingDoes b r → IsBarren stage.LeanSmall
-  no_small nothing q h = (nothing q (choice stage.LeanSmall q refl h)).1 (small_of q h)
+  no_plain : NonePlain → IsBarren stage.Changeless
+  no_plain nothing q h = nothing q (choice stage.Changeless q refl h) (plain_of q h)
 
-  no_drawn : (seed : List ℕ) → IsStep (at (last stage.Draw)) → NothingDoes b r → HasNone seed (at (last stage.Draw))
+  no_big : NoneChange → IsBarren stage.LeanBig
+  no_big nothing q h = nothing q (choice stage.LeanBig q refl h) (big_of q h)
+
+  no_small : NoneChange → IsBarren stage.LeanSmall
+  no_small nothing q h = nothing q (choice stage.LeanSmall q refl h) (small_of q h)
+
+  no_drawn : (seed : List ℕ) → IsStep (at (last stage.Draw)) → NoneChange → HasNone seed (at (last stage.Draw))
   no_drawn seed fine nothing = none_of stage.Draw _ (draw_fits seed (at (last stage.Draw)) fine refl) (no_big nothing)
 
-  none_has : (seed : List ℕ) (high : Bool) → Fine (turns_of Auto high) → NothingDoes b r → Empty seed (turns_of Auto high)
-  none_has seed true fine nothing = (no_plain nothing, (no_big nothing, (no_drawn seed fine.1.1.0 nothing, (no_small nothing, tt))))
-  none_has seed false fine nothing = (no_plain nothing, (no_drawn seed fine.1.0 nothing, (no_small nothing, tt)))
+  none_has : (m : Method) (seed : List ℕ) (high : Bool) → Fine (turns_of m high) → NothingDoesBy m b r → Empty seed (turns_of m high)
+  none_has Auto seed true fine nothing =
+      let plain : NonePlain = λ q c. (nothing q c).0 in
+      let change : NoneChange = λ q c. (nothing q c).1 in
+      (no_plain plain, (no_big change, (no_drawn seed fine.1.1.0 change, (no_small change, tt))))
+  none_has Auto seed false fine nothing =
+      let plain : NonePlain = λ q c. (nothing q c).0 in
+      let change : NoneChange = λ q c. (nothing q c).1 in
+      (no_plain plain, (no_drawn seed fine.1.0 change, (no_small change, tt)))
+  none_has Changeless seed high fine nothing = (no_plain nothing, tt)
+  none_has Weight seed high fine nothing = (no_big nothing, (no_small nothing, tt))
+  none_has Draw seed high fine nothing = (no_drawn seed fine.0 nothing, (no_small nothing, tt))
+  none_has Manual seed high fine nothing = tt
 
 -- ---- all rows
 
@@ -199,13 +224,12 @@ pool_items : (b : Basis) (row : Row) → AreOf b.request.rate b.request.long_ter
 unfolding pool_of
 pool_items b row = refl
 
-module _ (b : Basis) (seed : List ℕ) (auto : b.request.method ≡ Auto) (bare : b.presets ≡ []) where
-  searched : is_given b ≡ false
-  unfolding load_of
-  searched = ap (λ (cs : List Candidate). not (length cs == 0) && int_le (target_of (rates_of b.request) (load_alone b)) (pos 0)) bare
+module _ (b : Basis) (seed : List ℕ) (some : b.request.method ≢ Manual) (searched : is_given b ≡ false) where
+  abbrev method : Method
+  method = b.request.method
 
-  turns_are : turns_in b ≡ turns_of Auto (is_high b.request)
-  turns_are = ap (λ (g : Bool). if g then [] else turns_of b.request.method (is_high b.request)) searched ∙ ap (λ (m : Method). turns_of m (is_high b.request)) auto
+  turns_are : turns_in b ≡ turns_of method (is_high b.request)
+  turns_are = ap (λ (g : Bool). if g then [] else turns_of method (is_high b.request)) searched
 
   abbrev All-steps : (PlainStep → Type 0) → List PlainRow → Type 0
   All-steps P rs = AllByRecursion P (flat_map (steps_at b) rs)
@@ -213,10 +237,10 @@ module _ (b : Basis) (seed : List ℕ) (auto : b.request.method ≡ Auto) (bare 
   head_tail : (P : PlainStep → Type 0) (r : PlainRow) (rs : List PlainRow) → All-steps P (r ∷ rs) → AllByRecursion P (steps_at b r) × All-steps P rs
   head_tail P r rs h = split_all P (steps_at b r) (flat_map (steps_at b) rs) (subst (AllByRecursion P) (flat_map-cons (steps_at b) r rs) h)
 
-  of_row : (P : PlainStep → Type 0) (r : PlainRow) → AllByRecursion P (steps_at b r) → AllByRecursion P (map (step_by (terms_in b r) r) (turns_of Auto (is_high b.request)))
+  of_row : (P : PlainStep → Type 0) (r : PlainRow) → AllByRecursion P (steps_at b r) → AllByRecursion P (map (step_by (terms_in b r) r) (turns_of method (is_high b.request)))
   of_row P r h = subst (λ (us : List Turn). AllByRecursion P (map (step_by (terms_in b r) r) us)) turns_are h
 
-  to_row : (P : PlainStep → Type 0) (r : PlainRow) → AllByRecursion P (map (step_by (terms_in b r) r) (turns_of Auto (is_high b.request))) → AllByRecursion P (steps_at b r)
+  to_row : (P : PlainStep → Type 0) (r : PlainRow) → AllByRecursion P (map (step_by (terms_in b r) r) (turns_of method (is_high b.request))) → AllByRecursion P (steps_at b r)
   to_row P r h = subst (λ (us : List Turn). AllByRecursion P (map (step_by (terms_in b r) r) us)) (sym turns_are) h
 
   rows_do_nothing : (rows : List Row) → All-steps IsStep (map (row_in b) rows) → All-steps (HasNone seed) (map (row_in b) rows) → All (NothingDoes b) (map (row_in b) rows)
@@ -226,7 +250,7 @@ module _ (b : Basis) (seed : List ℕ) (auto : b.request.method ≡ Auto) (bare 
       let f = head_tail IsStep r (map (row_in b) rows) fine in
       let n = head_tail (HasNone seed) r (map (row_in b) rows) none in
       All-cons (NothingDoes b) r (map (row_in b) rows)
-      (nothing_does b r (positive b r bare) (pool_items b row) seed (is_high b.request) (of_row IsStep r f.0) (of_row (HasNone seed) r n.0))
+      (nothing_does b r (positive b r searched) (pool_items b row) method seed (is_high b.request) some (of_row IsStep r f.0) (of_row (HasNone seed) r n.0))
       (rows_do_nothing rows f.1 n.1)
 
   rows_have_none : (rows : List Row) → All-steps IsStep (map (row_in b) rows) → All (NothingDoes b) (map (row_in b) rows) → All-steps (HasNone seed) (map (row_in b) rows)
@@ -234,7 +258,7 @@ module _ (b : Basis) (seed : List ℕ) (auto : b.request.method ≡ Auto) (bare 
   rows_have_none (row ∷ rows) fine nothing =
       let r = row_in b row in
       let f = head_tail IsStep r (map (row_in b) rows) fine in
-      let here = to_row (HasNone seed) r (none_has b r (positive b r bare) (pool_items b row) seed (is_high b.request) (of_row IsStep r f.0) (All-head (NothingDoes b) r (map (row_in b) rows) nothing)) in
+      let here = to_row (HasNone seed) r (none_has b r (positive b r searched) (pool_items b row) method seed (is_high b.request) (of_row IsStep r f.0) (All-head (NothingDoes b) r (map (row_in b) rows) nothing)) in
       let rest = rows_have_none rows f.1 (All-tail (NothingDoes b) r (map (row_in b) rows) nothing) in
       subst (AllByRecursion (HasNone seed)) (sym (flat_map-cons (steps_at b) r (map (row_in b) rows))) (join_all (HasNone seed) (steps_at b r) (flat_map (steps_at b) (map (row_in b) rows)) here rest)
 

@@ -5,6 +5,8 @@ use Rattle.fund_base.specs.declared.candidate.Candidate.{Candidate}
 use Rattle.output_groups.specs.Measures.{value_of, weight_of}
 use Rattle.output_groups.specs.PlainPool.{PlainPool}
 use Rattle.pick_problem.specs.Problem.{Rising}
+use Rattle.request_text.specs.declared.request.Method.{Method}
+use Rattle.request_text.specs.declared.request.Method.TheVariants.{Auto, Changeless, Weight, Draw, Manual}
 use Rattle.fund_steps.specs.Basis.{Basis}
 use Rattle.fund_steps.specs.Searches.{PlainRow, terms_in}
 
@@ -32,6 +34,18 @@ pub record DoesChange (b : Basis) (r : PlainRow) (places : List ℕ) : Type 0 wh
   pub low : (terms_in b r).small ≤ℤ pos (brought b r places)
   pub light : weight_of (coins_at r.pool places) ≤ (terms_in b r).change_limit
 
+-- a choice doesn't do for what the method looks for: a payment without change, one with change, or either
+abbrev pub FailsBy : Method → Basis → PlainRow → List ℕ → Type 0
+FailsBy Auto b r places = (DoesPlain b r places → ⊥) × (DoesChange b r places → ⊥)
+FailsBy Changeless b r places = DoesPlain b r places → ⊥
+FailsBy Weight b r places = DoesChange b r places → ⊥
+FailsBy Draw b r places = DoesChange b r places → ⊥
+FailsBy Manual b r places = Unit {0}
+
 -- no choice from the row's pool does
+abbrev pub NothingDoesBy : Method → Basis → PlainRow → Type 0
+NothingDoesBy m b r = (places : List ℕ) → IsChoice r.pool places → FailsBy m b r places
+
+-- the same by the method of the request
 abbrev pub NothingDoes : Basis → PlainRow → Type 0
-NothingDoes b r = (places : List ℕ) → IsChoice r.pool places → (DoesPlain b r places → ⊥) × (DoesChange b r places → ⊥)
+NothingDoes b r = NothingDoesBy b.request.method b r

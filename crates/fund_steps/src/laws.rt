@@ -1,7 +1,7 @@
 //! What the definitions of a plan come to.
 
-ghost use Rattle.std.specs.Prelude.{◌≡◌, ◌≢◌, ◌↔◌, [], All, Some, None, true};
-ghost use Rattle.request_text.specs.declared.request.Method.TheVariants.{Auto, Manual};
+ghost use Rattle.std.specs.Prelude.{◌≡◌, ◌≢◌, ◌↔◌, [], All, Some, None, false, true};
+ghost use Rattle.request_text.specs.declared.request.Method.TheVariants.{Manual};
 ghost use Rattle.search_run.specs.Answer.{AreWhole, IsAnswer};
 ghost use Rattle.search_run.specs.Step.{AreSteps};
 ghost use Rattle.fund_steps.specs.Basis.{Basis, given_in};
@@ -28,11 +28,12 @@ pub fn steps_stand_in_columns()
     ensures alone { (b : Basis) → given_in b ≢ Short → is_given b ≡ true }
 {}
 
-/// With `auto`, and where no coins are listed, there is no answer exactly where no choice from any row's pool does: none
+/// Where coins are searched for there is no answer exactly where no choice from any row's pool does. With `auto`, none
 /// brings from the target to what the least change takes, within the weight that is left without change, and none brings
-/// what the least change takes or more, within the weight that is left beside it. What a choice brings is summed over its
-/// coins, whatever search would find it.
+/// what the least change takes or more, within the weight that is left beside it; with `changeless` it is the first of
+/// these alone, and with `weight` and `draw` the second. What a choice brings is summed over its coins, whatever search
+/// would find it.
 pub fn no_answer_where_nothing_does()
-    ensures { (b : Basis) → b.request.method ≡ Auto → b.presets ≡ [] → AreSteps (steps_of b) →
+    ensures { (b : Basis) → b.request.method ≢ Manual → is_given b ≡ false → AreSteps (steps_of b) →
         (IsAnswer b.request.seed (steps_of b) None ↔ All (NothingDoes b) (rows_in b)) }
 {}
