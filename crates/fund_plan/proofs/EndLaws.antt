@@ -40,7 +40,7 @@ new_told s n new none =
 pub told_partial : (s : PlanState) (f : PlainFound) → s.partial ≡ Some f → Funded (funded_at s.plan mark.Partial f) ≡ told s
 told_partial s f some = sym (ap (λ (o : Option PlainFound). by_end s.plan (end_by s o)) some)
 
-end_left : (p : PlainPlan) (s : Stand) → s.left ≡ [] → end_at p s ≡ ends.Ended (taken s.past.found)
+pub end_left : (p : PlainPlan) (s : Stand) → s.left ≡ [] → end_at p s ≡ ends.Ended (taken s.past.found)
 end_left p s none = ap (end_by_left p.request.take p.request.seed s) none
 
 pub ended_answers : (p : PlainPlan) (n : ℕ) → AreSteps (steps_of p) → (stand_after p n).left ≡ [] → IsAnswerOf p (outcome_at p n)

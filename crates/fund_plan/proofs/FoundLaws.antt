@@ -122,7 +122,7 @@ beyond paid base raised value fees bring cf cl worth costs vc fc change is v f e
 left_some : (bring cf cl worth costs : ℕ) (short : ℤ) → bring + costs ≡ worth → (short +ℤ pos cf +ℤ pos cl) ≤ℤ pos bring → pos 0 ≤ℤ (((pos worth -ℤ pos costs) -ℤ short) -ℤ pos cf)
 left_some bring cf cl worth costs short is high = omega (arith, ints)
 
-reached : (t : ℤ) (v : ℕ) → pos 0 ≤ℤ t → unsigned_abs t ≤ v → t ≤ℤ pos v
+pub reached : (t : ℤ) (v : ℕ) → pos 0 ≤ℤ t → unsigned_abs t ≤ v → t ≤ℤ pos v
 reached t v some low = let e = pos-nat_abs t (yes_non_neg some) in omega (arith, ints, e)
 
 capped : (t : ℤ) (v : ℕ) → pos 0 ≤ℤ t → v ≤ unsigned_abs t → pos v ≤ℤ t
@@ -142,7 +142,7 @@ base_more n m = grind (arith, nat_tests)
 abbrev base_fee : PlainPlan → Row → ℕ
 base_fee p row = fee_of p.request.rate (vsize_of (base_of (load_in p row)))
 
-target_in : (p : PlainPlan) (row : Row)
+pub target_in : (p : PlainPlan) (row : Row)
     → target_of (rates_of p.request) (load_in p row) ≡ short_of (paid_to p.request.recipients) (base_fee p row) (raised_of p.request.rate (load_in p row)) (value_of (presets_in p)) (fees_of p.request.rate (presets_in p))
 unfolding load_of
 target_in p row =
@@ -256,7 +256,7 @@ record Brings (p : PlainPlan) (row : Row) (places : List ℕ) (x : PlainProblem)
   weight : weight_at x places ≡ weight_of (chosen_at p row places)
   worth : sum_by (gain p.request.rate) (chosen_at p row places) + fees_of p.request.rate (chosen_at p row places) ≡ value_of (chosen_at p row places)
 
-useful_in : (p : PlainPlan) (row : Row) (places : List ℕ) → IsPlan p → Rising (length (pool_in p row).groups) 0 places → All (λ c. is_useful p.request.rate c ≡ true) (chosen_at p row places)
+pub useful_in : (p : PlainPlan) (row : Row) (places : List ℕ) → IsPlan p → Rising (length (pool_in p row).groups) 0 places → All (λ c. is_useful p.request.rate c ≡ true) (chosen_at p row places)
 useful_in p row places h rising =
     let groups = (pool_in p row).groups in
     let P : Candidate → Type 0 = λ c. is_useful p.request.rate c ≡ true in

@@ -6,7 +6,9 @@ pub mod EndLaws
 pub mod FigureLaws
 pub mod FoundLaws
 pub mod FundedLaws
+pub mod GoingLaws
 pub mod LoadLaws
+pub mod MeasureLaws
 pub mod OnceLaws
 pub mod OutcomeLaws
 pub mod PaymentLaws

@@ -10,7 +10,7 @@ use Rattle.output_groups.specs.Ladder.{ladder_of}
 use Rattle.output_groups.specs.PoolOf.{pool_of}
 use Rattle.output_groups.specs.declared.rows.Row.{Row}
 use Rattle.pick_problem.specs.Admissible.{IsAdmissible}
-use Rattle.search_run.specs.Found.{IsResultOf, PlainFound}
+use Rattle.search_run.specs.Found.{IsResultOf, PlainFound, found_at}
 use Rattle.search_run.specs.Step.{PlainStep}
 use Rattle.fund_steps.specs.Plan.{PlainPlan, ladder_in}
 use Rattle.fund_steps.specs.Basis.{basis_of}
@@ -121,6 +121,7 @@ pub record IsFoundIn (p : PlainPlan) (f : PlainFound) : Type 0 where
   pub some_row : f.row ≢ 0
   pub stage_is : f.stage ≡ turn.stage
   pub admissible : IsAdmissible (problem_at p row turn.stage) f.places
+  pub is : f ≡ found_at (step_by (terms_in p row) (row_in (basis_of p) row) turn) f.places
 
 pub found_in : (p : PlainPlan) (f : PlainFound) → IsResultOf (steps_of p) f → IsFoundIn p f
 found_in p f h =
@@ -137,6 +138,7 @@ found_in p f h =
       some_row = λ e. known.1 (sym number ∙ e);
       stage_is = ap (λ (g : PlainFound). g.stage) h.is ∙ ap (λ (x : PlainStep). x.stage) at.is;
       admissible = subst (λ (x : PlainStep). IsAdmissible x.problem f.places) at.is h.admissible;
+      is = h.is ∙ ap (λ (x : PlainStep). found_at x f.places) at.is;
     }
 
 -- the items of a pool are those of its groups

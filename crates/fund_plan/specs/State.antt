@@ -1,5 +1,5 @@
 -- Plans that go on.
-use Rattle.std.specs.Prelude.{ℕ, ◌≡◌, ◌≤◌, ◌⊎◌, ◌-◌, min, List, [], ◌∷◌, Option, Some, None}
+use Rattle.std.specs.Prelude.{ℕ, ◌≡◌, ◌≤◌, ◌⊎◌, ◌+◌, ◌-◌, min, List, [], ◌∷◌, Option, Some, None}
 use Rattle.search_run.specs.Found.{PlainFound}
 use Rattle.search_run.specs.Leads.{Leads}
 use Rattle.search_run.specs.Run.{Stand, go_on}
@@ -58,7 +58,13 @@ pub record IsCutShort (old : PlanState) (budget : ℕ) (new : PlanState) : Type 
   pub partial : new.partial ≡ old.partial
   pub stand : ((k : ℕ) × (k ≤ granted old budget) × Leads old.plan.request.seed old.stand k new.stand) ⊎ (new.stand ≡ led old.plan old.stand (granted old budget))
 
--- the same of its run, which was given n tries
+-- Some of the tries were made, and from there it goes on as after them.
+pub record GoesOnFrom (old : PlanState) (n : ℕ) (new : PlanState) : Type 0 where
+  pub made : ℕ
+  pub most : made ≤ granted old n
+  pub goes : (m : ℕ) → moved new m ≡ moved old (made + m)
+
+-- the run of a plan that ran out of memory, which was given n tries, as the plan is left
 pub record IsRunCut (old : PlainRun) (n : ℕ) (new : PlainRun) : Type 0 where
   pub seed : new.seed ≡ old.seed
   pub steps : new.steps ≡ old.steps

@@ -1,6 +1,6 @@
 //! What the definitions of a plan's outcome come to.
 
-ghost use Rattle.std.specs.Prelude.{◌≡◌, ◌≤◌, ◌<◌, ◌+◌, ◌↔◌, ℕ, [], All, Contains, None, length, sum_by};
+ghost use Rattle.std.specs.Prelude.{◌≡◌, ◌≤◌, ◌<◌, ◌+◌, ◌+ℤ◌, ◌↔◌, ℕ, [], All, Contains, None, Some, length, sum_by, true};
 ghost use Rattle.closing_log.specs.declared.mark.Mark.{Mark};
 ghost use Rattle.tx_codec.specs.Transaction.{Transaction};
 ghost use Rattle.tx_codec.specs.TransactionText.{IsTransaction};
@@ -8,21 +8,24 @@ ghost use Rattle.tx_codec.specs.Weight.{weight_of};
 ghost use Rattle.tx_codec.specs.declared.tx.TxIn.{TxIn};
 ghost use Rattle.tx_codec.specs.declared.tx.TxOut.{TxOut};
 ghost use Rattle.fee_rates.specs.Fee.{fee_of, vsize_of};
+ghost use Rattle.pick_problem.specs.Problem.{weight_of as places_weight};
 ghost use Rattle.request_text.specs.PlainRequest.{PlainRequest};
 ghost use Rattle.search_run.specs.Found.{IsResultOf, PlainFound};
+ghost use Rattle.search_run.specs.Kept.{log_of};
 ghost use Rattle.search_run.specs.Step.{AreSteps, PlainStep};
 ghost use Rattle.wallet_text.specs.declared.wallet.Watch.{Watch};
 ghost use Rattle.fund_steps.specs.Amounts.{value_of};
+ghost use Rattle.fund_steps.specs.Listed.{presets_in};
 ghost use Rattle.fund_steps.specs.Plan.{IsEligible, IsPlan, PlainPlan};
 ghost use Rattle.fund_plan.specs.Answer.{AnswersAlone, IsPayment};
 ghost use Rattle.fund_plan.specs.Chosen.{funded_at, load_for, row_of};
-ghost use Rattle.fund_plan.specs.Claims.{Claims, IsProvedNone, IsUsedUp};
-ghost use Rattle.fund_plan.specs.Figures.{AddUp, figures_of};
-ghost use Rattle.fund_plan.specs.Outcome.{IsAnswerOf, beginning_of, given_of, log_at, outcome_at, stand_after};
-ghost use Rattle.fund_plan.specs.Pays.{payment_of};
+ghost use Rattle.fund_plan.specs.Claims.{BringAll, Claims, IsProvedNone, IsUsedUp};
+ghost use Rattle.fund_plan.specs.Figures.{AddUp, cost_of, figures_of};
+ghost use Rattle.fund_plan.specs.Outcome.{IsAnswerOf, beginning_of, given_of, is_partial, log_at, outcome_at, stand_after, tries_at};
+ghost use Rattle.fund_plan.specs.Pays.{payment_of, payment_weight};
 ghost use Rattle.fund_plan.specs.Selection.{PlainFunded};
-ghost use Rattle.fund_plan.specs.State.{PlanState, moved, told};
-ghost use Rattle.fund_plan.specs.Steps.{problem_at, steps_of};
+ghost use Rattle.fund_plan.specs.State.{GoesOnFrom, IsCutShort, PlanState, end_in, moved, told};
+ghost use Rattle.fund_plan.specs.Steps.{is_given, problem_at, steps_of};
 ghost use Rattle.fund_plan.specs.Weighed.{AreWithinDeclared, HasOutpoint, IsWeighed, room_of, signed_weight};
 ghost use Rattle.fund_plan.specs.declared.outcome.Outcome.{Outcome};
 
@@ -42,6 +45,23 @@ pub fn reckons_the_outcome()
 /// weight, by what its row has to carry, and its coins are candidates. A call does nothing.
 pub fn results_pay()
     ensures { (p : PlainPlan) (mark : Mark) (f : PlainFound) → IsPlan p → IsResultOf (steps_of p) f → IsPayment p (funded_at p mark f) }
+{}
+
+/// The law of measures: what a search and a draw measure is the payment's own. Its waste is that of the result and the cost
+/// of the listed coins, its weight that of a payment from these alone and of the places, and its coins are these and those
+/// that are counted. So the least waste or weight of a selection is the least of a payment. A call does nothing.
+pub fn results_measure_their_payments()
+    ensures waste { (p : PlainPlan) (mark : Mark) (f : PlainFound) → IsPlan p → IsResultOf (steps_of p) f →
+        (funded_at p mark f).waste ≡ f.waste +ℤ cost_of p.request (presets_in p) }
+    ensures weight { (p : PlainPlan) (mark : Mark) (f : PlainFound) → IsPlan p → IsResultOf (steps_of p) f →
+        (funded_at p mark f).weight ≡ payment_weight (load_for p f.row) (presets_in p) (funded_at p mark f).change + places_weight (problem_at p (row_of p f.row) f.stage) f.places }
+    ensures coins { (p : PlainPlan) (mark : Mark) (f : PlainFound) → IsPlan p → IsResultOf (steps_of p) f →
+        length (funded_at p mark f).coins ≡ length (presets_in p) + f.coins }
+{}
+
+/// Nothing is searched for exactly where the listed coins bring all that is due without change. A call does nothing.
+pub fn given_where_all_is_brought()
+    ensures { (p : PlainPlan) → (is_given p ≡ true ↔ BringAll p) }
 {}
 
 /// Each coin of a payment is eligible: it is a candidate, and safe unless the request takes unsafe ones. A call does
@@ -83,9 +103,23 @@ pub fn pays_in_text()
     ensures bare { (r : PlainRequest) (change : Watch) (f : PlainFunded) → All (λ (i : TxIn). (i.script ≡ []) × (i.witness ≡ [])) (payment_of r change f).inputs }
 {}
 
-/// What a new plan comes to is a function of what it was made from and of the tries that are granted. A call does nothing.
+/// What a new plan comes to is a function of what it was made from and of the tries that are granted, and so are its tries
+/// and its log. A call does nothing.
 pub fn new_plans_come_to()
-    ensures { (s : PlanState) (n : ℕ) → s.stand ≡ beginning_of s.plan → s.partial ≡ None → told (moved s n) ≡ outcome_at s.plan n }
+    ensures outcome { (s : PlanState) (n : ℕ) → s.stand ≡ beginning_of s.plan → s.partial ≡ None → told (moved s n) ≡ outcome_at s.plan n }
+    ensures tries { (s : PlanState) (n : ℕ) → s.stand ≡ beginning_of s.plan → s.partial ≡ None → (moved s n).stand.past.tries ≡ tries_at s.plan n }
+    ensures log { (s : PlanState) (n : ℕ) → s.stand ≡ beginning_of s.plan → s.partial ≡ None →
+        log_of (is_partial (end_in (moved s n))) (moved s n).stand ≡ log_at s.plan n }
+{}
+
+/// The law of plans that go on: tries in pieces are tries, also after a call that ran out of memory, and a plan that is
+/// finished, of which a result was taken or whose run has come to its end, stays finished and comes to the same. A call
+/// does nothing.
+pub fn plans_go_on()
+    ensures pieces { (s : PlanState) (n m : ℕ) → (moved s n).partial ≡ None → moved (moved s n) m ≡ moved s (n + m) }
+    ensures cut { (s t : PlanState) (n : ℕ) → s.partial ≡ None → IsCutShort s n t → GoesOnFrom s n t }
+    ensures taken { (s : PlanState) (f : PlainFound) (n : ℕ) → s.partial ≡ Some f → moved s n ≡ s }
+    ensures over { (s : PlanState) (n : ℕ) → s.partial ≡ None → s.stand.left ≡ [] → told (moved s n) ≡ told s }
 {}
 
 /// A plan whose run from the start came to its end has the answer, of all that there is to find. A call does nothing.

@@ -1,0 +1,5 @@
+use Rattle.fund_plan.proofs.ClaimLaws.{given_where}
+use Rattle.fund_plan.proofs.laws.given_where_all_is_brought.Goals as goal
+
+pub returns : goal.returns
+returns c = given_where

@@ -1,0 +1,14 @@
+use Rattle.fund_plan.proofs.GoingLaws.{cut_goes, over_stays, pieces_add, taken_stays}
+use Rattle.fund_plan.proofs.laws.plans_go_on.Goals as goal
+
+pub returns-clause-pieces : goal.returns-clause-pieces
+returns-clause-pieces c = pieces_add
+
+pub returns-clause-cut : goal.returns-clause-cut
+returns-clause-cut c = cut_goes
+
+pub returns-clause-taken : goal.returns-clause-taken
+returns-clause-taken c = taken_stays
+
+pub returns-clause-over : goal.returns-clause-over
+returns-clause-over c = over_stays
