@@ -1,12 +1,14 @@
 //! Going on from what is kept.
 
-ghost use Rattle.std.specs.Prelude.{◌≡◌, ◌↔◌, ◌≤◌, List, IfErr, IfOk, IsTrue, drop, length, option_to_list};
+ghost use Rattle.std.specs.Prelude.{◌≡◌, ◌↔◌, ◌≤◌, List, Err, IfErr, IfOk, IsTrue, drop, length, option_to_list};
 ghost use Rattle.pick_problem.specs.Admissible.{IsFit};
+ghost use Rattle.pick_problem.specs.Walk.{IsPosition};
 ghost use Rattle.search_run.specs.Resumed.{HasDrawn, HasFollowed, IsNoWalk, IsNotFollowed, IsReplayed, IsRestored, IsUnfit, IsWalkKept};
 ghost use Rattle.search_run.specs.Found.{PlainFound, found_of};
 ghost use Rattle.search_run.specs.Judged.{IsRefusedFor, saved_in};
-ghost use Rattle.search_run.specs.Kept.{Along, IsDueAt, IsOpenAt, Names, NamesFirst, first_search};
+ghost use Rattle.search_run.specs.Kept.{Along, IsDueAt, IsOpenAt, Names, NamesFirst, PlainSaved, first_search, kept_walk};
 ghost use Rattle.search_run.specs.Walks.{kept_position};
+ghost use Rattle.search_run.specs.declared.fault.RestoreRefused.TheVariants as refused;
 ghost use Rattle.walk_engine.specs.Search.{tries_in};
 
 use crate::coming::{Coming, answered, first};
@@ -91,18 +93,22 @@ fn open_position(alloc: Global, saved: &Saved, letters: &[u8]) -> Result<Positio
     })
 }
 
-/// The walk of a step at a saved position, after these letters.
+/// The walk of a step at an open position, after these letters.
 fn walk_at(
     alloc: Global,
     step: &Step,
-    saved: &Saved,
+    place: &Position,
     letters: &[u8],
 ) -> Result<Walk, RestoreRefused>
-    ensures walk { IfOk result (λ w. IsWalkKept step.now.problem (saved_in saved.now) letters.now w) }
-    ensures refused { IfErr result (λ e. IsNoWalk step.now.problem (saved_in saved.now) e) }
+    ensures walk { (k : PlainSaved) → place.now ≡ kept_position k letters.now →
+        IfOk result (λ w. IsWalkKept step.now.problem k letters.now w) }
+    ensures refused { (k : PlainSaved) → place.now ≡ kept_position k letters.now →
+        IfErr result (λ e. IsNoWalk step.now.problem k e) }
+    // Where no walk may stand, that is told whatever memory there is.
+    ensures ill { (k : PlainSaved) → place.now ≡ kept_position k letters.now →
+        ¬ IsPosition step.now.problem (kept_walk k) → result ≡ Err refused.IllFormed }
 {
-    let position = open_position(alloc, saved, letters)?;
-    match Walk::restore(alloc, step.problem(), &position, letters) {
+    match Walk::restore(alloc, step.problem(), place, letters) {
         Ok(walk) => Ok(walk),
         Err(RestoreFault::IllFormed) => Err(RestoreRefused::IllFormed),
         Err(RestoreFault::Memory) => Err(RestoreRefused::Memory),
@@ -224,7 +230,9 @@ pub(crate) fn resume(
     if !is_open_right(steps, open.at, saved, tail) {
         return Err(RestoreRefused::Section(log.closed.len() as u64));
     }
-    let walk = walk_at(alloc, &steps[open.at], saved, tail.tokens.as_slice())?;
+    let letters = tail.tokens.as_slice();
+    let place = open_position(alloc, saved, letters)?;
+    let walk = walk_at(alloc, &steps[open.at], &place, letters)?;
     let past = replay(alloc, seed, steps, log.closed.as_slice(), saved.tries)?;
     Ok(Restored {
         at: open.at,
