@@ -1,2 +1,2 @@
 pub mod ParentLaws
-pub mod ReportLines
+pub mod ShownLaws

@@ -1,5 +1,5 @@
 -- What a signer gets of a payment is a PSBT.
-use Rattle.std.proofs.Common.{◌≡◌, ◌∙◌, ℕ, suc, zero, ◌<◌, ◌≤◌, ◌+◌, ◌^◌, take, get_or, Bool, true, false, cond, List, [], ◌∷◌, ◌++◌, length, map, Option, Some, None, refl, sym, ap, subst, arith}
+use Rattle.std.proofs.Common.{◌≡◌, ◌∙◌, ℕ, suc, zero, ◌<◌, ◌≤◌, ◌+◌, ◌^◌, take, get_or, Bool, true, false, cond, List, [], ◌∷◌, ◌++◌, length, map, Option, Some, None, refl, sym, ap, subst}
 use Rattle.std.specs.Prelude.{All, IfSome, filter, flat_map, find, nat_le, option_map, option_and_then, slice_get}
 use Rattle.std.specs.List.{zip}
 use Rattle.std.specs.Option.{option_to_list}
@@ -22,8 +22,10 @@ use Rattle.coin_book.specs.Coinbase.{is_coinbase_of}
 use Rattle.coin_book.specs.Coins.{Made, coin_at, coin_of, coins_below, confirmed_made, is_open, made_by, made_in, made_of, parent_of, pending_made, weight_for}
 use Rattle.coin_book.specs.History.{Confirmed, History, confirmed_at, confirmed_before, confirmed_in}
 use Rattle.fee_rates.specs.Output.{is_program_of}
-use Rattle.fund_plan.specs.Pays.{payment_of, unsigned_input}
-use Rattle.fund_plan.specs.Selection.{Selection}
+use Rattle.fund_plan.specs.Pays.{payment_from, payment_of, unsigned_input}
+use Rattle.fund_plan.specs.Selection.{PlainFunded}
+use Rattle.payment_states.proofs.MakerSteps.{found}
+use Rattle.payment_states.specs.BookOf.{IsBookOf}
 use Rattle.psbt_codec.specs.declared.psbt.Spent.{Spent}
 use Rattle.psbt_codec.specs.PartialTransaction.{PartialTransaction}
 use Rattle.psbt_codec.specs.Psbt.{IsParent, IsPsbt, IsSpent, IsUnsigned}
@@ -32,7 +34,7 @@ use Rattle.wallet_text.specs.PlainWallet.{PlainWallet}
 use Rattle.wallet_text.specs.WalletRules.{IsEarlier, IsWallet}
 use Rattle.wallet_text.specs.declared.wallet.Earlier.{Earlier}
 use Rattle.wallet_text.specs.declared.wallet.Watch.{Watch}
-use Rattle.fund_files.specs.Chain.{HasTexts, HaveTexts, IsHeld, held_of, history_of}
+use Rattle.fund_files.specs.Chain.{HasTexts, HaveTexts, IsHeld, history_of}
 use Rattle.fund_payment.specs.Report.{psbt_of, spent_of}
 use Rattle.fund_files.specs.declared.held.Held.{Held}
 
@@ -57,6 +59,10 @@ history_texts w blocks s h =
 
 pub held_texts : (k : Held) → IsHeld k → HasTexts k.book
 held_texts k h = subst HasTexts (sym (ap (λ (x : Held). x.book) h.is)) (history_texts k.wallet h.blocks h.rules h.texts)
+
+-- and the book is that of the wallet
+pub held_book : (k : Held) → IsHeld k → IsBookOf k.wallet k.book
+held_book k h = subst (IsBookOf k.wallet) (sym (ap (λ (x : Held). x.book) h.is)) (record { blocks = h.blocks; texts = h.texts; scripts = refl; confirmed = refl; pending = refl })
 
 -- ---- what is told of a coin is of the transaction that made it
 
@@ -114,14 +120,6 @@ made_are : (h : History) → HasTexts h → All IsMaker (made_of h)
 unfolding made_of
 made_are h texts = All-append IsMaker (confirmed_made h) (pending_made h) (confirmed_are (weight_for h.scripts) h.confirmed texts.confirmed) (pending_are (weight_for h.scripts) (is_open h.confirmed) h.pending texts.pending)
 
-found : (p : Made → Bool) (xs : List Made) (m : Made) → All IsMaker xs → find p xs ≡ Some m → (p m ≡ true) × IsMaker m
-found p [] m h e = absurd cc
-found p (x ∷ xs) m h e = by (p x) refl e (λ f. found p xs m (All-tail IsMaker x xs h) f)
-  where
-    by : (b : Bool) → p x ≡ b → cond b (Some x) (find p xs) ≡ Some m → (find p xs ≡ Some m → (p m ≡ true) × IsMaker m) → (p m ≡ true) × IsMaker m
-    by true is same rest = subst (λ (y : Made). (p y ≡ true) × IsMaker y) (same_Some x m same) (is, All-head IsMaker x xs h)
-    by false is same rest = rest same
-
 parent_is : (h : History) (o : OutPoint) (t : Transaction) (i : TxIn) → HasTexts h → i.prev ≡ o → parent_of h o ≡ Some t → IsParent i t
 parent_is h o t i texts at e = by (find test (made_of h)) refl e
   where
@@ -131,7 +129,7 @@ parent_is h o t i texts at e = by (find test (made_of h)) refl e
     by : (r : Option Made) → find test (made_of h) ≡ r → option_map (λ (m : Made). m.maker) r ≡ Some t → IsParent i t
     by None is same = absurd cc
     by (Some m) is same =
-        let there = found test (made_of h) m (made_are h texts) is in
+        let there = found IsMaker test (made_of h) m (made_are h texts) is in
         let own : m.maker ≡ t = same_Some m.maker t same in
         let point : m.coin.coin ≡ i.prev = sym (at ∙ (same_outpoint-Decides o m.coin.coin).0 there.0) in
         subst (λ (x : Transaction). IsParent i x) own (record {
@@ -166,8 +164,8 @@ all_spent b h [] fits = All-nil AreSpent
 all_spent b h (c ∷ coins) fits =
     All-cons AreSpent (unsigned_input b c, spent_of h c) (zip (map (unsigned_input b) coins) (map (spent_of h) coins)) (All-head (Fits h) c coins fits (unsigned_input b c) refl) (all_spent b h coins (All-tail (Fits h) c coins fits))
 
-pub psbt_is : (h : History) (r : PlainRequest) (change : Watch) (f : Selection) → IsTransaction (payment_of r change f) → All (λ (i : TxIn). (i.script ≡ []) × (i.witness ≡ [])) (payment_of r change f).inputs → All (Fits h) f.coins → IsPsbt (psbt_of h r change f)
-unfolding psbt_of payment_of
+pub psbt_is : (h : History) (r : PlainRequest) (change : Watch) (f : PlainFunded) → IsTransaction (payment_of r change f) → All (λ (i : TxIn). (i.script ≡ []) × (i.witness ≡ [])) (payment_of r change f).inputs → All (Fits h) f.coins → IsPsbt (psbt_of h r change f)
+unfolding psbt_of payment_from
 psbt_is h r change f text bare fits = record {
   text = text;
   unsigned = All-weaker (λ (i : TxIn). (i.script ≡ []) × (i.witness ≡ [])) IsUnsigned (λ i b. record { script = b.0; witness = b.1 }) (map (unsigned_input r.replaceable) f.coins) bare;
@@ -190,7 +188,7 @@ abbrev partial : Transaction → List Spent → PartialTransaction
 partial tx spent = record { tx = tx; spent = spent }
 
 -- the parts that were made are those of a PSBT
-pub psbt_made : (h : History) (r : PlainRequest) (change : Watch) (f : Selection) (coins : List Candidate) (tx : Transaction) (spent : List Spent) → coins ≡ f.coins → tx ≡ payment_of r change f → spent ≡ map (spent_of h) coins → IsTransaction tx
+pub psbt_made : (h : History) (r : PlainRequest) (change : Watch) (f : PlainFunded) (coins : List Candidate) (tx : Transaction) (spent : List Spent) → coins ≡ f.coins → tx ≡ payment_of r change f → spent ≡ map (spent_of h) coins → IsTransaction tx
     → All (λ (i : TxIn). (i.script ≡ []) × (i.witness ≡ [])) (payment_of r change f).inputs → All (Fits h) coins → IsPsbt (record { tx = tx; spent = spent })
 unfolding psbt_of
 psbt_made h r change f coins tx spent own tx_is spent_is text bare fits =

@@ -1,9 +1,9 @@
-//! What is made of a payment once it is decided on: the PSBT that a signer gets (BIP 174), the report, and the log.
+//! What is made of a payment once it is decided on: the PSBT that a signer gets (BIP 174), and the report.
 #![tactic(auto)]
 
-mod lines;
-mod log;
+mod laws;
+mod report;
 mod signing;
 
-pub use log::{log_text, none_report};
-pub use signing::payment_report;
+pub use laws::inputs_show_coins;
+pub use report::payment_report;

@@ -1,19 +1,21 @@
-//! The payment that a signer gets, and its report.
+//! The payment that a signer gets.
 
-ghost use Rattle.std.specs.Prelude.{◌≡◌, ◌≤◌, All, map, IfOk, string_bytes};
+ghost use Rattle.std.specs.Prelude.{◌≡◌, ◌≤◌, All, Contains, map, IfOk, string_bytes};
 ghost use Rattle.tx_codec.specs.declared.tx.TxIn.{TxIn};
 ghost use Rattle.psbt_codec.specs.Psbt.{IsPsbt, IsSpent};
 ghost use Rattle.fund_base.specs.declared.candidate.Candidate.{Candidate};
 ghost use Rattle.fund_plan.specs.Answer.{IsSelection};
 ghost use Rattle.fund_files.specs.Chain.{HasTexts, IsHeld};
-ghost use Rattle.fund_payment.specs.Report.{psbt_of, psbt_text_of, report_of, spent_of};
+ghost use Rattle.payment_states.specs.Candidates.{candidates_of};
+ghost use Rattle.fund_payment.specs.Report.{psbt_of, psbt_text_of, spent_of};
+ghost use Rattle.fund_payment.specs.Shown.{ShowsCoins};
 
-use crate::lines::report_text;
+use crate::laws::inputs_show_coins;
 use coin_book::Book;
 use fee_rates::is_program;
 use fund_base::{Candidate, MAX_MONEY, Memory, Sat, are_bytes};
 use fund_files::Held;
-use fund_plan::{Figures, Funded, pays_in_text, unsigned};
+use fund_plan::{Funded, pays_in_text, unsigned};
 use psbt_codec::{Psbt, Spent, write_text};
 use request_text::Request;
 use std::alloc::Global;
@@ -65,6 +67,18 @@ fn spent_of(alloc: Global, book: &Book, coins: &[Candidate]) -> Result<Vec<Spent
     Ok(known)
 }
 
+// That each input shows its coin. A call does nothing.
+pub fn shows(held: &Held, request: &Request, funded: &Funded)
+    requires held { IsHeld held.now }
+    requires coins { All (Contains (candidates_of held.now.wallet held.now.book held.now.tip.height)) funded.now.coins }
+    ensures { ShowsCoins funded.now.coins (psbt_of held.now.book request.now held.now.wallet.change funded.now) }
+{
+    let _ = request;
+    let _ = funded;
+    held.book.len();
+    inputs_show_coins();
+}
+
 /// The payment to be signed.
 #[tactic(auto, unfolding(crate::specs::Report::psbt_of))]
 fn psbt(alloc: Global, held: &Held, request: &Request, funded: &Funded) -> Result<Psbt, Memory>
@@ -80,7 +94,7 @@ fn psbt(alloc: Global, held: &Held, request: &Request, funded: &Funded) -> Resul
 }
 
 /// The payment to be signed, as text.
-fn psbt_text(
+pub fn psbt_text(
     alloc: Global,
     held: &Held,
     request: &Request,
@@ -93,23 +107,4 @@ fn psbt_text(
 {
     let psbt = psbt(alloc, held, request, funded)?;
     write_text(alloc, &psbt)
-}
-
-/// The report of a payment that was decided on: the coins, what the payment comes to, and the PSBT in base64. It refuses
-/// for want of memory alone.
-#[tactic(auto, unfolding(crate::specs::Report::report_of))]
-pub fn payment_report(
-    alloc: Global,
-    held: &Held,
-    request: &Request,
-    funded: &Funded,
-) -> Result<String, Memory>
-    requires held { IsHeld held.now }
-    requires funded { IsSelection request.now funded.now }
-    ensures value { IfOk result (λ text. string_bytes text ≡ report_of held.now.book request.now held.now.wallet.change funded.now) }
-    ensures fits { IfOk result (λ _. IsPsbt (psbt_of held.now.book request.now held.now.wallet.change funded.now)) }
-{
-    let figures = Figures::new(request, &held.wallet.change, funded);
-    let psbt = psbt_text(alloc, held, request, funded)?;
-    report_text(alloc, &funded.coins, &figures, funded.change, &psbt)
 }

@@ -1,5 +1,5 @@
-use Rattle.std.proofs.Common.{◌≡◌, ◌∙◌, ap, subst, sym}
-use Rattle.fund_plan.specs.Selection.{Selection}
+use Rattle.std.proofs.Common.{◌∙◌, ap, subst, sym}
+use Rattle.fund_plan.specs.Selection.{PlainFunded}
 use Rattle.fund_files.specs.Chain.{HasTexts}
 use Rattle.fund_files.specs.declared.held.Held.{Held}
 use Rattle.fund_payment.proofs.ParentLaws.{held_texts, psbt_made}
@@ -10,5 +10,5 @@ spent_of-requires-clause-texts c = subst HasTexts (sym (ap (λ (x : Held). x.boo
 
 pub returns-clause-fits : goal.returns-clause-fits
 returns-clause-fits c =
-    psbt_made _ c.args.request.now _ c.args.funded.now c.deref.result.now c.in_ok-tx.tx c.in_ok-spent.spent.items (c.deref.ensures.value ∙ ap (λ (f : Selection). f.coins) c.funded.view_is) c.in_ok-tx.ensures.value c.in_ok-spent.ensures.value c.in_ok-tx.ensures.text
+    psbt_made _ c.args.request.now _ c.args.funded.now c.deref.result.now c.in_ok-tx.tx c.in_ok-spent.spent.items (c.deref.ensures.value ∙ ap (λ (f : PlainFunded). f.coins) c.funded.view_is) c.in_ok-tx.ensures.value c.in_ok-spent.ensures.value c.in_ok-tx.ensures.text
     (c.pays_in_text.ensures.bare c.args.request.now _ c.args.funded.now) c.in_ok-spent.ensures.fits

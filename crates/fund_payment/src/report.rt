@@ -1,0 +1,69 @@
+//! The report of a payment.
+
+ghost use Rattle.std.specs.Prelude.{◌≡◌, All, Contains, map, IfOk};
+ghost use Rattle.psbt_codec.specs.Psbt.{IsPsbt};
+ghost use Rattle.fund_plan.specs.Answer.{IsSelection};
+ghost use Rattle.fund_files.specs.Chain.{IsHeld};
+ghost use Rattle.payment_states.specs.Candidates.{candidates_of};
+ghost use Rattle.fund_payment.specs.Report.{line_of, psbt_of, report_of};
+ghost use Rattle.fund_payment.specs.Shown.{ShowsCoins};
+
+use crate::signing::{psbt_text, shows};
+use fund_base::{Candidate, Memory};
+use fund_files::Held;
+use fund_plan::{Figures, Funded};
+use fund_report::{FundedReport, InLine, Report, write_report};
+use request_text::Request;
+use std::alloc::Global;
+
+/// The coins that are spent, as a report has them.
+fn lines(alloc: Global, coins: &[Candidate]) -> Result<Vec<InLine>, Memory>
+    ensures { IfOk result (λ v. v.items ≡ map line_of coins.now) }
+{
+    let mut lines = Vec::new(alloc);
+    for coin in coins {
+        lines.push(InLine {
+            coin: coin.coin,
+            value: coin.value,
+        })?;
+    }
+    Ok(lines)
+}
+
+/// The report of a payment that was decided on after these tries: the coins, what the payment comes to, and the PSBT in
+/// base64, of which each input shows the value and the script of its coin. It refuses where there is not enough memory, and
+/// for nothing else.
+#[tactic(auto, unfolding(crate::specs::Report::report_of))]
+pub fn payment_report(
+    alloc: Global,
+    held: &Held,
+    request: &Request,
+    funded: &Funded,
+    tries: u64,
+) -> Result<Vec<u8>, Memory>
+    requires held { IsHeld held.now }
+    requires funded { IsSelection request.now funded.now }
+    requires coins { All (Contains (candidates_of held.now.wallet held.now.book held.now.tip.height)) funded.now.coins }
+    ensures value { IfOk result (λ text. text.items ≡ report_of held.now.book request.now held.now.wallet.change tries funded.now) }
+    ensures fits { IfOk result (λ _. IsPsbt (psbt_of held.now.book request.now held.now.wallet.change funded.now)) }
+    ensures shows { IfOk result (λ _. ShowsCoins funded.now.coins (psbt_of held.now.book request.now held.now.wallet.change funded.now)) }
+{
+    shows(held, request, funded);
+    let figures = Figures::new(request, funded);
+    let text = psbt_text(alloc, held, request, funded)?;
+    let coins = lines(alloc, &funded.coins)?;
+    let report = Report::Funded(FundedReport {
+        mark: funded.mark,
+        row: funded.row,
+        stage: funded.stage,
+        tries,
+        coins,
+        weight: figures.weight,
+        vsize: figures.vsize,
+        fee: figures.fee,
+        waste: figures.waste,
+        change: funded.change,
+        text: text.into_bytes(),
+    });
+    write_report(alloc, &report)
+}
