@@ -76,6 +76,7 @@ EndsWithoutMemory told_files told s shelf sink sink' =
 abbrev pub Ends : Type 0 → Type 0 → Sources → ShelfView → ShelfView → SinkView → SinkView → Status → Type 0
 Ends told_files told s shelf shelf' sink sink' statuses.Done = EndsListed told_files told s shelf sink sink'
 Ends told_files told s shelf shelf' sink sink' statuses.NoSelection = ⊥
+Ends told_files told s shelf shelf' sink sink' statuses.Unfinished = ⊥
 Ends told_files told s shelf shelf' sink sink' statuses.Usage = ⊥
 Ends told_files told s shelf shelf' sink sink' statuses.Input = EndsRefused statuses.Input told_files told s shelf sink sink'
 Ends told_files told s shelf shelf' sink sink' statuses.Limit = EndsRefused statuses.Limit told_files told s shelf sink sink'

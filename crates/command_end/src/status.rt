@@ -19,6 +19,8 @@ pub enum Status {
     Memory,
     /// A file is longer than its limit, or there are more coins than a book holds.
     Limit,
+    /// The tries are used up, and a search is open.
+    Unfinished,
     /// Nothing pays for what is asked.
     NoSelection,
 }
@@ -38,6 +40,7 @@ impl Status {
             Status::WriteFault => 5,
             Status::Memory => 7,
             Status::Limit => 9,
+            Status::Unfinished => 10,
             Status::NoSelection => 11,
         }
     }
