@@ -1,30 +1,24 @@
 -- What the files mean is what they come to.
-use Rattle.std.proofs.Common.{◌≡◌, ◌∙◌, ℕ, Bool, true, false, cond, List, Option, Some, None, Result, Ok, Err, inl, inr, refl, sym, ap, subst}
+use Rattle.std.proofs.Common.{◌≡◌, ◌∙◌, ℕ, List, Option, Some, Err, inl, inr, refl, ap}
 use Rattle.std.specs.Prelude.{◌≢◌}
 use Rattle.block_feed.specs.Block.{ChainBlock}
-use Rattle.fund_plan.proofs.AnswerLaws.{answer_means}
 use Rattle.fund_steps.proofs.FaultLaws.{fault_found, none_found}
-use Rattle.fund_plan.proofs.OnceLaws.{one_outcome}
-use Rattle.fund_plan.specs.Answer.{Answers, answer_of}
-use Rattle.fund_steps.specs.Faults.{fault_of}
+use Rattle.fund_plan.specs.Outcome.{outcome_at}
 use Rattle.fund_steps.specs.Plan.{IsFault, IsPlan}
 use Rattle.fund_steps.specs.declared.fault.PlanFault.{PlanFault}
 use Rattle.fund_steps.specs.declared.fault.PlanFault.TheVariants as plans
 use Rattle.fund_plan.specs.declared.outcome.Outcome.{Outcome as Answer}
 use Rattle.request_text.specs.PlainRequest.{PlainRequest}
-use Rattle.request_text.specs.declared.request.Method.{Method}
-use Rattle.request_text.specs.declared.request.Method.TheVariants.{Auto, Changeless, Weight, Draw, Manual}
 use Rattle.wallet_text.specs.PlainWallet.{PlainWallet}
 use Rattle.fund_files.proofs.ChainLaws.{asked_due, asked_held, chain_due, chain_held}
 use Rattle.fund_files.specs.Cause.{FileCause}
 use Rattle.fund_files.specs.Chain.{held_of}
 use Rattle.fund_files.specs.Contents.{HasChain, HasRequest}
 use Rattle.fund_files.specs.Outcome.{asked_of, chain_of}
-use Rattle.fund_files.specs.Refusals.{IsAskedMeant, IsChainMeant}
 use Rattle.fund_files.specs.declared.held.Held.{Held}
 use Rattle.command_end.specs.Names.{Sources}
-use Rattle.command_fund.specs.Cause.{Cause, Files, BumpNotYet, PlanNotYet, Plan}
-use Rattle.command_fund.specs.Due.{Outcome, Refused, by_answer, by_asked, by_cause, by_chain, due_of, is_manual, not_chosen, not_taken, plan_cause, plan_of, planned}
+use Rattle.command_fund.specs.Cause.{Cause, Files, BumpNotYet, Plan}
+use Rattle.command_fund.specs.Due.{Refused, by_answer, by_asked, by_cause, by_chain, due_of, not_taken, plan_cause, plan_of, planned}
 use Rattle.command_fund.specs.Inputs.{AreInputs}
 use Rattle.command_fund.specs.Meant.{IsMeant}
 use Rattle.command_fund.specs.Names.{Payment}
@@ -54,34 +48,13 @@ inputs_due files s p w blocks r h = request_read files s p w blocks r h.chain h.
 pub plan_refused : (k : Held) (r : PlainRequest) (fault : PlanFault) → IsFault (plan_of k r) fault → fault ≢ plans.Memory → planned k r ≡ Refused (Plan fault)
 unfolding planned
 plan_refused k r fault h real =
-    ap (λ (o : Option PlanFault). by_cause (plan_cause o) (by_cause (not_chosen r) (by_answer k r (answer_of (plan_of k r))))) (fault_found (plan_of k r) fault h real)
+    ap (λ (o : Option PlanFault). by_cause (plan_cause o) (by_answer k r (outcome_at (plan_of k r) r.tries))) (fault_found (plan_of k r) fault h real)
 
-plan_passed : (k : Held) (r : PlainRequest) → IsPlan (plan_of k r) → planned k r ≡ by_cause (not_chosen r) (by_answer k r (answer_of (plan_of k r)))
+pub due_is : (k : Held) (r : PlainRequest) (o : Answer) → IsPlan (plan_of k r) → outcome_at (plan_of k r) r.tries ≡ o → planned k r ≡ by_answer k r o
 unfolding planned
-plan_passed k r h =
-    ap (λ (o : Option PlanFault). by_cause (plan_cause o) (by_cause (not_chosen r) (by_answer k r (answer_of (plan_of k r))))) (none_found (plan_of k r) h)
-
-chosen_none : (r : PlainRequest) → r.method ≡ Manual → not_chosen r ≡ None
-chosen_none r h = rw h refl
-
-pub due_is : (k : Held) (r : PlainRequest) (o : Answer) → IsPlan (plan_of k r) → r.method ≡ Manual → o ≡ answer_of (plan_of k r) → planned k r ≡ by_answer k r o
-due_is k r o h manual is =
-    plan_passed k r h
-    ∙ ap (λ (c : Option Cause). by_cause c (by_answer k r (answer_of (plan_of k r)))) (chosen_none r manual)
-    ∙ ap (by_answer k r) (sym is)
-
--- a plan whose coins are to be chosen
-pub unchosen_due : (k : Held) (r : PlainRequest) → IsPlan (plan_of k r) → is_manual r.method ≡ false → planned k r ≡ Refused PlanNotYet
-unchosen_due k r h chosen =
-    plan_passed k r h
-    ∙ ap (λ (b : Bool). by_cause (cond b None (Some PlanNotYet)) (by_answer k r (answer_of (plan_of k r)))) chosen
-
-chosen_of : (m : Method) → m ≢ Manual → is_manual m ≡ false
-chosen_of Auto h = refl
-chosen_of Changeless h = refl
-chosen_of Weight h = refl
-chosen_of Draw h = refl
-chosen_of Manual h = absurd (h refl)
+due_is k r o h is =
+    ap (λ (f : Option PlanFault). by_cause (plan_cause f) (by_answer k r (outcome_at (plan_of k r) r.tries))) (none_found (plan_of k r) h)
+    ∙ ap (by_answer k r) is
 
 -- ---- what is meant
 
@@ -95,13 +68,10 @@ files_due files s p cause (inr h) = request_refused files s p h.0 h.1 cause h.2 
 pub refusal_due : (files : List ℕ → List ℕ) (s : Sources) (p : Payment) (cause : Cause) → IsMeant files s p cause → due_of files s p ≡ Refused cause
 refusal_due files s p (Files cause) h = files_due files s p cause h
 refusal_due files s p BumpNotYet h = not_taken_due files s p h.0 h.1 h.2 BumpNotYet h.4 h.5 (bump_due h.2 h.3 h.6)
-refusal_due files s p PlanNotYet h = inputs_due files s p h.0 h.1 h.2 h.3 ∙ unchosen_due (held_of h.0 h.1) h.2 h.4 (chosen_of h.2.method h.5)
 refusal_due files s p (Plan fault) h = inputs_due files s p h.0 h.1 h.2 h.3 ∙ plan_refused (held_of h.0 h.1) h.2 fault h.4 h.5
 
 -- ---- what is due where nothing is refused
 
-pub answer_due : (files : List ℕ → List ℕ) (s : Sources) (p : Payment) (w : PlainWallet) (blocks : List ChainBlock) (r : PlainRequest) (a : Answer) → AreInputs files s p w blocks r → IsPlan (plan_of (held_of w blocks) r) → r.method ≡ Manual → Answers (plan_of (held_of w blocks) r) a
-    → due_of files s p ≡ by_answer (held_of w blocks) r a
-answer_due files s p w blocks r a has rules manual means =
-    let q = plan_of (held_of w blocks) r in
-    inputs_due files s p w blocks r has ∙ due_is (held_of w blocks) r a rules manual (one_outcome q a (answer_of q) rules means (answer_means q rules.eligible))
+pub answer_due : (files : List ℕ → List ℕ) (s : Sources) (p : Payment) (w : PlainWallet) (blocks : List ChainBlock) (r : PlainRequest) (o : Answer) → AreInputs files s p w blocks r → IsPlan (plan_of (held_of w blocks) r)
+    → outcome_at (plan_of (held_of w blocks) r) r.tries ≡ o → due_of files s p ≡ by_answer (held_of w blocks) r o
+answer_due files s p w blocks r o has rules is = inputs_due files s p w blocks r has ∙ due_is (held_of w blocks) r o rules is

@@ -1,4 +1,6 @@
 pub mod DueLaws
+pub mod EndedLaws
 pub mod Finished
 pub mod InputLaws
+pub mod LogLaws
 pub mod PlanLaws

@@ -1,62 +1,56 @@
--- How a plan ends is what is due, and what the files of the command come to.
-use Rattle.std.proofs.Common.{◌≡◌, ◌∙◌, ℕ, true, false, List, Result, Ok, Err, refl, sym, ap, subst, string_bytes}
+-- How a plan's run ends is what is due, and what the files of the command come to.
+use Rattle.std.proofs.Common.{◌≡◌, ◌∙◌, ℕ, ◌-◌, min, List, [], ◌∷◌, None, Result, Ok, Err, refl, sym, ap, subst, All, Contains}
 use Rattle.std.specs.Prelude.{◌≢◌, IfErr, IfOk}
 use Rattle.block_feed.specs.Block.{ChainBlock}
+use Rattle.closing_log.specs.Log.{PlainLog}
+use Rattle.closing_log.specs.LogText.{IsLogText, text_of as log_text_of}
 use Rattle.fund_base.specs.Causes.{ShelfView}
 use Rattle.fund_base.specs.declared.candidate.Candidate.{Candidate}
-use Rattle.fund_plan.specs.Answer.{Answers, answer_of}
-use Rattle.fund_steps.specs.Plan.{IsFault, IsPlan, PlainPlan}
-use Rattle.fund_plan.specs.Selection.{Selection}
-use Rattle.fund_steps.specs.declared.fault.PlanFault.{PlanFault}
-use Rattle.fund_steps.specs.declared.fault.PlanFault.TheVariants as plans
+use Rattle.fund_plan.proofs.ClaimLaws.{funded_claims, none_claims, open_claims}
+use Rattle.fund_plan.proofs.EligibleLaws.{payment_eligible}
+use Rattle.fund_plan.proofs.EndLaws.{end_back, moved_none, new_told}
+use Rattle.fund_plan.specs.Answer.{ArePayments, HasSelection, IsPayment, IsSelection}
+use Rattle.fund_plan.specs.Claims.{IsUsedUp}
+use Rattle.fund_plan.specs.Outcome.{beginning_of, end_at, is_partial, led, log_at, most_tries, outcome_at, stand_after, tries_at}
+use Rattle.fund_plan.specs.Selection.{PlainFunded}
+use Rattle.fund_plan.specs.State.{PlanState, end_in, moved, partial_of, told}
+use Rattle.fund_plan.specs.Steps.{steps_of}
 use Rattle.fund_plan.specs.declared.outcome.Outcome.{Outcome as Answer}
 use Rattle.fund_plan.specs.declared.outcome.Outcome.TheVariants as answers
+use Rattle.fund_steps.specs.Plan.{IsFault, IsPlan, PlainPlan}
+use Rattle.fund_steps.specs.declared.fault.PlanFault.{PlanFault}
+use Rattle.fund_steps.specs.declared.fault.PlanFault.TheVariants as plans
 use Rattle.psbt_codec.specs.Psbt.{IsPsbt}
 use Rattle.request_text.specs.PlainRequest.{PlainRequest}
-use Rattle.request_text.specs.declared.request.Method.{Method}
-use Rattle.request_text.specs.declared.request.Method.TheVariants.{Auto, Changeless, Weight, Draw, Manual}
+use Rattle.search_run.specs.Kept.{log_of}
+use Rattle.search_run.specs.Run.{Stand}
+use Rattle.search_run.specs.Step.{AreSteps, PlainStep}
+use Rattle.search_run.specs.declared.ending.End.{End}
 use Rattle.wallet_text.specs.PlainWallet.{PlainWallet}
 use Rattle.wallet_text.specs.declared.wallet.Watch.{Watch}
 use Rattle.fund_files.specs.Chain.{held_of}
 use Rattle.fund_files.specs.declared.held.Held.{Held}
 use Rattle.fund_payment.specs.Report.{psbt_of, report_of}
+use Rattle.fund_payment.specs.Shown.{ShowsCoins}
 use Rattle.command_end.specs.Names.{Sources}
-use Rattle.command_fund.specs.Cause.{Cause, Files, BumpNotYet, PlanNotYet, Plan, cause_of}
-use Rattle.command_fund.specs.Due.{Refused, Funded, candidates_in, is_manual, plan_of, planned}
+use Rattle.command_fund.specs.Cause.{Cause, Files, BumpNotYet, Plan, cause_of}
+use Rattle.command_fund.specs.Due.{Unfinished, NoSelection, Funded, candidates_in, log_text_at, none_report, none_report_at, open_report, open_report_at, plan_of}
 use Rattle.command_fund.specs.Inputs.{AreAsked, AreInputs}
 use Rattle.command_fund.specs.Meant.{IsMeant}
 use Rattle.command_fund.specs.Names.{Payment}
-use Rattle.command_fund.specs.PlanEnds.{IsConcluded, IsEnded, IsPaid, MeansFault, StopsPlan, plan_stop_of}
+use Rattle.command_fund.specs.PlanEnds.{IsAfter, IsConcluded, IsEnded, IsNew, IsOpen, IsPaid, IsUnpaid, MeansFault, StopsPlan, plan_stop_of}
 use Rattle.command_fund.specs.Stops.{StopsFor}
 use Rattle.command_fund.specs.declared.funding.Ending.{Ending}
 use Rattle.command_fund.specs.declared.funding.Ending.TheVariants as endings
 use Rattle.command_fund.specs.declared.refusal.Stop.{Stop}
 use Rattle.command_fund.specs.declared.refusal.Stop.TheVariants as stops
-use Rattle.command_fund.proofs.DueLaws.{due_is, inputs_due, plan_refused, unchosen_due}
+use Rattle.command_fund.proofs.DueLaws.{due_is, inputs_due, plan_refused}
+use Rattle.command_fund.proofs.EndedLaws.{log_written}
 
 abbrev plan_by : PlainRequest → Watch → List Candidate → PlainPlan
 plan_by r change coins = record { request = r; change = change; candidates = coins }
 
--- ---- the method
-
-manual_of : (m : Method) → is_manual m ≡ true → m ≡ Manual
-manual_of Auto e = absurd cc
-manual_of Changeless e = absurd cc
-manual_of Weight e = absurd cc
-manual_of Draw e = absurd cc
-manual_of Manual e = refl
-
-not_manual : (m : Method) → is_manual m ≡ false → m ≢ Manual
-not_manual Auto e = λ is. absurd cc
-not_manual Changeless e = λ is. absurd cc
-not_manual Weight e = λ is. absurd cc
-not_manual Draw e = λ is. absurd cc
-not_manual Manual e = absurd cc
-
--- ---- how a request is concluded
-
-pub unchosen_stops : (k : Held) (r : PlainRequest) → IsPlan (plan_of k r) → is_manual r.method ≡ false → (planned k r ≡ Refused PlanNotYet) × (IsPlan (plan_of k r) × (r.method ≢ Manual))
-unchosen_stops k r h chosen = (unchosen_due k r h chosen, (h, not_manual r.method chosen))
+-- ---- why no plan is made
 
 plan_stops : (k : Held) (r : PlainRequest) (fault : PlanFault) → IsFault (plan_of k r) fault → StopsPlan k r (plan_stop_of fault)
 plan_stops k r (plans.Total sum) h = let real : plans.Total sum ≢ plans.Memory = λ e. absurd cc in (plan_refused k r (plans.Total sum) h real, (h, real))
@@ -64,71 +58,214 @@ plan_stops k r (plans.NotEligible point) h = let real : plans.NotEligible point 
 plan_stops k r (plans.TooMany number n) h = let real : plans.TooMany number n ≢ plans.Memory = λ e. absurd cc in (plan_refused k r (plans.TooMany number n) h real, (h, real))
 plan_stops k r plans.Memory h = tt
 
+same_plan : (k : Held) (r : PlainRequest) (change : Watch) (coins : List Candidate) → change ≡ k.wallet.change → coins ≡ candidates_in k → plan_by r change coins ≡ plan_of k r
+same_plan k r change coins own all = ap (λ (w : Watch). plan_by r w coins) own ∙ ap (plan_by r k.wallet.change) all
+
 pub plan_stops_at : (k : Held) (r : PlainRequest) (change : Watch) (coins : List Candidate) (fault : PlanFault) → change ≡ k.wallet.change → coins ≡ candidates_in k → IsFault (plan_by r change coins) fault → StopsPlan k r (plan_stop_of fault)
 plan_stops_at k r change coins fault own all h =
-    plan_stops k r fault (subst (λ (p : PlainPlan). IsFault p fault) (ap (λ (w : Watch). plan_by r w coins) own ∙ ap (plan_by r k.wallet.change) all) h)
+    plan_stops k r fault (subst (λ (p : PlainPlan). IsFault p fault) (same_plan k r change coins own all) h)
 
-paid_is : (k : Held) (r : PlainRequest) (f : Selection) (text : List ℕ) → IsPlan (plan_of k r) → r.method ≡ Manual → answers.Funded f ≡ answer_of (plan_of k r) → Answers (plan_of k r) (answers.Funded f) → text ≡ report_of k.book r k.wallet.change f → IsPsbt (psbt_of k.book r k.wallet.change f) → IsPaid k r text
-paid_is k r f text h manual is pays text_is psbt = record {
-  funded = f;
-  pays = pays;
-  psbt = psbt;
-  reports = text_is;
-  due = due_is k r (answers.Funded f) h manual is ∙ ap (λ (l : List ℕ). Funded l) (sym text_is);
-}
+pub new_is : (k : Held) (r : PlainRequest) (change : Watch) (coins : List Candidate) (s : PlanState) → change ≡ k.wallet.change → coins ≡ candidates_in k → s.plan ≡ plan_by r change coins → s.stand ≡ beginning_of s.plan → s.partial ≡ None → IsNew k r s
+new_is k r change coins s own all is stand partial = record { plan = is ∙ same_plan k r change coins own all; stand = stand; partial = partial }
 
-pub concluded_none : (k : Held) (r : PlainRequest) (p : PlainPlan) (o : Answer) → p ≡ plan_of k r → is_manual r.method ≡ true → o ≡ answers.NoSelection → IsPlan p → Answers p o → o ≡ answer_of p → IsConcluded k r endings.NoSelection
-concluded_none k r p o e manual n h a x =
-    let h' = subst IsPlan e h in
-    (h', subst (λ (q : PlainPlan). Answers q answers.NoSelection) e (subst (λ (y : Answer). Answers p y) n a), due_is k r answers.NoSelection h' (manual_of r.method manual) (sym n ∙ x ∙ ap answer_of e))
+-- ---- a plan behind its tries
 
-pub concluded_paid : (k : Held) (r : PlainRequest) (p : PlainPlan) (o : Answer) (f : Selection) (text : List ℕ) → p ≡ plan_of k r → is_manual r.method ≡ true → o ≡ answers.Funded f → IsPlan p → Answers p o → o ≡ answer_of p → text ≡ report_of k.book r k.wallet.change f
-    → IsPsbt (psbt_of k.book r k.wallet.change f) → IsPlan (plan_of k r) × IsPaid k r text
-concluded_paid k r p o f text e manual n h a x text_is psbt =
-    let h' = subst IsPlan e h in
-    (h', paid_is k r f text h' (manual_of r.method manual) (sym n ∙ x ∙ ap answer_of e) (subst (λ (q : PlainPlan). Answers q (answers.Funded f)) e (subst (λ (y : Answer). Answers p y) n a)) text_is psbt)
+state_at : PlainPlan → ℕ → PlanState
+state_at p n = record { plan = p; stand = stand_after p n; partial = partial_of (end_at p (stand_after p n)) }
+
+moved_at : (s : PlanState) (n : ℕ) → s.stand ≡ beginning_of s.plan → s.partial ≡ None → moved s n ≡ state_at s.plan n
+unfolding state_at
+moved_at s n new none =
+    let granted : Stand → ℕ = λ x. min n (most_tries - x.past.tries) in
+    moved_none s n s.partial none
+    ∙ ap (λ (x : Stand). record { plan = s.plan; stand = led s.plan x (granted x); partial = partial_of (end_at s.plan (led s.plan x (granted x))) }) new
+
+log_there : (p : PlainPlan) (n : ℕ) → log_of (is_partial (end_in (state_at p n))) (stand_after p n) ≡ log_at p n
+unfolding state_at log_at
+log_there p n = ap (λ (d : End). log_of (is_partial d) (stand_after p n)) (end_back (state_at p n) (end_at p (stand_after p n)) refl)
+
+gone : (old new : PlanState) (n : ℕ) (o : Answer) → old.stand ≡ beginning_of old.plan → old.partial ≡ None → IsPlan old.plan → AreSteps (steps_of old.plan) → new ≡ moved old n → o ≡ told new → ArePayments old.plan o → HasSelection old.plan.request o
+    → IsAfter old.plan n new o
+unfolding state_at tries_at
+gone old new n o stand partial rules steps is says pays fits =
+    let e : new ≡ state_at old.plan n = is ∙ moved_at old n stand partial in
+    record {
+      rules = rules;
+      steps = steps;
+      outcome = says ∙ ap told is ∙ new_told old n stand partial;
+      pays = pays;
+      fits = fits;
+      tries = ap (λ (s : PlanState). s.stand.past.tries) e;
+      left = ap (λ (s : PlanState). s.stand.left) e;
+      log = ap (λ (s : PlanState). log_of (is_partial (end_in s)) s.stand) e ∙ log_there old.plan n;
+    }
+
+pub after : (k : Held) (r : PlainRequest) (old new : PlanState) (n : ℕ) (o : Answer) → IsNew k r old → n ≡ r.tries → IsPlan old.plan → AreSteps (steps_of old.plan) → new ≡ moved old n → o ≡ told new → ArePayments old.plan o → HasSelection old.plan.request o
+    → IsAfter (plan_of k r) r.tries new o
+after k r old new n o h tries rules steps is says pays fits =
+    subst (λ (m : ℕ). IsAfter (plan_of k r) m new o) tries (subst (λ (p : PlainPlan). IsAfter p n new o) h.plan (gone old new n o h.stand h.partial rules steps is says pays fits))
+
+-- ---- the run is unfinished
+
+pub used_up : (p : PlainPlan) (n : ℕ) (s : PlanState) (o : Answer) → IsAfter p n s o → o ≡ answers.Unfinished → IsUsedUp p n
+used_up p n s o a is = open_claims p n (sym a.outcome ∙ is)
+
+some_left : (left : List PlainStep) (x : PlainStep) (rest : List PlainStep) → left ≡ x ∷ rest → left ≢ []
+some_left left x rest e = λ none. absurd (let y = sym none ∙ e in cc)
+
+-- a search is open
+pub is_open : (p : PlainPlan) (n : ℕ) (s : PlanState) (o : Answer) → IsAfter p n s o → o ≡ answers.Unfinished → s.stand.left ≢ []
+is_open p n s o a is =
+    let u = used_up p n s o a is in
+    some_left s.stand.left u.step u.rest (a.left ∙ u.left)
+
+pub concluded_open : (k : Held) (r : PlainRequest) (s : PlanState) (o : Answer) (text : List ℕ) → IsAfter (plan_of k r) r.tries s o → o ≡ answers.Unfinished → text ≡ open_report s.stand.past.tries s.stand.left → IsPlan (plan_of k r) × IsOpen k r text
+concluded_open k r s o text a is text_is =
+    let p : PlainPlan = plan_of k r in
+    let u = used_up p r.tries s o a is in
+    let out : outcome_at p r.tries ≡ answers.Unfinished = sym a.outcome ∙ is in
+    let same : text ≡ open_report_at p r.tries = text_is ∙ ap (λ (n : ℕ). open_report n s.stand.left) a.tries ∙ ap (open_report (tries_at p r.tries)) a.left in (
+      a.rules,
+      record {
+        outcome = out;
+        used_up = u;
+        reports = same ∙ ap (open_report (tries_at p r.tries)) u.left;
+        due = due_is k r answers.Unfinished a.rules out ∙ ap (λ (t : List ℕ). Unfinished t) (sym same);
+      },
+    )
+
+-- ---- the run is at its end
+
+record IsLogged (p : PlainPlan) (n : ℕ) (log : List ℕ) : Type 0 where
+  logs : log ≡ log_text_at p n
+  reads : IsLogText log (log_at p n)
+
+logged : (p : PlainPlan) (n : ℕ) (s : PlanState) (o : Answer) (log : List ℕ) → IsAfter p n s o → IsLogText (log_text_of (log_at p n)) (log_at p n) → log ≡ log_text_of (log_of (is_partial (end_in s)) s.stand) → IsLogged p n log
+logged p n s o log a reads is =
+    let same : log ≡ log_text_at p n = is ∙ ap (λ (l : PlainLog). log_text_of l) a.log in
+    record { logs = same; reads = subst (λ (t : List ℕ). IsLogText t (log_at p n)) (sym same) reads }
+
+pub concluded_none : (k : Held) (r : PlainRequest) (s : PlanState) (o : Answer) (text log : List ℕ) → IsAfter (plan_of k r) r.tries s o → o ≡ answers.NoSelection → text ≡ none_report s.stand.past.tries → log ≡ log_text_of (log_of (is_partial (end_in s)) s.stand)
+    → IsPlan (plan_of k r) × IsUnpaid k r text log
+concluded_none k r s o text log a is text_is log_is =
+    let p : PlainPlan = plan_of k r in
+    let out : outcome_at p r.tries ≡ answers.NoSelection = sym a.outcome ∙ is in
+    let goes : outcome_at p r.tries ≡ answers.Unfinished → ⊥ = λ e. absurd (let x = sym out ∙ e in cc) in
+    let w = log_written p r.tries a.steps goes in
+    let l = logged p r.tries s o log a w.reads log_is in
+    let same : text ≡ none_report_at p r.tries = text_is ∙ ap (λ (n : ℕ). none_report n) a.tries in (
+      a.rules,
+      record {
+        outcome = out;
+        none = none_claims p r.tries a.rules a.steps out;
+        reports = same;
+        logs = l.logs;
+        reads = l.reads;
+        ended = w.ended;
+        due = due_is k r answers.NoSelection a.rules out ∙ ap (λ (t : List ℕ). NoSelection t (log_text_at p r.tries)) (sym same) ∙ ap (λ (t : List ℕ). NoSelection text t) (sym l.logs);
+      },
+    )
+
+-- the coins of a payment are candidates of the chain
+pub paid_from : (k : Held) (r : PlainRequest) (s : PlanState) (o : Answer) (f : PlainFunded) → IsAfter (plan_of k r) r.tries s o → o ≡ answers.Funded f → All (Contains (candidates_in k)) f.coins
+paid_from k r s o f a is =
+    let pays : IsPayment (plan_of k r) f = subst (ArePayments (plan_of k r)) is a.pays in
+    pays.candidates
+
+pub paid_fits : (k : Held) (r : PlainRequest) (s : PlanState) (o : Answer) (f : PlainFunded) → IsAfter (plan_of k r) r.tries s o → o ≡ answers.Funded f → IsSelection r f
+paid_fits k r s o f a is = subst (HasSelection r) is a.fits
+
+pub concluded_paid : (k : Held) (r : PlainRequest) (s : PlanState) (o : Answer) (f : PlainFunded) (tries : ℕ) (text log : List ℕ) → IsAfter (plan_of k r) r.tries s o → o ≡ answers.Funded f → tries ≡ s.stand.past.tries → text ≡ report_of k.book r k.wallet.change tries f
+    → IsPsbt (psbt_of k.book r k.wallet.change f) → ShowsCoins f.coins (psbt_of k.book r k.wallet.change f) → log ≡ log_text_of (log_of (is_partial (end_in s)) s.stand) → IsPlan (plan_of k r) × IsPaid k r text log
+concluded_paid k r s o f tries text log a is tried text_is psbt shows log_is =
+    let p : PlainPlan = plan_of k r in
+    let out : outcome_at p r.tries ≡ answers.Funded f = sym a.outcome ∙ is in
+    let goes : outcome_at p r.tries ≡ answers.Unfinished → ⊥ = λ e. absurd (let x = sym out ∙ e in cc) in
+    let w = log_written p r.tries a.steps goes in
+    let l = logged p r.tries s o log a w.reads log_is in
+    let pays : IsPayment p f = subst (ArePayments p) is a.pays in
+    let report : ℕ → List ℕ = λ n. report_of k.book r k.wallet.change n f in
+    let same : text ≡ report (tries_at p r.tries) = text_is ∙ ap report (tried ∙ a.tries) in (
+      a.rules,
+      record {
+        funded = f;
+        outcome = out;
+        pays = pays;
+        eligible = payment_eligible p f a.rules pays;
+        claims = funded_claims p r.tries f a.rules a.steps out;
+        psbt = psbt;
+        shows = shows;
+        reports = same;
+        logs = l.logs;
+        reads = l.reads;
+        ended = w.ended;
+        due = due_is k r (answers.Funded f) a.rules out ∙ ap (λ (t : List ℕ). Funded t (log_text_at p r.tries)) (sym same) ∙ ap (λ (t : List ℕ). Funded text t) (sym l.logs);
+      },
+    )
 
 -- ---- what the files come to
 
-ended_on : (told : Type 0) (files : List ℕ → List ℕ) (s : Sources) (p : Payment) (w : PlainWallet) (blocks : List ChainBlock) (r : PlainRequest) (e : Ending) → (told → AreInputs files s p w blocks r) → IsConcluded (held_of w blocks) r e → IsEnded told files s p e
-ended_on told files s p w blocks r endings.NoSelection inputs c = record {
+ended_on : (told_files : Type 0) (files : List ℕ → List ℕ) (s : Sources) (p : Payment) (w : PlainWallet) (blocks : List ChainBlock) (r : PlainRequest) (e : Ending) → (told_files → AreInputs files s p w blocks r) → IsConcluded (held_of w blocks) r e → IsEnded told_files files s p e
+ended_on told_files files s p w blocks r (endings.Unfinished text) inputs c = record {
   wallet = w;
   blocks = blocks;
   asked = r;
   inputs = inputs;
   plan = c.0;
-  pays_not = c.1;
-  comes_to = λ t. inputs_due files s p w blocks r (inputs t) ∙ c.2;
+  outcome = c.1.outcome;
+  used_up = c.1.used_up;
+  reports = c.1.reports;
+  comes_to = λ t. inputs_due files s p w blocks r (inputs t) ∙ c.1.due;
 }
-ended_on told files s p w blocks r (endings.Funded text) inputs c = record {
+ended_on told_files files s p w blocks r (endings.NoSelection texts) inputs c = record {
+  wallet = w;
+  blocks = blocks;
+  asked = r;
+  inputs = inputs;
+  plan = c.0;
+  outcome = c.1.outcome;
+  none = c.1.none;
+  reports = c.1.reports;
+  logs = c.1.logs;
+  reads = c.1.reads;
+  ended = c.1.ended;
+  comes_to = λ t. inputs_due files s p w blocks r (inputs t) ∙ c.1.due;
+}
+ended_on told_files files s p w blocks r (endings.Funded texts) inputs c = record {
   wallet = w;
   blocks = blocks;
   asked = r;
   funded = c.1.funded;
   inputs = inputs;
   plan = c.0;
+  outcome = c.1.outcome;
   pays = c.1.pays;
+  eligible = c.1.eligible;
+  claims = c.1.claims;
   psbt = c.1.psbt;
+  shows = c.1.shows;
   reports = c.1.reports;
+  logs = c.1.logs;
+  reads = c.1.reads;
+  ended = c.1.ended;
   comes_to = λ t. inputs_due files s p w blocks r (inputs t) ∙ c.1.due;
 }
 
 meant : (files : List ℕ → List ℕ) (s : Sources) (p : Payment) (w : PlainWallet) (blocks : List ChainBlock) (r : PlainRequest) (cause : Cause) → AreInputs files s p w blocks r → MeansFault (held_of w blocks) r cause → IsMeant files s p cause
 meant files s p w blocks r (Files cause) inputs m = absurd m
 meant files s p w blocks r BumpNotYet inputs m = absurd m
-meant files s p w blocks r PlanNotYet inputs m = (w, blocks, r, inputs, m.0, m.1)
 meant files s p w blocks r (Plan fault) inputs m = (w, blocks, r, inputs, m.0, m.1)
 
-stops_on : (told : Type 0) (s : Sources) (p : Payment) (w : PlainWallet) (blocks : List ChainBlock) (r : PlainRequest) (old new : ShelfView) (stop : Stop) → (told → AreInputs old.files s p w blocks r) → StopsPlan (held_of w blocks) r stop → StopsFor told s p old new stop
-stops_on told s p w blocks r old new (stops.Read file) inputs is = absurd is
-stops_on told s p w blocks r old new (stops.Refused refusal) inputs is = λ t.
+stops_on : (told_files : Type 0) (s : Sources) (p : Payment) (w : PlainWallet) (blocks : List ChainBlock) (r : PlainRequest) (old new : ShelfView) (stop : Stop) → (told_files → AreInputs old.files s p w blocks r) → StopsPlan (held_of w blocks) r stop → StopsFor told_files s p old new stop
+stops_on told_files s p w blocks r old new (stops.Read file) inputs is = absurd is
+stops_on told_files s p w blocks r old new (stops.Refused refusal) inputs is = λ t.
     (inputs_due old.files s p w blocks r (inputs t) ∙ is.0, meant old.files s p w blocks r (cause_of refusal) (inputs t) is.1)
-stops_on told s p w blocks r old new stops.Memory inputs is = tt
+stops_on told_files s p w blocks r old new stops.Memory inputs is = tt
 
-pub if_ends : (told : Type 0) (files : List ℕ → List ℕ) (s : Sources) (p : Payment) (k : Held) (r : PlainRequest) (result : Result Ending Stop) → AreAsked told files s p k r → IfOk result (IsConcluded k r) → IfOk result (IsEnded told files s p)
-if_ends told files s p k r (Ok e) h c = ended_on told files s p k.wallet h.held.blocks r e h.inputs (subst (λ (x : Held). IsConcluded x r e) h.held.is c)
-if_ends told files s p k r (Err stop) h c = tt
+pub if_ends : (told_files : Type 0) (files : List ℕ → List ℕ) (s : Sources) (p : Payment) (k : Held) (r : PlainRequest) (result : Result Ending Stop) → AreAsked told_files files s p k r → IfOk result (IsConcluded k r) → IfOk result (IsEnded told_files files s p)
+if_ends told_files files s p k r (Ok e) h c = ended_on told_files files s p k.wallet h.held.blocks r e h.inputs (subst (λ (x : Held). IsConcluded x r e) h.held.is c)
+if_ends told_files files s p k r (Err stop) h c = tt
 
-pub if_stops : (told : Type 0) (s : Sources) (p : Payment) (k : Held) (r : PlainRequest) (old new : ShelfView) (result : Result Ending Stop) → AreAsked told old.files s p k r → IfErr result (StopsPlan k r) → IfErr result (StopsFor told s p old new)
-if_stops told s p k r old new (Ok e) h is = tt
-if_stops told s p k r old new (Err stop) h is = stops_on told s p k.wallet h.held.blocks r old new stop h.inputs (subst (λ (x : Held). StopsPlan x r stop) h.held.is is)
+pub if_stops : (told_files : Type 0) (s : Sources) (p : Payment) (k : Held) (r : PlainRequest) (old new : ShelfView) (result : Result Ending Stop) → AreAsked told_files old.files s p k r → IfErr result (StopsPlan k r) → IfErr result (StopsFor told_files s p old new)
+if_stops told_files s p k r old new (Ok e) h is = tt
+if_stops told_files s p k r old new (Err stop) h is = stops_on told_files s p k.wallet h.held.blocks r old new stop h.inputs (subst (λ (x : Held). StopsPlan x r stop) h.held.is is)

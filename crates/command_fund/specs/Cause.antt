@@ -8,19 +8,16 @@ use Rattle.command_end.specs.declared.status.Status.TheVariants as statuses
 use Rattle.command_fund.specs.declared.refusal.Refusal.{Refusal}
 use Rattle.command_fund.specs.declared.refusal.Refusal.TheVariants as refusals
 
--- a file; or a payment that is to be replaced, or coins that are to be chosen, neither of which is taken yet; or the fault
--- of a plan
+-- a file; or a payment that is to be replaced, which isn't taken yet; or the fault of a plan
 pub data Cause : Type 0 where
   Files : files.FileCause → Cause
   BumpNotYet : Cause
-  PlanNotYet : Cause
   Plan : PlanFault → Cause
 
 -- the cause of a refusal
 abbrev pub cause_of : Refusal → Cause
 cause_of (refusals.Files refusal) = Files (files.cause_of refusal)
 cause_of refusals.BumpNotYet = BumpNotYet
-cause_of refusals.PlanNotYet = PlanNotYet
 cause_of (refusals.Plan fault) = Plan fault
 
 -- the status of a plan's fault
@@ -32,5 +29,4 @@ status_of_plan fault = statuses.Input
 abbrev pub status_of_cause : Cause → Status
 status_of_cause (Files cause) = status_of_file cause
 status_of_cause BumpNotYet = statuses.Input
-status_of_cause PlanNotYet = statuses.Input
 status_of_cause (Plan fault) = status_of_plan fault

@@ -1,29 +1,32 @@
 -- What the files of a payment come to.
-use Rattle.std.specs.Prelude.{ℕ, Bool, true, false, List, is_some, if◌then◌else◌, Option, Some, None, option_map, Result, Ok, Err}
+use Rattle.std.specs.Prelude.{ℕ, List, [], ◌∷◌, is_some, if◌then◌else◌, Option, Some, None, Result, Ok, Err}
+use Rattle.closing_log.specs.LogText as logs
 use Rattle.fund_base.specs.declared.candidate.Candidate.{Candidate}
-use Rattle.fund_plan.specs.Answer.{answer_of}
+use Rattle.fund_plan.specs.Outcome.{log_at, outcome_at, stand_after, tries_at}
+use Rattle.fund_plan.specs.declared.outcome.Outcome.{Outcome as Answer}
+use Rattle.fund_plan.specs.declared.outcome.Outcome.TheVariants as answers
+use Rattle.fund_report.specs.ReportText as reports
+use Rattle.fund_report.specs.declared.report.Report.TheVariants as report
 use Rattle.fund_steps.specs.Faults.{fault_of}
 use Rattle.fund_steps.specs.Plan.{PlainPlan}
 use Rattle.fund_steps.specs.declared.fault.PlanFault.{PlanFault}
-use Rattle.fund_plan.specs.declared.outcome.Outcome.{Outcome as Answer}
-use Rattle.fund_plan.specs.declared.outcome.Outcome.TheVariants as answers
 use Rattle.payment_states.specs.Candidates.{candidates_of}
 use Rattle.request_text.specs.PlainRequest.{PlainRequest}
-use Rattle.request_text.specs.declared.request.Method.{Method}
-use Rattle.request_text.specs.declared.request.Method.TheVariants.{Auto, Changeless, Weight, Draw, Manual}
+use Rattle.search_run.specs.Step.{PlainStep}
 use Rattle.fund_files.specs.Cause.{FileCause}
 use Rattle.fund_files.specs.Outcome.{asked_of, chain_of}
 use Rattle.fund_files.specs.declared.held.Held.{Held}
 use Rattle.fund_payment.specs.Report.{report_of}
 use Rattle.command_end.specs.Names.{Sources}
-use Rattle.command_fund.specs.Cause.{Cause, Files, BumpNotYet, PlanNotYet, Plan}
+use Rattle.command_fund.specs.Cause.{Cause, Files, BumpNotYet, Plan}
 use Rattle.command_fund.specs.Names.{Payment}
 
--- a refusal, no selection, or a payment and its report
+-- a refusal; or a report with which the tries are used up; or a report and a log, where nothing pays or of a payment
 pub data Outcome : Type 0 where
   Refused : Cause → Outcome
-  NoSelection : Outcome
-  Funded : (report : List ℕ) → Outcome
+  Unfinished : (report : List ℕ) → Outcome
+  NoSelection : (report log : List ℕ) → Outcome
+  Funded : (report log : List ℕ) → Outcome
 
 -- ---- the plan
 
@@ -40,35 +43,49 @@ abbrev pub by_cause : Option Cause → Outcome → Outcome
 by_cause (Some cause) due = Refused cause
 by_cause None due = due
 
--- what a payment comes to
-abbrev pub by_answer : Held → PlainRequest → Answer → Outcome
-by_answer k r answers.NoSelection = NoSelection
-by_answer k r (answers.Funded f) = Funded (report_of k.book r k.wallet.change f)
-
 -- the fault of a plan, as a cause
 abbrev pub plan_cause : Option PlanFault → Option Cause
 plan_cause None = None
 plan_cause (Some fault) = Some (Plan fault)
 
--- the method that spends the listed coins and no others
-abbrev pub is_manual : Method → Bool
-is_manual Auto = false
-is_manual Changeless = false
-is_manual Weight = false
-is_manual Draw = false
-is_manual Manual = true
+-- ---- texts
+
+-- the text of the log of a plan after so many tries
+abbrev pub log_text_at : PlainPlan → ℕ → List ℕ
+log_text_at p n = logs.text_of (log_at p n)
+
+-- the report where nothing pays, after so many tries
+abbrev pub none_report : ℕ → List ℕ
+none_report tries = reports.text_of (report.NoSelection tries)
+
+abbrev pub none_report_at : PlainPlan → ℕ → List ℕ
+none_report_at p n = none_report (tries_at p n)
+
+-- the report of a run that goes on, after so many tries: the row and the stage are those of the search that is open
+abbrev pub open_text : ℕ → PlainStep → List ℕ
+open_text tries x = reports.text_of (report.Unfinished tries x.row x.stage)
+
+-- this is the first that is left
+abbrev pub open_report : ℕ → List PlainStep → List ℕ
+open_report tries [] = []
+open_report tries (x ∷ rest) = open_text tries x
+
+abbrev pub open_report_at : PlainPlan → ℕ → List ℕ
+open_report_at p n = open_report (tries_at p n) (stand_after p n).left
+
+-- what a plan with these tries comes to
+abbrev pub by_answer : Held → PlainRequest → Answer → Outcome
+by_answer k r answers.Unfinished = Unfinished (open_report_at (plan_of k r) r.tries)
+by_answer k r answers.NoSelection = NoSelection (none_report_at (plan_of k r) r.tries) (log_text_at (plan_of k r) r.tries)
+by_answer k r (answers.Funded f) = Funded (report_of k.book r k.wallet.change (tries_at (plan_of k r) r.tries) f) (log_text_at (plan_of k r) r.tries)
 
 -- what isn't taken of a request yet: a payment to be replaced
 abbrev pub not_taken : PlainRequest → Option Cause
 not_taken r = if is_some r.bump then Some BumpNotYet else None
 
--- what isn't taken of a plan yet: a method that chooses coins
-abbrev pub not_chosen : PlainRequest → Option Cause
-not_chosen r = if is_manual r.method then None else Some PlanNotYet
-
 -- what is due for a request that replaces no payment
 unfoldable pub planned : Held → PlainRequest → Outcome
-planned k r = by_cause (plan_cause (fault_of (plan_of k r))) (by_cause (not_chosen r) (by_answer k r (answer_of (plan_of k r))))
+planned k r = by_cause (plan_cause (fault_of (plan_of k r))) (by_answer k r (outcome_at (plan_of k r) r.tries))
 
 -- ---- the files
 

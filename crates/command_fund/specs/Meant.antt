@@ -1,32 +1,28 @@
 -- What the refusal of a payment means by itself.
 use Rattle.std.specs.Prelude.{ℕ, ◌≡◌, ◌≢◌, ◌⊎◌, List, Some}
 use Rattle.block_feed.specs.Block.{ChainBlock}
-use Rattle.fund_steps.specs.Plan.{IsFault, IsPlan}
+use Rattle.fund_steps.specs.Plan.{IsFault}
 use Rattle.fund_steps.specs.declared.fault.PlanFault.TheVariants as plans
 use Rattle.request_text.specs.PlainRequest.{PlainRequest}
-use Rattle.request_text.specs.declared.request.Method.TheVariants.{Manual}
 use Rattle.wallet_text.specs.PlainWallet.{PlainWallet}
 use Rattle.fund_files.specs.Chain.{held_of}
 use Rattle.fund_files.specs.Contents.{HasChain, HasRequest}
 use Rattle.fund_files.specs.Refusals.{IsAskedMeant, IsChainMeant}
 use Rattle.command_end.specs.Names.{Sources}
-use Rattle.command_fund.specs.Cause.{Cause, Files, BumpNotYet, PlanNotYet, Plan}
+use Rattle.command_fund.specs.Cause.{Cause, Files, BumpNotYet, Plan}
 use Rattle.command_fund.specs.Due.{Refused, due_of, plan_of}
 use Rattle.command_fund.specs.Inputs.{AreInputs}
 use Rattle.command_fund.specs.Names.{Payment}
 
 -- What a cause means by itself, the files before the one that is refused being in order: a cause of the wallet file or of
 -- the block file means what it says; or both are in order, and one of the request file does; or the request replaces the
--- payment of some txid; or a plan of it keeps its rules, and its coins are to be chosen; or this keeps a plan from being
--- made, which is no want of memory.
+-- payment of some txid; or this keeps a plan from being made, which is no want of memory.
 abbrev pub IsMeant : (List ℕ → List ℕ) → Sources → Payment → Cause → Type 0
 IsMeant files s p (Files cause) =
     IsChainMeant (files s.wallet) (files s.blocks) cause
     ⊎ ((w : PlainWallet) × (blocks : List ChainBlock) × HasChain (files s.wallet) (files s.blocks) w blocks × IsAskedMeant (files p.request) cause)
 IsMeant files s p BumpNotYet =
     (w : PlainWallet) × (blocks : List ChainBlock) × (r : PlainRequest) × (txid : List ℕ) × HasChain (files s.wallet) (files s.blocks) w blocks × HasRequest (files p.request) r × (r.bump ≡ Some txid)
-IsMeant files s p PlanNotYet =
-    (w : PlainWallet) × (blocks : List ChainBlock) × (r : PlainRequest) × AreInputs files s p w blocks r × IsPlan (plan_of (held_of w blocks) r) × (r.method ≢ Manual)
 IsMeant files s p (Plan fault) =
     (w : PlainWallet) × (blocks : List ChainBlock) × (r : PlainRequest) × AreInputs files s p w blocks r × IsFault (plan_of (held_of w blocks) r) fault × (fault ≢ plans.Memory)
 

@@ -1,45 +1,98 @@
 -- How a request ends, as one of the outcomes of the files.
-use Rattle.std.specs.Prelude.{ℕ, ◌≡◌, ◌≢◌, List, string_bytes}
-use Rattle.fund_plan.specs.Answer.{Answers}
-use Rattle.fund_steps.specs.Plan.{IsFault, IsPlan}
-use Rattle.fund_plan.specs.Selection.{Selection}
+use Rattle.std.specs.Prelude.{ℕ, ◌≡◌, ◌≢◌, true, List, All, None}
+use Rattle.closing_log.specs.LogText.{IsLogText}
+use Rattle.fund_plan.specs.Answer.{ArePayments, HasSelection, IsPayment}
+use Rattle.fund_plan.specs.Claims.{Claims, IsProvedNone, IsUsedUp}
+use Rattle.fund_plan.specs.Outcome.{beginning_of, is_partial, log_at, outcome_at, stand_after, tries_at}
+use Rattle.fund_plan.specs.Selection.{PlainFunded}
+use Rattle.fund_plan.specs.State.{PlanState, end_in}
+use Rattle.fund_plan.specs.Steps.{steps_of}
+use Rattle.fund_plan.specs.declared.outcome.Outcome.{Outcome as Answer}
+use Rattle.fund_plan.specs.declared.outcome.Outcome.TheVariants as answers
+use Rattle.fund_steps.specs.Plan.{IsEligible, IsFault, IsPlan, PlainPlan}
+use Rattle.search_run.specs.Kept.{log_of}
+use Rattle.search_run.specs.Step.{AreSteps}
 use Rattle.fund_steps.specs.declared.fault.PlanFault.{PlanFault}
 use Rattle.fund_steps.specs.declared.fault.PlanFault.TheVariants as plans
-use Rattle.fund_plan.specs.declared.outcome.Outcome.TheVariants as answers
 use Rattle.psbt_codec.specs.Psbt.{IsPsbt}
 use Rattle.request_text.specs.PlainRequest.{PlainRequest}
-use Rattle.request_text.specs.declared.request.Method.TheVariants.{Manual}
 use Rattle.fund_files.specs.declared.held.Held.{Held}
 use Rattle.fund_payment.specs.Report.{psbt_of, report_of}
+use Rattle.fund_payment.specs.Shown.{ShowsCoins}
 use Rattle.command_end.specs.Names.{Sources}
-use Rattle.command_fund.specs.Cause.{Cause, Files, BumpNotYet, PlanNotYet, Plan, cause_of}
-use Rattle.command_fund.specs.Due.{Refused, NoSelection, Funded, plan_of, planned}
+use Rattle.command_fund.specs.Cause.{Cause, Files, BumpNotYet, Plan, cause_of}
+use Rattle.command_fund.specs.Due.{Refused, Unfinished, NoSelection, Funded, log_text_at, none_report_at, open_text, plan_of, planned}
 use Rattle.command_fund.specs.Names.{Payment}
-use Rattle.command_fund.specs.Statuses.{IsFunded, IsNotFunded}
+use Rattle.command_fund.specs.Statuses.{IsFunded, IsNotFunded, IsUnfinished}
 use Rattle.command_fund.specs.declared.funding.Ending.{Ending}
 use Rattle.command_fund.specs.declared.funding.Ending.TheVariants as endings
 use Rattle.command_fund.specs.declared.refusal.Refusal.TheVariants as refusals
 use Rattle.command_fund.specs.declared.refusal.Stop.{Stop}
 use Rattle.command_fund.specs.declared.refusal.Stop.TheVariants as stops
 
--- a payment of this plan, with this report
-pub record IsPaid (k : Held) (r : PlainRequest) (report : List ℕ) : Type 0 where
-  pub funded : Selection
-  pub pays : Answers (plan_of k r) (answers.Funded funded)
+-- ---- a plan
+
+-- a plan of this request, of which no try is made yet
+pub record IsNew (k : Held) (r : PlainRequest) (s : PlanState) : Type 0 where
+  pub plan : s.plan ≡ plan_of k r
+  pub stand : s.stand ≡ beginning_of s.plan
+  pub partial : s.partial ≡ None
+
+-- Where a plan stands that was granted so many tries from its beginning, and what it came to.
+pub record IsAfter (p : PlainPlan) (n : ℕ) (s : PlanState) (o : Answer) : Type 0 where
+  pub rules : IsPlan p
+  pub steps : AreSteps (steps_of p)
+  pub outcome : o ≡ outcome_at p n
+  pub pays : ArePayments p o
+  pub fits : HasSelection p.request o
+  pub tries : s.stand.past.tries ≡ tries_at p n
+  pub left : s.stand.left ≡ (stand_after p n).left
+  pub log : log_of (is_partial (end_in s)) s.stand ≡ log_at p n
+
+-- ---- how it ends
+
+-- a payment of this plan, with this report and this log
+pub record IsPaid (k : Held) (r : PlainRequest) (report log : List ℕ) : Type 0 where
+  pub funded : PlainFunded
+  pub outcome : outcome_at (plan_of k r) r.tries ≡ answers.Funded funded
+  pub pays : IsPayment (plan_of k r) funded
+  pub eligible : All (IsEligible (plan_of k r)) funded.coins
+  pub claims : Claims (plan_of k r) r.tries funded
   pub psbt : IsPsbt (psbt_of k.book r k.wallet.change funded)
-  pub reports : report ≡ report_of k.book r k.wallet.change funded
-  pub due : planned k r ≡ Funded report
+  pub shows : ShowsCoins funded.coins (psbt_of k.book r k.wallet.change funded)
+  pub reports : report ≡ report_of k.book r k.wallet.change (tries_at (plan_of k r) r.tries) funded
+  pub logs : log ≡ log_text_at (plan_of k r) r.tries
+  pub reads : IsLogText log (log_at (plan_of k r) r.tries)
+  pub ended : (log_at (plan_of k r) r.tries).ended ≡ true
+  pub due : planned k r ≡ Funded report log
+
+-- there is no selection, which this log proves
+pub record IsUnpaid (k : Held) (r : PlainRequest) (report log : List ℕ) : Type 0 where
+  pub outcome : outcome_at (plan_of k r) r.tries ≡ answers.NoSelection
+  pub none : IsProvedNone (plan_of k r) (log_at (plan_of k r) r.tries)
+  pub reports : report ≡ none_report_at (plan_of k r) r.tries
+  pub logs : log ≡ log_text_at (plan_of k r) r.tries
+  pub reads : IsLogText log (log_at (plan_of k r) r.tries)
+  pub ended : (log_at (plan_of k r) r.tries).ended ≡ true
+  pub due : planned k r ≡ NoSelection report log
+
+-- the tries are used up
+pub record IsOpen (k : Held) (r : PlainRequest) (report : List ℕ) : Type 0 where
+  pub outcome : outcome_at (plan_of k r) r.tries ≡ answers.Unfinished
+  pub used_up : IsUsedUp (plan_of k r) r.tries
+  pub reports : report ≡ open_text (tries_at (plan_of k r) r.tries) used_up.step
+  pub due : planned k r ≡ Unfinished report
 
 -- how a plan ends
 abbrev pub IsConcluded : Held → PlainRequest → Ending → Type 0
-IsConcluded k r endings.NoSelection = IsPlan (plan_of k r) × Answers (plan_of k r) answers.NoSelection × (planned k r ≡ NoSelection)
-IsConcluded k r (endings.Funded text) = IsPlan (plan_of k r) × IsPaid k r (string_bytes text)
+IsConcluded k r (endings.Unfinished report) = IsPlan (plan_of k r) × IsOpen k r report.items
+IsConcluded k r (endings.NoSelection texts) = IsPlan (plan_of k r) × IsUnpaid k r texts.report.items texts.log.items
+IsConcluded k r (endings.Funded texts) = IsPlan (plan_of k r) × IsPaid k r texts.report.items texts.log.items
 
--- the fault of a plan, or that the coins of a plan are to be chosen, as a cause
+-- the fault of a plan, as a cause
 abbrev pub MeansFault : Held → PlainRequest → Cause → Type 0
 MeansFault k r (Files cause) = ⊥
 MeansFault k r BumpNotYet = ⊥
-MeansFault k r PlanNotYet = IsPlan (plan_of k r) × (r.method ≢ Manual)
 MeansFault k r (Plan fault) = IsFault (plan_of k r) fault × (fault ≢ plans.Memory)
 
 -- the stop is the refusal that is due, or want of memory
@@ -48,12 +101,13 @@ StopsPlan k r (stops.Read file) = ⊥
 StopsPlan k r (stops.Refused refusal) = (planned k r ≡ Refused (cause_of refusal)) × MeansFault k r (cause_of refusal)
 StopsPlan k r stops.Memory = Unit {0}
 
--- the stop of a request for which no plan is made
+-- the stop of a request for which no plan is made: want of memory comes from that of the plan alone
 abbrev pub plan_stop_of : PlanFault → Stop
 plan_stop_of plans.Memory = stops.Memory
 plan_stop_of fault = stops.Refused (refusals.Plan fault)
 
 -- this is how the request of the files ends
 abbrev pub IsEnded : Type 0 → (List ℕ → List ℕ) → Sources → Payment → Ending → Type 0
-IsEnded told files s p endings.NoSelection = IsNotFunded told files s p
-IsEnded told files s p (endings.Funded text) = IsFunded told files s p (string_bytes text)
+IsEnded told files s p (endings.Unfinished report) = IsUnfinished told files s p report.items
+IsEnded told files s p (endings.NoSelection texts) = IsNotFunded told files s p texts.report.items texts.log.items
+IsEnded told files s p (endings.Funded texts) = IsFunded told files s p texts.report.items texts.log.items

@@ -1,24 +1,27 @@
 -- How a payment ends, by its status.
-use Rattle.std.specs.Prelude.{ℕ, ◌≡◌, ◌⊎◌, List, [], ◌++◌, codes}
+use Rattle.std.specs.Prelude.{ℕ, ◌≡◌, ◌⊎◌, true, List, ◌++◌, All, codes, Option, Some, None}
 use Rattle.fund_base.specs.Causes.{ShelfView, SinkView, Rose, HasPart}
 use Rattle.block_feed.specs.Block.{ChainBlock}
-use Rattle.fund_plan.specs.Answer.{Answers}
-use Rattle.fund_steps.specs.Plan.{IsPlan}
-use Rattle.fund_plan.specs.Selection.{Selection}
+use Rattle.closing_log.specs.LogText.{IsLogText}
+use Rattle.fund_plan.specs.Answer.{IsPayment}
+use Rattle.fund_plan.specs.Claims.{Claims, IsProvedNone, IsUsedUp}
+use Rattle.fund_plan.specs.Outcome.{log_at, outcome_at, tries_at}
+use Rattle.fund_plan.specs.Selection.{PlainFunded}
 use Rattle.fund_plan.specs.declared.outcome.Outcome.TheVariants as answers
+use Rattle.fund_steps.specs.Plan.{IsEligible, IsPlan}
 use Rattle.psbt_codec.specs.Psbt.{IsPsbt}
 use Rattle.request_text.specs.PlainRequest.{PlainRequest}
 use Rattle.wallet_text.specs.PlainWallet.{PlainWallet}
 use Rattle.fund_files.specs.Chain.{held_of, history_of}
 use Rattle.fund_files.specs.declared.refusal.File.{File}
-use Rattle.fund_payment.specs.Log.{log_text, none_report}
 use Rattle.fund_payment.specs.Report.{psbt_of, report_of}
+use Rattle.fund_payment.specs.Shown.{ShowsCoins}
 use Rattle.command_end.specs.Lines.{GotLine, fault_line}
 use Rattle.command_end.specs.Names.{Sources}
 use Rattle.command_end.specs.declared.status.Status.{Status}
 use Rattle.command_end.specs.declared.status.Status.TheVariants as statuses
 use Rattle.command_fund.specs.Cause.{cause_of, status_of_cause}
-use Rattle.command_fund.specs.Due.{Outcome, Refused, NoSelection, Funded, due_of, plan_of}
+use Rattle.command_fund.specs.Due.{Outcome, Refused, Unfinished, NoSelection, Funded, due_of, log_text_at, none_report_at, open_text, plan_of}
 use Rattle.command_fund.specs.Inputs.{AreInputs, IsUnread, Reaches, name_of}
 use Rattle.command_fund.specs.Meant.{IsDue}
 use Rattle.command_fund.specs.Names.{Payment}
@@ -28,56 +31,77 @@ use Rattle.command_fund.specs.declared.refusal.Refusal.{Refusal}
 -- the status of what the files come to, where nothing fails
 abbrev pub status_of : Outcome → Status
 status_of (Refused cause) = status_of_cause cause
-status_of NoSelection = statuses.NoSelection
-status_of (Funded report) = statuses.Done
+status_of (Unfinished report) = statuses.Unfinished
+status_of (NoSelection report log) = statuses.NoSelection
+status_of (Funded report log) = statuses.Done
 
--- what is printed, where nothing is refused
-abbrev pub printed_of : Outcome → List ℕ
-printed_of (Refused cause) = []
-printed_of NoSelection = none_report
-printed_of (Funded report) = report
-
--- The files come to a report.
-abbrev pub IsReported : Outcome → Type 0
-IsReported (Refused cause) = ⊥
-IsReported NoSelection = Unit {0}
-IsReported (Funded report) = Unit {0}
-
--- A wallet, blocks and a request whose listed coins pay: they are candidates that it may list, and the transaction made
--- of them pays what is asked. What a signer gets is a PSBT of version 0 (BIP 174), and the report tells of it. Where the
--- files are told, they hold this wallet, these blocks and this request.
-pub record IsFunded (told_files : Type 0) (files : List ℕ → List ℕ) (s : Sources) (p : Payment) (report : List ℕ) : Type 0 where
+-- A wallet, blocks and a request with a payment: its coins are candidates, the presets among them, and the others are of
+-- groups of the pool of the row that it names; the transaction made of them pays each recipient exactly, and at least the
+-- fee. What a signer gets is a PSBT of version 0 (BIP 174) of which each input shows the value and the script of its coin.
+-- An exhausted payment is proved to be the best, by the log. The report and the log tell of it; the log's bytes are a
+-- text of it, which says that it is ended. Where the files are told, they hold this wallet, these blocks and this request.
+pub record IsFunded (told_files : Type 0) (files : List ℕ → List ℕ) (s : Sources) (p : Payment) (report log : List ℕ) : Type 0 where
   pub wallet : PlainWallet
   pub blocks : List ChainBlock
   pub asked : PlainRequest
-  pub funded : Selection
+  pub funded : PlainFunded
   pub inputs : told_files → AreInputs files s p wallet blocks asked
   pub plan : IsPlan (plan_of (held_of wallet blocks) asked)
-  pub pays : Answers (plan_of (held_of wallet blocks) asked) (answers.Funded funded)
+  pub outcome : outcome_at (plan_of (held_of wallet blocks) asked) asked.tries ≡ answers.Funded funded
+  pub pays : IsPayment (plan_of (held_of wallet blocks) asked) funded
+  pub eligible : All (IsEligible (plan_of (held_of wallet blocks) asked)) funded.coins
+  pub claims : Claims (plan_of (held_of wallet blocks) asked) asked.tries funded
   pub psbt : IsPsbt (psbt_of (history_of wallet blocks) asked wallet.change funded)
-  pub reports : report ≡ report_of (history_of wallet blocks) asked wallet.change funded
-  pub comes_to : told_files → due_of files s p ≡ Funded report
+  pub shows : ShowsCoins funded.coins (psbt_of (history_of wallet blocks) asked wallet.change funded)
+  pub reports : report ≡ report_of (history_of wallet blocks) asked wallet.change (tries_at (plan_of (held_of wallet blocks) asked) asked.tries) funded
+  pub logs : log ≡ log_text_at (plan_of (held_of wallet blocks) asked) asked.tries
+  pub reads : IsLogText log (log_at (plan_of (held_of wallet blocks) asked) asked.tries)
+  pub ended : (log_at (plan_of (held_of wallet blocks) asked) asked.tries).ended ≡ true
+  pub comes_to : told_files → due_of files s p ≡ Funded report log
 
--- A wallet, blocks and a request whose listed coins are candidates that it may list, but no transaction pays from them
--- what is asked. Where the files are told, they hold this wallet, these blocks and this request.
-pub record IsNotFunded (told_files : Type 0) (files : List ℕ → List ℕ) (s : Sources) (p : Payment) : Type 0 where
+-- A wallet, blocks and a request for which there is no selection, which the log proves. The log's bytes are a text of it,
+-- which says that it is ended. Where the files are told, they hold this wallet, these blocks and this request.
+pub record IsNotFunded (told_files : Type 0) (files : List ℕ → List ℕ) (s : Sources) (p : Payment) (report log : List ℕ) : Type 0 where
   pub wallet : PlainWallet
   pub blocks : List ChainBlock
   pub asked : PlainRequest
   pub inputs : told_files → AreInputs files s p wallet blocks asked
   pub plan : IsPlan (plan_of (held_of wallet blocks) asked)
-  pub pays_not : Answers (plan_of (held_of wallet blocks) asked) answers.NoSelection
-  pub comes_to : told_files → due_of files s p ≡ NoSelection
+  pub outcome : outcome_at (plan_of (held_of wallet blocks) asked) asked.tries ≡ answers.NoSelection
+  pub none : IsProvedNone (plan_of (held_of wallet blocks) asked) (log_at (plan_of (held_of wallet blocks) asked) asked.tries)
+  pub reports : report ≡ none_report_at (plan_of (held_of wallet blocks) asked) asked.tries
+  pub logs : log ≡ log_text_at (plan_of (held_of wallet blocks) asked) asked.tries
+  pub reads : IsLogText log (log_at (plan_of (held_of wallet blocks) asked) asked.tries)
+  pub ended : (log_at (plan_of (held_of wallet blocks) asked) asked.tries).ended ≡ true
+  pub comes_to : told_files → due_of files s p ≡ NoSelection report log
 
--- done: the log is written, and behind what was in the sink stands the report of a payment
+-- A wallet, blocks and a request whose tries are used up while a search is open. Where the files are told, they hold this
+-- wallet, these blocks and this request.
+pub record IsUnfinished (told_files : Type 0) (files : List ℕ → List ℕ) (s : Sources) (p : Payment) (report : List ℕ) : Type 0 where
+  pub wallet : PlainWallet
+  pub blocks : List ChainBlock
+  pub asked : PlainRequest
+  pub inputs : told_files → AreInputs files s p wallet blocks asked
+  pub plan : IsPlan (plan_of (held_of wallet blocks) asked)
+  pub outcome : outcome_at (plan_of (held_of wallet blocks) asked) asked.tries ≡ answers.Unfinished
+  pub used_up : IsUsedUp (plan_of (held_of wallet blocks) asked) asked.tries
+  pub reports : report ≡ open_text (tries_at (plan_of (held_of wallet blocks) asked) asked.tries) used_up.step
+  pub comes_to : told_files → due_of files s p ≡ Unfinished report
+
+-- done: the log is written, and after what was in the sink stands the report of a payment
 abbrev pub EndsFunded : Type 0 → Type 0 → Sources → Payment → ShelfView → ShelfView → SinkView → SinkView → Type 0
 EndsFunded told_files told s p shelf shelf' sink sink' =
-    (report : List ℕ) × IsFunded told_files shelf.files s p report × (told_files → shelf'.files p.log ≡ log_text) × (told → sink'.written ≡ sink.written ++ report)
+    (report : List ℕ) × (log : List ℕ) × IsFunded told_files shelf.files s p report log × (told_files → shelf'.files p.log ≡ log) × (told → sink'.written ≡ sink.written ++ report)
 
--- no selection: the log is written, and behind what was in the sink stands the report of none
+-- no selection: the log is written, and after what was in the sink stands the report of none
 abbrev pub EndsNotFunded : Type 0 → Type 0 → Sources → Payment → ShelfView → ShelfView → SinkView → SinkView → Type 0
 EndsNotFunded told_files told s p shelf shelf' sink sink' =
-    IsNotFunded told_files shelf.files s p × (told_files → shelf'.files p.log ≡ log_text) × (told → sink'.written ≡ sink.written ++ none_report)
+    (report : List ℕ) × (log : List ℕ) × IsNotFunded told_files shelf.files s p report log × (told_files → shelf'.files p.log ≡ log) × (told → sink'.written ≡ sink.written ++ report)
+
+-- unfinished: no file is written, and after what was in the sink stands the report of the open search
+abbrev pub EndsUnfinished : Type 0 → Type 0 → Sources → Payment → ShelfView → ShelfView → SinkView → SinkView → Type 0
+EndsUnfinished told_files told s p shelf shelf' sink sink' =
+    (report : List ℕ) × IsUnfinished told_files shelf.files s p report × (told_files → shelf'.files ≡ shelf.files) × (told → sink'.written ≡ sink.written ++ report)
 
 -- A refusal of this status, whose cause the files come to where they are told, with its line.
 abbrev pub EndsRefused : Status → Type 0 → Type 0 → Sources → Payment → ShelfView → SinkView → SinkView → Type 0
@@ -90,31 +114,43 @@ EndsUnread told_files told s p shelf shelf' sink sink' =
     (file : File) × IsUnread s p file shelf shelf' × (told_files → Reaches shelf.files s file)
     × (told → GotLine (fault_line (codes "read " ++ name_of s p file)) sink sink')
 
--- the sink has got a part of what is due
-abbrev pub HasDue : Type 0 → Type 0 → Sources → Payment → ShelfView → SinkView → SinkView → Type 0
-HasDue told_files told s p shelf sink sink' = told_files → told → HasPart sink.written (printed_of (due_of shelf.files s p)) sink'.written
+-- this is a report, and the log that is written before it, if one is
+abbrev pub IsReport : Type 0 → (List ℕ → List ℕ) → Sources → Payment → List ℕ → Option (List ℕ) → Type 0
+IsReport told_files files s p report (Some log) = IsFunded told_files files s p report log ⊎ IsNotFunded told_files files s p report log
+IsReport told_files files s p report None = IsUnfinished told_files files s p report
 
--- Nothing is refused. The log wasn't written, and the line names it; or it was, and the sink failed and has got a part of
--- what is due.
+-- the log is written, or none is and no file has changed
+abbrev pub IsLogged : Payment → Option (List ℕ) → ShelfView → ShelfView → Type 0
+IsLogged p (Some log) shelf shelf' = shelf'.files p.log ≡ log
+IsLogged p None shelf shelf' = shelf'.files ≡ shelf.files
+
+-- a log was to be written, and wasn't
+abbrev pub IsLogLost : Payment → Option (List ℕ) → ShelfView → ShelfView → Type 0
+IsLogLost p (Some log) shelf shelf' = Rose (shelf.writes p.log) (shelf'.writes p.log)
+IsLogLost p None shelf shelf' = ⊥
+
+-- Nothing is refused. The log wasn't written, and the line names it; or it was, or none is due, and the sink failed and has
+-- got a part of the report.
 abbrev pub EndsUnwritten : Type 0 → Type 0 → Sources → Payment → ShelfView → ShelfView → SinkView → SinkView → Type 0
 EndsUnwritten told_files told s p shelf shelf' sink sink' =
-    (told_files → IsReported (due_of shelf.files s p))
-    × ((Rose (shelf.writes p.log) (shelf'.writes p.log) × (told → GotLine (fault_line (codes "write " ++ p.log)) sink sink'))
-    ⊎ (Rose sink.faults sink'.faults × (told_files → shelf'.files p.log ≡ log_text) × HasDue told_files told s p shelf sink sink'))
+    (report : List ℕ) × (log : Option (List ℕ)) × IsReport told_files shelf.files s p report log
+    × ((IsLogLost p log shelf shelf' × (told → GotLine (fault_line (codes "write " ++ p.log)) sink sink'))
+    ⊎ (Rose sink.faults sink'.faults × (told_files → IsLogged p log shelf shelf') × (told → HasPart sink.written report sink'.written)))
 
 -- There was not enough memory, and the line says so, the log being as before or its write having failed; or the log
--- was written, and the sink found no memory and has got a part of what is due.
+-- was written, or none is due, and the sink found no memory and has got a part of the report.
 abbrev pub EndsWithoutMemory : Type 0 → Type 0 → Sources → Payment → ShelfView → ShelfView → SinkView → SinkView → Type 0
 EndsWithoutMemory told_files told s p shelf shelf' sink sink' =
     ((told → GotLine (fault_line (codes "memory")) sink sink')
-    × (told_files → (shelf'.files ≡ shelf.files) ⊎ (IsReported (due_of shelf.files s p) × Rose (shelf.writes p.log) (shelf'.writes p.log))))
-    ⊎ (Rose sink.refusals sink'.refusals × (told_files → IsReported (due_of shelf.files s p)) × (told_files → shelf'.files p.log ≡ log_text)
-    × HasDue told_files told s p shelf sink sink')
+    × (told_files → (shelf'.files ≡ shelf.files) ⊎ ((report : List ℕ) × (log : Option (List ℕ)) × IsReport told_files shelf.files s p report log × IsLogLost p log shelf shelf')))
+    ⊎ ((report : List ℕ) × (log : Option (List ℕ)) × IsReport told_files shelf.files s p report log
+    × Rose sink.refusals sink'.refusals × (told_files → IsLogged p log shelf shelf') × (told → HasPart sink.written report sink'.written))
 
 -- by the status
 abbrev pub Ends : Type 0 → Type 0 → Sources → Payment → ShelfView → ShelfView → SinkView → SinkView → Status → Type 0
 Ends told_files told s p shelf shelf' sink sink' statuses.Done = EndsFunded told_files told s p shelf shelf' sink sink'
 Ends told_files told s p shelf shelf' sink sink' statuses.NoSelection = EndsNotFunded told_files told s p shelf shelf' sink sink'
+Ends told_files told s p shelf shelf' sink sink' statuses.Unfinished = EndsUnfinished told_files told s p shelf shelf' sink sink'
 Ends told_files told s p shelf shelf' sink sink' statuses.Usage = ⊥
 Ends told_files told s p shelf shelf' sink sink' statuses.Input = EndsRefused statuses.Input told_files told s p shelf sink sink'
 Ends told_files told s p shelf shelf' sink sink' statuses.Limit = EndsRefused statuses.Limit told_files told s p shelf sink sink'
@@ -128,6 +164,7 @@ IsBeforeTheLog statuses.Usage = Unit {0}
 IsBeforeTheLog statuses.Input = Unit {0}
 IsBeforeTheLog statuses.ReadFault = Unit {0}
 IsBeforeTheLog statuses.Limit = Unit {0}
+IsBeforeTheLog statuses.Unfinished = Unit {0}
 IsBeforeTheLog statuses.Done = ⊥
 IsBeforeTheLog statuses.NoSelection = ⊥
 IsBeforeTheLog statuses.WriteFault = ⊥

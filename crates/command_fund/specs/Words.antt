@@ -19,7 +19,6 @@ use Rattle.command_fund.specs.declared.refusal.Stop.TheVariants as stops
 unfoldable pub refusal_words : Refusal → List ℕ
 refusal_words (refusals.Files refusal) = file_refusal_words refusal
 refusal_words refusals.BumpNotYet = codes "input bump NotYet"
-refusal_words refusals.PlanNotYet = codes "input plan NotYet"
 refusal_words (refusals.Plan fault) = plan_fault_words fault
 
 -- the answer to a stop

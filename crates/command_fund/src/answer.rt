@@ -28,7 +28,6 @@ fn refusal_words(alloc: Global, refusal: &Refusal) -> Result<String, Memory>
     match refusal {
         Refusal::Files(refusal) => file_refusal_words(alloc, refusal),
         Refusal::BumpNotYet => Ok(format!(in alloc; "input bump NotYet")?),
-        Refusal::PlanNotYet => Ok(format!(in alloc; "input plan NotYet")?),
         Refusal::Plan(fault) => plan_fault_words(alloc, fault),
     }
 }

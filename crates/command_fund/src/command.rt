@@ -13,9 +13,8 @@ use crate::funding::{Ending, conclude};
 use crate::inputs::{Inputs, read_inputs};
 use crate::names::Payment;
 use crate::refusal::Stop;
-use command_end::{Sources, Status, finish};
+use command_end::{Sources, Status, finish, put_report};
 use fund_base::{Shelf, Sink};
-use fund_payment::{log_text, none_report};
 use std::alloc::Global;
 
 /// How a payment ends whose files are read, or why the command stops.
@@ -33,8 +32,8 @@ fn outcome<H: Shelf>(
     conclude(alloc, &held, &request)
 }
 
-/// Funds a payment from the coins that its request lists: it reads the three files, writes the log, and then prints the
-/// report to `out`. What is refused gets its fault line there.
+/// Funds a payment with the request's tries: it reads the three files, writes the log, and then prints the report to `out`.
+/// Where the tries are used up while a search is open, it writes no log. What is refused gets its fault line there.
 ///
 /// The clauses on content hold where the shelf and the sink tell theirs.
 pub fn fund<H: Shelf, O: Sink>(
@@ -57,23 +56,24 @@ pub fn fund<H: Shelf, O: Sink>(
     ensures counts { CountsNeverFall (O.view out.old) (O.view out.new) }
 {
     match outcome(alloc, sources, payment, shelf) {
-        Ok(Ending::NoSelection) => {
+        Ok(Ending::Unfinished(report)) => put_report(&report, Status::Unfinished, out),
+        Ok(Ending::NoSelection(texts)) => {
             finish(
                 alloc,
                 payment.log,
-                log_text(),
-                none_report(),
+                &texts.log,
+                &texts.report,
                 Status::NoSelection,
                 shelf,
                 out,
             )
         }
-        Ok(Ending::Funded(report)) => {
+        Ok(Ending::Funded(texts)) => {
             finish(
                 alloc,
                 payment.log,
-                log_text(),
-                report.as_bytes(),
+                &texts.log,
+                &texts.report,
                 Status::Done,
                 shelf,
                 out,

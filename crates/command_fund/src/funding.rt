@@ -1,79 +1,180 @@
 //! How a request ends whose files are read.
 
-ghost use Rattle.std.specs.Prelude.{◌≡◌, None, IfErr, IfOk};
+ghost use Rattle.std.specs.Prelude.{◌≡◌, ◌≢◌, [], All, Contains, None, IfErr, IfOk};
+ghost use Rattle.closing_log.specs.LogText.{text_of as log_text_of};
+ghost use Rattle.fund_plan.specs.Answer.{IsSelection};
+ghost use Rattle.fund_plan.specs.Outcome.{is_partial};
+ghost use Rattle.fund_plan.specs.State.{end_in};
+ghost use Rattle.search_run.specs.Kept.{log_of};
+ghost use Rattle.psbt_codec.specs.Psbt.{IsPsbt};
 ghost use Rattle.fund_files.specs.Chain.{IsHeld};
-ghost use Rattle.command_fund.specs.Due.{is_manual, not_taken, plan_of};
-ghost use Rattle.command_fund.specs.PlanEnds.{IsConcluded, StopsPlan, plan_stop_of};
+ghost use Rattle.fund_payment.specs.Report.{psbt_of, report_of};
+ghost use Rattle.fund_payment.specs.Shown.{ShowsCoins};
+ghost use Rattle.command_fund.specs.Due.{candidates_in, none_report, not_taken, open_report, plan_of};
+ghost use Rattle.command_fund.specs.PlanEnds.{IsAfter, IsConcluded, IsNew, StopsPlan};
 
-use crate::refusal::{Refusal, Stop};
+use crate::refusal::Stop;
+use closing_log::write_sections;
 use fund_base::Memory;
 use fund_files::Held;
 use fund_payment::payment_report;
-use fund_plan::{Outcome, Plan};
-use fund_steps::PlanFault;
-use request_text::{Method, Request};
+use fund_plan::{Funded, Outcome, Plan};
+use fund_report::{Report, write_report};
+use request_text::Request;
 use std::alloc::Global;
+
+/// What is printed, and what is written before it.
+#[derive(Debug, Drop)]
+pub struct Texts {
+    pub report: Vec<u8>,
+    pub log: Vec<u8>,
+}
 
 /// How a request ends that isn't refused.
 #[derive(Debug, Drop)]
 pub enum Ending {
+    /// The tries are used up, and a search is open. Here is its report.
+    Unfinished(Vec<u8>),
     /// Nothing pays for what is asked.
-    NoSelection,
+    NoSelection(Texts),
     /// A payment, with its report.
-    Funded(String),
+    Funded(Texts),
 }
 
-/// Why no plan is made, as a stop.
-fn plan_stop(fault: PlanFault) -> Stop
-    ensures { result ≡ plan_stop_of fault }
-{
-    match fault {
-        PlanFault::Memory => Stop::Memory,
-        _ => Stop::Refused(Refusal::Plan(fault)),
-    }
+/// A plan behind its tries, and what it came to.
+#[derive(Drop)]
+struct Run {
+    plan: Plan,
+    outcome: Outcome,
 }
 
-/// Whether exactly the listed coins are to be spent.
-fn is_manual(method: Method) -> bool
-    ensures { result ≡ is_manual method }
-{
-    matches!(method, Method::Manual)
-}
-
-/// The plan of the request.
+/// The plan of the request, of which no try is made yet.
 fn plan(alloc: Global, held: &Held, request: &Request) -> Result<Plan, Stop>
     requires held { IsHeld held.now }
     requires taken { not_taken request.now ≡ None }
-    ensures plan { IfOk result (λ p. p ≡ plan_of held.now request.now) }
+    ensures plan { IfOk result (IsNew held.now request.now) }
     ensures stop { IfErr result (StopsPlan held.now request.now) }
 {
-    let Ok((_, coins)) = held.states_and_coins(alloc) else {
-        return Err(Stop::Memory);
-    };
-    match Plan::new(alloc, request, &held.wallet.change, coins) {
-        Ok(plan) => Ok(plan),
-        Err(fault) => Err(plan_stop(fault)),
+    let (_, coins) = held.states_and_coins(alloc)?;
+    let plan = Plan::new(alloc, request, &held.wallet.change, coins)?;
+    Ok(plan)
+}
+
+/// A run of the request's plan, with the request's tries.
+fn run_plan(alloc: Global, held: &Held, request: &Request) -> Result<Run, Stop>
+    requires held { IsHeld held.now }
+    requires taken { not_taken request.now ≡ None }
+    ensures run { IfOk result (λ r. IsAfter (plan_of held.now request.now) request.now.tries r.plan r.outcome) }
+    ensures stop { IfErr result (StopsPlan held.now request.now) }
+{
+    let mut plan = plan(alloc, held, request)?;
+    plan.keeps_rules();
+    plan.keeps_steps();
+    let outcome = plan.go(request.tries)?;
+    Ok(Run { plan, outcome })
+}
+
+/// The text of a plan's log. The error is out of memory.
+fn log_text(alloc: Global, plan: &Plan) -> Result<Vec<u8>, Memory>
+    ensures { IfOk result (λ text. text.items ≡ log_text_of (log_of (is_partial (end_in plan.now)) plan.now.stand)) }
+{
+    let log = plan.log()?;
+    let text = write_sections(alloc, &log)?;
+    Ok(text)
+}
+
+/// The report of a run that goes on. The error is out of memory.
+fn open_report(alloc: Global, plan: &Plan) -> Result<Vec<u8>, Memory>
+    requires { plan.now.stand.left ≢ [] }
+    ensures { IfOk result (λ text. text.items ≡ open_report plan.now.stand.past.tries plan.now.stand.left) }
+{
+    let tries = plan.tries();
+    match plan.place() {
+        Some(place) => {
+            let report = Report::Unfinished {
+                tries,
+                row: place.row,
+                stage: place.stage,
+            };
+            let text = write_report(alloc, &report)?;
+            Ok(text)
+        }
+        None => unreachable!(),
     }
 }
 
-/// How the request of a wallet ends, or its refusal.
+/// The report where nothing pays. The error is out of memory.
+fn none_report(alloc: Global, plan: &Plan) -> Result<Vec<u8>, Memory>
+    ensures { IfOk result (λ text. text.items ≡ none_report plan.now.stand.past.tries) }
+{
+    let report = Report::NoSelection {
+        tries: plan.tries(),
+    };
+    let text = write_report(alloc, &report)?;
+    Ok(text)
+}
+
+/// What is printed and written where nothing pays. The error is out of memory.
+fn none_texts(alloc: Global, plan: &Plan) -> Result<Texts, Memory>
+    ensures report { IfOk result (λ t. t.report.items ≡ none_report plan.now.stand.past.tries) }
+    ensures log { IfOk result (λ t. t.log.items ≡ log_text_of (log_of (is_partial (end_in plan.now)) plan.now.stand)) }
+{
+    let report = none_report(alloc, plan)?;
+    let log = log_text(alloc, plan)?;
+    Ok(Texts { report, log })
+}
+
+/// What is printed and written of a payment. The error is out of memory.
+fn paid_texts(
+    alloc: Global,
+    held: &Held,
+    request: &Request,
+    plan: &Plan,
+    funded: &Funded,
+) -> Result<Texts, Memory>
+    requires held { IsHeld held.now }
+    requires funded { IsSelection request.now funded.now }
+    requires coins { All (Contains (candidates_in held.now)) funded.now.coins }
+    ensures report { IfOk result (λ t. t.report.items ≡ report_of held.now.book request.now held.now.wallet.change plan.now.stand.past.tries funded.now) }
+    ensures fits { IfOk result (λ _. IsPsbt (psbt_of held.now.book request.now held.now.wallet.change funded.now)) }
+    ensures shows { IfOk result (λ _. ShowsCoins funded.now.coins (psbt_of held.now.book request.now held.now.wallet.change funded.now)) }
+    ensures log { IfOk result (λ t. t.log.items ≡ log_text_of (log_of (is_partial (end_in plan.now)) plan.now.stand)) }
+{
+    let report = payment_report(alloc, held, request, funded, plan.tries())?;
+    let log = log_text(alloc, plan)?;
+    Ok(Texts { report, log })
+}
+
+/// How a request ends after this run of its plan. The error is out of memory.
+fn ends(alloc: Global, held: &Held, request: &Request, run: &Run) -> Result<Ending, Memory>
+    requires held { IsHeld held.now }
+    requires run { IsAfter (plan_of held.now request.now) request.now.tries run.now.plan run.now.outcome }
+    ensures { IfOk result (IsConcluded held.now request.now) }
+{
+    match &run.outcome {
+        Outcome::Unfinished => {
+            let report = open_report(alloc, &run.plan)?;
+            Ok(Ending::Unfinished(report))
+        }
+        Outcome::NoSelection => {
+            let texts = none_texts(alloc, &run.plan)?;
+            Ok(Ending::NoSelection(texts))
+        }
+        Outcome::Funded(funded) => {
+            let texts = paid_texts(alloc, held, request, &run.plan, funded)?;
+            Ok(Ending::Funded(texts))
+        }
+    }
+}
+
+/// How the request of a wallet ends, or its refusal: a run of its plan with the request's tries.
 pub fn conclude(alloc: Global, held: &Held, request: &Request) -> Result<Ending, Stop>
     requires held { IsHeld held.now }
     requires taken { not_taken request.now ≡ None }
     ensures ends { IfOk result (IsConcluded held.now request.now) }
     ensures stop { IfErr result (StopsPlan held.now request.now) }
 {
-    let plan = plan(alloc, held, request)?;
-    plan.keeps_rules();
-    if !is_manual(request.method) {
-        return Err(Stop::Refused(Refusal::PlanNotYet));
-    }
-    match plan.go() {
-        Ok(Outcome::NoSelection) => Ok(Ending::NoSelection),
-        Ok(Outcome::Funded(funded)) => match payment_report(alloc, held, request, &funded) {
-            Ok(text) => Ok(Ending::Funded(text)),
-            Err(Memory) => Err(Stop::Memory),
-        },
-        Err(Memory) => Err(Stop::Memory),
-    }
+    let run = run_plan(alloc, held, request)?;
+    let ending = ends(alloc, held, request, &run)?;
+    Ok(ending)
 }

@@ -2,6 +2,7 @@
 
 ghost use Rattle.std.specs.Prelude.{◌≡◌};
 
+use fund_base::Memory;
 use fund_files::{File, FileRefusal, Stop as FileStop};
 use fund_steps::PlanFault;
 
@@ -12,8 +13,6 @@ pub enum Refusal {
     Files(FileRefusal),
     /// A payment is to be replaced. That isn't taken yet.
     BumpNotYet,
-    /// The coins are to be chosen. That isn't taken yet.
-    PlanNotYet,
     /// No plan is made of the request.
     Plan(PlanFault),
 }
@@ -40,5 +39,28 @@ impl From<FileStop> for Stop {
             FileStop::Refused(refusal) => Stop::Refused(Refusal::Files(refusal)),
             FileStop::Memory => Stop::Memory,
         }
+    }
+}
+
+impl From<PlanFault> for Stop {
+    ghost use Rattle.command_fund.specs.PlanEnds.{plan_stop_of};
+
+    ghost from_gives = { λ fault stop. stop ≡ plan_stop_of fault };
+
+    fn from(fault: PlanFault) -> Stop {
+        match fault {
+            PlanFault::Memory => Stop::Memory,
+            _ => Stop::Refused(Refusal::Plan(fault)),
+        }
+    }
+}
+
+impl From<Memory> for Stop {
+    ghost use Rattle.command_fund.specs.declared.refusal.Stop.TheVariants as stops;
+
+    ghost from_gives = { λ memory stop. stop ≡ stops.Memory };
+
+    fn from(_memory: Memory) -> Stop {
+        Stop::Memory
     }
 }

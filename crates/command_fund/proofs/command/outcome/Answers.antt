@@ -1,4 +1,3 @@
-use Rattle.std.proofs.Common.{◌≡◌}
 use Rattle.command_end.specs.Names.{plain_sources}
 use Rattle.command_fund.specs.Names.{plain_payment}
 use Rattle.command_fund.proofs.PlanLaws.{if_ends, if_stops}

@@ -1,11 +1,9 @@
-use Rattle.std.proofs.Common.{◌≡◌, ◌∙◌, Option, Some, ap, sym}
-use Rattle.std.specs.Prelude.{option_map}
+use Rattle.std.proofs.Common.{sym}
 use Rattle.std.proofs.lemmas.Result.{err_from_is_err_and}
 use Rattle.fund_files.proofs.FrameLaws.{only_reads_on}
 use Rattle.command_end.specs.Names.{plain_sources}
 use Rattle.command_fund.specs.Cause.{cause_of}
 use Rattle.command_fund.specs.Names.{plain_payment}
-use Rattle.command_fund.specs.declared.refusal.Refusal.{Refusal}
 use Rattle.command_fund.proofs.InputLaws.{asked_is, asked_stops, chain_stops, taken_stops}
 use Rattle.command_fund.proofs.inputs.read_inputs.Goals as goal
 
