@@ -18,3 +18,4 @@ pub mod SignedLaws
 pub mod SpendLaws
 pub mod TextLaws
 pub mod WeightLaws
+pub mod WorthLaws

@@ -1,10 +1,11 @@
 -- What it means that a transaction pays what is asked, from given coins.
-use Rattle.std.specs.Prelude.{ℕ, ◌≡◌, ◌+◌, ◌-◌, ◌*◌, ◌≤◌, List, [], ◌∷◌, ◌++◌, map, sum_by, false, Bool, Option, Some, None, IfSome, if◌then◌else◌}
+use Rattle.std.specs.Prelude.{ℕ, ◌≡◌, ◌+◌, ◌-◌, ◌*◌, ◌≤◌, ◌<◌, List, [], ◌∷◌, ◌++◌, map, sum_by, false, Bool, Option, Some, None, IfSome, if◌then◌else◌}
 use Rattle.fund_base.specs.declared.candidate.Candidate.{Candidate}
 use Rattle.tx_codec.specs.declared.tx.TxIn.{TxIn}
 use Rattle.tx_codec.specs.declared.tx.TxOut.{TxOut}
 use Rattle.tx_codec.specs.Transaction.{Transaction}
-use Rattle.fee_rates.specs.Fee.{fee_of, vsize_of}
+use Rattle.fee_rates.specs.Fee.{fee_of, input_fee_of, vsize_of}
+use Rattle.fee_rates.specs.Output.{dust_of}
 use Rattle.fee_rates.specs.Terms.{base_of, change_fee_of, change_least_of}
 use Rattle.fee_rates.specs.declared.terms.Load.{Load}
 use Rattle.request_text.specs.PlainRequest.{PlainRequest, paid_to}
@@ -58,6 +59,12 @@ Balances r l coins None inputs outputs =
     (due_of r.rate l coins outputs ≤ inputs)
     × (inputs + 1 ≤ due_of r.rate l coins outputs + change_fee_of (rates_of r) l + change_least_of (rates_of r) l)
 Balances r l coins (Some amount) inputs outputs = inputs ≡ due_of r.rate l coins outputs + change_fee_of (rates_of r) l
+
+-- a change that is worth making: it is no dust for its script (Bitcoin Core, `GetDustThreshold`), and more than the fee of
+-- spending it at the discard rate
+pub record IsWorthIt (r : PlainRequest) (change : Watch) (n : ℕ) : Type 0 where
+  pub dust : dust_of change.script ≤ n
+  pub spending : input_fee_of r.discard change.weight < n
 
 -- The transaction spends the coins and pays what is asked, the rest to the change script or to the fee. The load is what
 -- the payment is to carry.

@@ -1,7 +1,8 @@
 //! What the definitions of a plan's outcome come to.
 
-ghost use Rattle.std.specs.Prelude.{◌≡◌, ◌≤◌, ◌<◌, ◌+◌, ◌+ℤ◌, ◌↔◌, ℕ, [], All, Contains, None, Some, length, sum_by, true};
+ghost use Rattle.std.specs.Prelude.{◌≡◌, ◌≤◌, ◌<◌, ◌+◌, ◌+ℤ◌, ◌↔◌, ℕ, [], All, Contains, IfSome, IsTrue, None, Some, length, sum_by, true};
 ghost use Rattle.closing_log.specs.declared.mark.Mark.{Mark};
+ghost use Rattle.tx_codec.specs.Signals.{Signals};
 ghost use Rattle.tx_codec.specs.Transaction.{Transaction};
 ghost use Rattle.tx_codec.specs.TransactionText.{IsTransaction};
 ghost use Rattle.tx_codec.specs.Weight.{weight_of};
@@ -22,7 +23,7 @@ ghost use Rattle.fund_plan.specs.Chosen.{funded_at, load_for, row_of};
 ghost use Rattle.fund_plan.specs.Claims.{BringAll, Claims, IsProvedNone, IsUsedUp};
 ghost use Rattle.fund_plan.specs.Figures.{AddUp, cost_of, figures_of};
 ghost use Rattle.fund_plan.specs.Outcome.{IsAnswerOf, beginning_of, given_of, is_partial, log_at, outcome_at, stand_after, tries_at};
-ghost use Rattle.fund_plan.specs.Pays.{payment_of, payment_weight};
+ghost use Rattle.fund_plan.specs.Pays.{IsWorthIt, payment_of, payment_weight};
 ghost use Rattle.fund_plan.specs.Selection.{PlainFunded};
 ghost use Rattle.fund_plan.specs.State.{GoesOnFrom, IsCutShort, PlanState, end_in, moved, told};
 ghost use Rattle.fund_plan.specs.Steps.{is_given, problem_at, steps_of};
@@ -75,6 +76,18 @@ pub fn payments_spend_eligible_coins()
 /// change's spending costs. A call does nothing.
 pub fn figures_add_up()
     ensures { (p : PlainPlan) (f : PlainFunded) → IsPayment p f → AddUp p.request p.change (load_for p f.row) f (figures_of p.request f) }
+{}
+
+/// A payment's change is worth making: it is no dust for the change script, and more than spending it costs at the discard
+/// rate. A call does nothing.
+pub fn change_is_worth_making()
+    ensures { (p : PlainPlan) (f : PlainFunded) → IsPayment p f → IfSome f.change (IsWorthIt p.request p.change) }
+{}
+
+/// A payment from a coin at least signals that it may be replaced (BIP 125, 'Summary') exactly where the request asks for
+/// that. A call does nothing.
+pub fn payments_signal_as_asked()
+    ensures { (r : PlainRequest) (change : Watch) (f : PlainFunded) → 0 < length f.coins → (Signals (payment_of r change f) ↔ IsTrue r.replaceable) }
 {}
 
 /// That the weight of a payment is that of its text with marker and flag, the declared weights of its inputs standing in
