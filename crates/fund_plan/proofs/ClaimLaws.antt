@@ -1,131 +1,37 @@
 -- What an outcome claims follows from the run that came to it.
-use Rattle.std.specs.Prelude.{ℕ, pos, ◌≡◌, ◌≤◌, ◌<◌, ◌+◌, ◌-◌, ◌-ℤ◌, ◌⊎◌, ◌↔◌, if◌then◌else◌, ◌==◌, ◌++◌, int_le, min, not, Bool, true, false, cond, length, List, [], ◌∷◌, Contains, Option, Some, None}
-use Rattle.std.specs.Int.{int_max}
+use Rattle.std.specs.Prelude.{ℕ, ◌≡◌, ◌⊎◌, min, Bool, true, false, cond, List, [], ◌∷◌, Option, Some, None}
 use Rattle.std.specs.List.{AllByRecursion}
 use Rattle.std.proofs.Common.{refl, sym, ap, subst, ◌∙◌, arith, inl, inr}
-use Rattle.std.proofs.lemmas.Bool.{and_from, and_parts, eqb-true}
-use Rattle.std.proofs.lemmas.Int.{ints}
-use Rattle.std.proofs.lemmas.List.Elements.{Contains-append_left, Contains-append_right}
-use Rattle.fund_base.proofs.Lists.{in_tail}
-use Rattle.output_groups.proofs.Members.{head_in}
-use Rattle.output_groups.specs.declared.rows.Row.{Row}
 use Rattle.closing_log.specs.Log.{PlainLog}
-use Rattle.closing_log.specs.declared.log.Stage.{Stage}
 use Rattle.closing_log.specs.declared.mark.Mark.{Mark}
 use Rattle.closing_log.specs.declared.mark.Mark.TheVariants as mark
-use Rattle.pick_problem.specs.Best.{IsBest}
-use Rattle.pick_problem.specs.Problem.{PlainProblem}
-use Rattle.random_draw.specs.Draw.{draw_of}
 use Rattle.search_run.proofs.ChoiceLaws.{is_taken, none_taken}
 use Rattle.search_run.proofs.MadeLaws.{kept_begins, kept_stands_on, run_answers}
 use Rattle.search_run.proofs.ResultLaws.{ends_of}
 use Rattle.search_run.proofs.RunLaws.{all_tries}
 use Rattle.search_run.proofs.SearchedLaws.{all_sections, answered_sections}
-use Rattle.search_run.specs.Answer.{AreResults, HasNone, IsAnswer, IsFirstTaken, IsResult, IsResultBy}
-use Rattle.search_run.specs.Found.{IsResultOf, PlainFound, found_at, taken}
+use Rattle.search_run.specs.Answer.{HasNone, IsAnswer, IsFirstTaken}
+use Rattle.search_run.specs.Found.{IsResultOf, PlainFound, taken}
 use Rattle.search_run.specs.Kept.{is_over, log_of, tail_of}
 use Rattle.search_run.specs.Run.{Stand, at_hand, beginning, end_by, or_unfinished, run}
 use Rattle.search_run.specs.Stands.{IsEndOf}
 use Rattle.search_run.specs.Step.{AreSteps, PlainStep, is_drawn}
 use Rattle.search_run.specs.declared.ending.End.{End}
 use Rattle.search_run.specs.declared.ending.End.TheVariants as ends
-use Rattle.fund_steps.proofs.TermLaws.{met_where}
 use Rattle.fund_steps.proofs.ReachLaws.{none_where}
 use Rattle.fund_steps.proofs.WholeLaws.{given_none, steps_whole}
-use Rattle.fee_rates.specs.Fee.{fee_of, vsize_of}
-use Rattle.fee_rates.specs.Terms.{base_of, target_of}
-use Rattle.request_text.specs.PlainRequest.{paid_to}
-use Rattle.fund_base.specs.declared.candidate.Candidate.{Candidate}
 use Rattle.fund_steps.specs.Basis.{basis_of}
-use Rattle.fund_steps.specs.Amounts.{fees_of, value_of}
-use Rattle.fund_steps.specs.Listed.{presets_in}
-use Rattle.fund_steps.specs.Plan.{IsPlan, PlainPlan, ladder_in}
-use Rattle.fund_steps.specs.Presets.{presets_of}
-use Rattle.fund_steps.specs.Terms.{load_of, rates_of}
-use Rattle.fund_steps.specs.declared.presets.Presets.{Presets}
-use Rattle.fund_steps.specs.declared.presets.Presets.TheVariants.{Short, Plain, Change}
-use Rattle.fund_plan.specs.Answer.{AnswersAlone, given_from}
-use Rattle.fund_plan.specs.Chosen.{funded_at, mark_of, row_among, row_of}
+use Rattle.fund_steps.specs.Plan.{IsPlan, PlainPlan}
+use Rattle.fund_plan.specs.Chosen.{funded_at, mark_of}
 use Rattle.fund_plan.specs.Claims.{BringAll, Claims, ClaimsBy, HasTried, IsProvedBest, IsProvedDrawn, IsProvedNone, IsTakenShort, IsUsedUp, IsWhole}
-use Rattle.fund_plan.specs.Outcome.{by_end, by_presets, end_at, given_of, is_partial, log_at, most_tries, outcome_at, stand_after, tries_at}
+use Rattle.fund_plan.specs.Outcome.{by_end, end_at, given_of, is_partial, log_at, most_tries, outcome_at, stand_after, tries_at}
 use Rattle.fund_plan.specs.Selection.{PlainFunded}
-use Rattle.fund_plan.specs.Steps.{is_given, problem_at, steps_of}
-use Rattle.fund_plan.specs.declared.outcome.Outcome.{Outcome}
+use Rattle.fund_plan.specs.Steps.{is_given, steps_of}
 use Rattle.fund_plan.specs.declared.outcome.Outcome.TheVariants as answers
-use Rattle.fund_plan.proofs.AnswerLaws.{given_means}
 use Rattle.fund_plan.proofs.FoundLaws.{named}
 use Rattle.fund_plan.proofs.MeasureLaws.{waste_measured}
-use Rattle.fund_plan.proofs.RowLaws.{numbered, step_of}
-
--- ---- the problem of a step of a plan is that of its row and stage
-
-pub own_problem : (p : PlainPlan) (x : PlainStep) → Contains (steps_of p) x → x.problem ≡ problem_at p (row_of p x.row) x.stage
-own_problem p x h =
-    let at = step_of p x h in
-    let problem : x.problem ≡ problem_at p at.row at.turn.stage = ap (λ (y : PlainStep). y.problem) at.is in
-    let stage : x.stage ≡ at.turn.stage = ap (λ (y : PlainStep). y.stage) at.is in
-    let number : x.row ≡ at.row.number = ap (λ (y : PlainStep). y.row) at.is in
-    let row : row_of p x.row ≡ at.row = ap (row_among (ladder_in p)) number ∙ (numbered p at.row at.in_ladder).0 in
-    problem ∙ ap (λ (r : Row). problem_at p r at.turn.stage) (sym row) ∙ ap (λ (s : Stage). problem_at p (row_of p x.row) s) (sym stage)
-
--- ---- a result that is taken is that of a step
-
-record HasSource (seed : List ℕ) (steps : List PlainStep) (f : PlainFound) : Type 0 where
-  step : PlainStep
-  there : Contains steps step
-  is : f ≡ found_at step f.places
-  result : IsResult seed step (Some f.places)
-
-source_later : (seed : List ℕ) (x : PlainStep) (xs : List PlainStep) (f : PlainFound) → HasSource seed xs f → HasSource seed (x ∷ xs) f
-source_later seed x xs f h = record { step = h.step; there = in_tail x xs h.step h.there; is = h.is; result = h.result }
-
--- each of the results of steps is that of one of them
-sources : (seed : List ℕ) (steps : List PlainStep) (fs front rest : List PlainFound) (f : PlainFound) → AreResults seed steps fs → fs ≡ front ++ f ∷ rest → HasSource seed steps f
-sources seed [] fs [] rest f h e = absurd (let x = sym h ∙ e in cc)
-sources seed [] fs (g ∷ front) rest f h e = absurd (let x = sym h ∙ e in cc)
-sources seed (x ∷ xs) fs front rest f (None, rr, (gs, parts, more)) e = source_later seed x xs f (sources seed xs gs front rest f more (sym parts ∙ e))
-sources seed (x ∷ xs) fs [] rest f (Some q, rr, (gs, parts, more)) e =
-    let same : found_at x q ≡ f = let y = sym parts ∙ e in cc in
-    record {
-      step = x;
-      there = head_in x xs;
-      is = sym same ∙ ap (λ (g : PlainFound). found_at x g.places) same;
-      result = subst (λ (g : PlainFound). IsResult seed x (Some g.places)) same rr;
-    }
-sources seed (x ∷ xs) fs (g ∷ front) rest f (Some q, rr, (gs, parts, more)) e =
-    source_later seed x xs f (sources seed xs gs front rest f more (let y = sym parts ∙ e in cc))
-
--- what the result that is taken first says of the problem of its row and stage
-record IsOwn (p : PlainPlan) (f : PlainFound) : Type 0 where
-  step : PlainStep
-  drawn : is_drawn f.stage ≡ is_drawn step.stage
-  problem : step.problem ≡ problem_at p (row_of p f.row) f.stage
-  result : IsResult p.request.seed step (Some f.places)
-
-own_result : (p : PlainPlan) (f : PlainFound) → IsFirstTaken p.request.seed (steps_of p) f → IsOwn p f
-own_result p f first =
-    let source = sources p.request.seed first.column first.found first.taken.front first.taken.rest f first.results first.taken.parts in
-    let x = source.step in
-    let there : Contains (steps_of p) x = subst (λ (xs : List PlainStep). Contains xs x) (sym first.parts)
-    (Contains-append_right first.front (first.column ++ first.rest) x (Contains-append_left first.column first.rest x source.there)) in
-    let row : f.row ≡ x.row = ap (λ (g : PlainFound). g.row) source.is in
-    let stage : f.stage ≡ x.stage = ap (λ (g : PlainFound). g.stage) source.is in
-    record {
-      step = x;
-      drawn = ap is_drawn stage;
-      problem = own_problem p x there ∙ ap (λ (m : ℕ). problem_at p (row_of p m) x.stage) (sym row) ∙ ap (λ (s : Stage). problem_at p (row_of p f.row) s) (sym stage);
-      result = source.result;
-    }
-
-best_of : (p : PlainPlan) (f : PlainFound) → is_drawn f.stage ≡ false → IsOwn p f → IsBest (problem_at p (row_of p f.row) f.stage) (Some f.places)
-best_of p f searched own =
-    subst (λ (q : PlainProblem). IsBest q (Some f.places)) own.problem
-    (subst (λ (b : Bool). IsResultBy b p.request.seed own.step (Some f.places)) (sym own.drawn ∙ searched) own.result)
-
-drawn_of : (p : PlainPlan) (f : PlainFound) → is_drawn f.stage ≡ true → IsOwn p f → draw_of (problem_at p (row_of p f.row) f.stage) p.request.seed ≡ Some f.places
-drawn_of p f drawn own =
-    let is : Some f.places ≡ draw_of own.step.problem p.request.seed = subst (λ (b : Bool). IsResultBy b p.request.seed own.step (Some f.places)) (sym own.drawn ∙ drawn) own.result in
-    sym (is ∙ ap (λ (q : PlainProblem). draw_of q p.request.seed) own.problem)
+use Rattle.fund_plan.proofs.GivenLaws.{alone_means, ended_none, given_brings, given_mark, never_open, same_funded}
+use Rattle.fund_plan.proofs.SourceLaws.{best_of, drawn_of, own_result}
 
 -- ---- ends
 
@@ -290,107 +196,6 @@ taken_short p n f h steps e =
       taken = is_taken (at_hand p.request.seed (stand_after p n) (stand_after p n).left) f k.taken_is;
       used_up = has_tried p n k.going;
     }
-
--- ---- the presets alone
-
-same_funded : (a b : PlainFunded) → answers.Funded a ≡ answers.Funded b → a ≡ b
-same_funded a b e = cc
-
-given_mark : (p : PlainPlan) (f : PlainFunded) → given_of p ≡ answers.Funded f → f.mark ≡ mark.Given
-unfolding given_of
-given_mark p f e = by (presets_of (rates_of p.request) (load_of p.request p.change (presets_in p))) e
-  where
-    by : (d : Presets) → by_presets p d ≡ answers.Funded f → f.mark ≡ mark.Given
-    by Short e = absurd (cc)
-    by Plain e = ap (λ (x : PlainFunded). x.mark) (sym (same_funded (given_from p (presets_in p) None) f e))
-    by (Change amount) e = ap (λ (x : PlainFunded). x.mark) (sym (same_funded (given_from p (presets_in p) (Some amount)) f e))
-
-never_open : (p : PlainPlan) → given_of p ≡ answers.Unfinished → ⊥
-unfolding given_of
-never_open p e = by (presets_of (rates_of p.request) (load_of p.request p.change (presets_in p))) e
-  where
-    by : (d : Presets) → by_presets p d ≡ answers.Unfinished → ⊥
-    by Short e = cc
-    by Plain e = cc
-    by (Change amount) e = cc
-
--- where the presets don't bring all that is needed they don't pay alone
-given_short : (p : PlainPlan) → is_given p ≡ false → given_of p ≡ answers.NoSelection
-unfolding given_of load_of
-given_short p e = by (presets_of (rates_of p.request) (load_of p.request p.change (presets_in p))) refl
-  where
-    no_met : (d : Presets) → presets_of (rates_of p.request) (load_of p.request p.change (presets_in p)) ≡ d → (d ≡ Short → ⊥) → ⊥
-    no_met d is other = let met = met_where (rates_of p.request) (load_of p.request p.change (presets_in p)) (λ s. other (sym is ∙ s)) in let both : true ≡ false = sym met ∙ e in cc
-
-    by : (d : Presets) → presets_of (rates_of p.request) (load_of p.request p.change (presets_in p)) ≡ d → by_presets p d ≡ answers.NoSelection
-    by Short is = refl
-    by Plain is = absurd (no_met Plain is (λ s. cc))
-    by (Change amount) is = absurd (no_met (Change amount) is (λ s. cc))
-
--- the presets alone are what a run without a result comes to
-given_by : (p : PlainPlan) (b : Bool) → is_given p ≡ b → cond b (given_of p) answers.NoSelection ≡ given_of p
-given_by p true is = refl
-given_by p false is = sym (given_short p is)
-
-pub ended_none : (p : PlainPlan) → by_end p (ends.Ended None) ≡ given_of p
-ended_none p = given_by p (is_given p) refl
-
-alone_means : (p : PlainPlan) (o : Outcome) → IsPlan p → by_end p (ends.Ended None) ≡ o → AnswersAlone p o
-alone_means p o h e = subst (AnswersAlone p) (sym (ended_none p) ∙ e) (given_means p h.eligible)
-
--- they bring all that is due exactly where nothing is searched for, at plain numbers
-brings_all : (paid base value fees : ℕ) → int_le (pos (paid + base + 0) -ℤ (pos value -ℤ pos fees)) (pos 0) ≡ true → paid + base + fees + 0 + 0 ≤ value
-brings_all paid base value fees e = grind (arith, ints, e)
-
-all_brought : (paid base value fees : ℕ) → paid + base + fees + 0 + 0 ≤ value → int_le (pos (paid + base + 0) -ℤ (pos value -ℤ pos fees)) (pos 0) ≡ true
-all_brought paid base value fees h = grind (arith, ints, h)
-
-brings_by : (b : Bool) (paid base value fees rest : ℕ) → b ≡ true → int_le (if b then pos (paid + base + 0) -ℤ (pos value -ℤ pos fees) else int_max (pos (paid + base + 0) -ℤ (pos value -ℤ pos fees)) (pos 1)) (pos 0) ≡ true
-    → paid + base + fees + 0 + (if b then 0 else rest) ≤ value
-brings_by true paid base value fees rest t e = brings_all paid base value fees e
-brings_by false paid base value fees rest t e = absurd (cc)
-
-brought_by : (b : Bool) (paid base value fees rest : ℕ) → b ≡ true → paid + base + fees + 0 + (if b then 0 else rest) ≤ value
-    → int_le (if b then pos (paid + base + 0) -ℤ (pos value -ℤ pos fees) else int_max (pos (paid + base + 0) -ℤ (pos value -ℤ pos fees)) (pos 1)) (pos 0) ≡ true
-brought_by true paid base value fees rest t h = all_brought paid base value fees h
-brought_by false paid base value fees rest t h = absurd (cc)
-
-some_given : (coins : List Candidate) → not (length coins == 0) ≡ true → 0 < length coins
-some_given [] e = absurd (cc)
-some_given (c ∷ coins) e = omega arith
-
-given_some : (coins : List Candidate) → 0 < length coins → not (length coins == 0) ≡ true
-given_some coins some = by (length coins == 0) refl
-  where
-    by : (b : Bool) → (length coins == 0) ≡ b → not b ≡ true
-    by true is = let none = eqb-true (length coins) 0 is in absurd (omega (arith, some))
-    by false is = refl
-
-abbrev base_fee : PlainPlan → ℕ
-base_fee p = fee_of p.request.rate (vsize_of (base_of (load_of p.request p.change (presets_in p))))
-
-given_brings : (p : PlainPlan) → is_given p ≡ true → BringAll p
-unfolding load_of
-given_brings p e =
-    let r = p.request in
-    let given = presets_in p in
-    let both = and_parts (not (length given == 0)) (int_le (target_of (rates_of r) (load_of r p.change given)) (pos 0)) e in
-    record {
-      some = some_given given both.0;
-      enough = brings_by (not (length given == 0)) (paid_to r.recipients) (base_fee p) (value_of given) (fees_of r.rate given) (1 - (paid_to r.recipients + base_fee p + 0)) both.0 both.1;
-    }
-
-brings_given : (p : PlainPlan) → BringAll p → is_given p ≡ true
-unfolding load_of
-brings_given p b =
-    let r = p.request in
-    let given = presets_in p in
-    let some = given_some given b.some in
-    and_from (not (length given == 0)) (int_le (target_of (rates_of r) (load_of r p.change given)) (pos 0)) some
-    (brought_by (not (length given == 0)) (paid_to r.recipients) (base_fee p) (value_of given) (fees_of r.rate given) (1 - (paid_to r.recipients + base_fee p + 0)) some b.enough)
-
-pub given_where : (p : PlainPlan) → (is_given p ≡ true ↔ BringAll p)
-given_where p = (given_brings p, brings_given p)
 
 -- ---- what an outcome claims
 

@@ -1,4 +1,5 @@
 pub mod AnswerLaws
+pub mod BringLaws
 pub mod ChosenLaws
 pub mod ClaimLaws
 pub mod EligibleLaws
@@ -6,6 +7,7 @@ pub mod EndLaws
 pub mod FigureLaws
 pub mod FoundLaws
 pub mod FundedLaws
+pub mod GivenLaws
 pub mod GoingLaws
 pub mod LoadLaws
 pub mod MeasureLaws
@@ -15,6 +17,7 @@ pub mod PaymentLaws
 pub mod PaysLaws
 pub mod RowLaws
 pub mod SignedLaws
+pub mod SourceLaws
 pub mod SpendLaws
 pub mod TextLaws
 pub mod WeightLaws

@@ -30,7 +30,8 @@ use Rattle.fund_plan.specs.Chosen.{change_at, chosen_at, coins_at, funded_at, le
 use Rattle.fund_plan.specs.Figures.{cost_of, waste_of}
 use Rattle.fund_plan.specs.Pays.{payment_weight, raised_of}
 use Rattle.fund_plan.specs.Steps.{is_given, load_in, pool_in, problem_at, steps_of, terms_in}
-use Rattle.fund_plan.proofs.FoundLaws.{gains_are, items_in, named, short_of, some_target, target_in, together, useful_in, values_are, weights_are}
+use Rattle.fund_plan.proofs.BringLaws.{gains_are, items_in, short_of, some_target, target_in, values_are, weights_are}
+use Rattle.fund_plan.proofs.FoundLaws.{named, problem_items, together, useful_in}
 use Rattle.fund_plan.proofs.RowLaws.{found_in}
 use Rattle.fund_plan.proofs.SpendLaws.{ones}
 
@@ -168,14 +169,6 @@ waste_measured p mark f h result =
     let is : f ≡ found_at (step_at p row f.stage at.turn.last) f.places =
     at.is ∙ ap (λ (q : Row). found_at (step_at p q at.turn.stage at.turn.last) f.places) (sym at.row_is) ∙ ap (λ (s : Stage). found_at (step_at p row s at.turn.last) f.places) (sym at.stage_is) in
     waste_at p row f.places h n.searched n.rising f.stage at.turn.last n.admissible ∙ ap (λ (g : PlainFound). g.waste +ℤ cost_of p.request (presets_in p)) (sym is)
-
-problem_items : (p : PlainPlan) (row : Row) (s : Stage) → (problem_at p row s).items ≡ (pool_in p row).items
-problem_items p row stage.Changeless = refl
-problem_items p row stage.LeanSmall = refl
-problem_items p row stage.Presets = refl
-problem_items p row stage.LeanBig = refl
-problem_items p row stage.Draw = refl
-problem_items p row stage.Wide = refl
 
 pub weight_measured : (p : PlainPlan) (mark : Mark) (f : PlainFound) → IsPlan p → IsResultOf (steps_of p) f
     → (funded_at p mark f).weight ≡ payment_weight (load_for p f.row) (presets_in p) (funded_at p mark f).change + weight_at (problem_at p (row_of p f.row) f.stage) f.places

@@ -27,7 +27,8 @@ use Rattle.fund_plan.specs.Pays.{payment_from, payment_of}
 use Rattle.fund_plan.specs.Steps.{is_given, pool_in, steps_of}
 use Rattle.fund_plan.specs.declared.outcome.Outcome.{Outcome}
 use Rattle.fund_plan.specs.declared.outcome.Outcome.TheVariants.{Funded, NoSelection}
-use Rattle.fund_plan.proofs.FoundLaws.{fit_of, found_pays, groups_in, named, sorted_apart, together}
+use Rattle.fund_plan.proofs.FoundLaws.{fit_of, found_pays, named, sorted_apart, together}
+use Rattle.fund_plan.proofs.BringLaws.{groups_in}
 use Rattle.fund_plan.proofs.PaysLaws.{pays_change, pays_plain, pays_some, selection_is}
 use Rattle.fund_plan.proofs.SpendLaws.{ones}
 

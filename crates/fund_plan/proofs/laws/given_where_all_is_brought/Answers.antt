@@ -1,4 +1,4 @@
-use Rattle.fund_plan.proofs.ClaimLaws.{given_where}
+use Rattle.fund_plan.proofs.GivenLaws.{given_where}
 use Rattle.fund_plan.proofs.laws.given_where_all_is_brought.Goals as goal
 
 pub returns : goal.returns

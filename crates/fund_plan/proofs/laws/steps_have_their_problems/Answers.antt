@@ -1,4 +1,4 @@
-use Rattle.fund_plan.proofs.ClaimLaws.{own_problem}
+use Rattle.fund_plan.proofs.SourceLaws.{own_problem}
 use Rattle.fund_plan.proofs.laws.steps_have_their_problems.Goals as goal
 
 pub returns : goal.returns
