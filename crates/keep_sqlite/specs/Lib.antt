@@ -1,0 +1,3 @@
+pub mod JobFile
+pub mod JobTables
+pub mod Told

@@ -1,0 +1,95 @@
+//! Jobs kept in the tables of a database, over any store.
+
+ghost use Rattle.std.specs.Prelude.{◌≡◌, ◌≤◌, None, IsErrOf, OnOk};
+ghost use Rattle.fund_base.specs.Causes.{Rose, one_more};
+
+use crate::tables;
+use crate::told::told;
+use fund_outside::{KeepFault, Keeper};
+use sqlite::{Alter, Connection};
+
+/// Jobs kept in the tables `job` and `part` of a database. It tells nothing of which jobs these are. Each call that the
+/// database refuses is counted, but for want of memory; `save` is one transaction, so that after any error, and after
+/// a stop at any moment of it, the tables are as before or as after it.
+#[derive(Drop)]
+pub struct JobTables<S: Alter + Drop> {
+    connection: Connection<S>,
+    faults: u64,
+}
+
+impl<S: Alter + Drop> JobTables<S> {
+    ghost use Rattle.keep_sqlite.specs.JobTables.{held_by, view_of};
+
+    /// The jobs of an open database, without a failure so far. The tables are made by the first `save`. A database of
+    /// anything else is left as it is: then each call fails. So does `save` while a transaction is open.
+    pub fn adopt(connection: Connection<S>) -> JobTables<S>
+        ensures view { view_of result ≡ record { jobs = λ _. None; faults = 0 } }
+        ensures held { held_by result ≡ connection }
+    {
+        JobTables {
+            connection,
+            faults: 0,
+        }
+    }
+
+    /// The database again, as the calls left it.
+    pub fn into_connection(self) -> Connection<S>
+        ensures { result ≡ held_by self }
+    {
+        let JobTables {
+            connection,
+            faults: _,
+        } = self;
+        connection
+    }
+}
+
+impl<S: Alter + Drop> Keeper for JobTables<S> {
+    ghost use Rattle.keep_sqlite.specs.JobTables.{view_of};
+
+    ghost tells = { ⊥ };
+
+    ghost view = { view_of };
+
+    fn load(&mut self, job: &str) -> Result<Option<Vec<u8>>, KeepFault>
+        ensures faults { (view_of self.old).faults ≤ (view_of self.new).faults }
+        ensures cause { IsErrOf result KeepFault.Failed → Rose (view_of self.old).faults (view_of self.new).faults }
+        ensures unfailed { OnOk result ((view_of self.new).faults ≡ (view_of self.old).faults) }
+        ensures short { IsErrOf result KeepFault.Memory → (view_of self.new).faults ≡ (view_of self.old).faults }
+
+        // Whatever the database's error is, it is told once.
+        ensures counted { IsErrOf result KeepFault.Failed → (view_of self.new).faults ≡ one_more (view_of self.old).faults }
+    {
+        told(tables::load(&mut self.connection, job), &mut self.faults)
+    }
+
+    fn part(&mut self, job: &str, number: u32) -> Result<Option<Vec<u8>>, KeepFault>
+        ensures faults { (view_of self.old).faults ≤ (view_of self.new).faults }
+        ensures cause { IsErrOf result KeepFault.Failed → Rose (view_of self.old).faults (view_of self.new).faults }
+        ensures unfailed { OnOk result ((view_of self.new).faults ≡ (view_of self.old).faults) }
+        ensures short { IsErrOf result KeepFault.Memory → (view_of self.new).faults ≡ (view_of self.old).faults }
+
+        // Whatever the database's error is, it is told once.
+        ensures counted { IsErrOf result KeepFault.Failed → (view_of self.new).faults ≡ one_more (view_of self.old).faults }
+    {
+        told(
+            tables::part(&mut self.connection, job, number),
+            &mut self.faults,
+        )
+    }
+
+    fn save(&mut self, job: &str, first: u32, part: &[u8], saved: &[u8]) -> Result<(), KeepFault>
+        ensures faults { (view_of self.old).faults ≤ (view_of self.new).faults }
+        ensures cause { IsErrOf result KeepFault.Failed → Rose (view_of self.old).faults (view_of self.new).faults }
+        ensures unfailed { OnOk result ((view_of self.new).faults ≡ (view_of self.old).faults) }
+        ensures short { IsErrOf result KeepFault.Memory → (view_of self.new).faults ≡ (view_of self.old).faults }
+
+        // Whatever the database's error is, it is told once.
+        ensures counted { IsErrOf result KeepFault.Failed → (view_of self.new).faults ≡ one_more (view_of self.old).faults }
+    {
+        told(
+            tables::save(&mut self.connection, job, first, part, saved),
+            &mut self.faults,
+        )
+    }
+}
