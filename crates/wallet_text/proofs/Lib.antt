@@ -1,3 +1,4 @@
+pub mod EarlierLaws
 pub mod EntryLaws
 pub mod Inner
 pub mod ListLaws

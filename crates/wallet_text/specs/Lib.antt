@@ -1,4 +1,5 @@
 pub mod PlainWallet
+pub mod Repeats
 pub mod ScriptEntries
 pub mod Table
 pub mod Told

@@ -12,5 +12,6 @@ mod wallet;
 
 pub use fault::WalletFault;
 pub use laws::{judges_entries, judges_lists, judges_scripts, judges_transactions, reads_members};
+pub use lists::judge_earlier;
 pub use reading::read_wallet;
 pub use wallet::{Earlier, Wallet, Watch};

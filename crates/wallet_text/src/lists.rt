@@ -1,13 +1,15 @@
 //! The rules that are tested over whole lists: no txid twice, and parents first.
 
-ghost use Rattle.std.specs.Prelude.{◌≡◌, [], if◌then◌else◌, IfOk};
+ghost use Rattle.std.specs.Prelude.{◌≡◌, [], if◌then◌else◌, IfErr, IfOk, OnOk};
 ghost use Rattle.fund_base.specs.Parsing.{YieldsAll};
 ghost use Rattle.json_fields.specs.declared.fault.FieldFault.TheVariants.{Memory as NoMemory};
+ghost use Rattle.wallet_text.specs.Repeats.{IsRepeat};
+ghost use Rattle.wallet_text.specs.WalletRules.{AreDistinctEarlier};
 ghost use Rattle.wallet_text.specs.WalletText.{told_index, txids_of, earlier_txids, repeat_from, spends_one_of, later_from, lists_at};
 ghost use Rattle.wallet_text.specs.declared.fault.Refusal.TheVariants.{Field};
 
 use crate::entries::told_index;
-use crate::fault::Refusal;
+use crate::fault::{Refusal, WalletFault};
 use crate::seen::Seen;
 use crate::wallet::Earlier;
 use fund_base::{Memory, Txid};
@@ -99,5 +101,18 @@ pub fn judge_lists(alloc: Global, earlier: &[Earlier], pending: &[Tx]) -> Result
     match first_later(alloc, pending, &txids)? {
         Some(index) => Err(Refusal::ParentLater(told_index(index))),
         None => Ok(()),
+    }
+}
+
+/// That no two of these earlier transactions have one txid, which is a rule of every [`crate::Wallet`]. Otherwise the
+/// fault is [`WalletFault::Repeat`], with the name `earlier` and the index of the first whose txid stood before it; or
+/// it is to be out of memory.
+pub fn judge_earlier(alloc: Global, earlier: &[Earlier]) -> Result<(), WalletFault>
+    ensures distinct { OnOk result (AreDistinctEarlier earlier.now) }
+    ensures fault { IfErr result (IsRepeat earlier.now) }
+{
+    match judge_lists(alloc, earlier, &[]) {
+        Ok(()) => Ok(()),
+        Err(refusal) => Err(refusal.told()),
     }
 }
