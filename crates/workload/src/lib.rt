@@ -1,0 +1,13 @@
+//! A large valid input that a number makes: a wallet of up to 10,000 coins drawn by words of ChaCha20, a request that
+//! pays a twentieth of them, and the summary of a run over both.
+#![tactic(auto)]
+
+mod coin;
+mod kind;
+mod lines;
+mod load;
+mod making;
+mod summary;
+
+pub use load::Workload;
+pub use summary::write_summary;
