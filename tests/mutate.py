@@ -4,7 +4,8 @@ the form of its status, the log is untouched where it must be, and no run takes 
 
 usage: tests/mutate.py [--seed N] [--runs N] [--program PATH]
 
-The files that are mutated are the stored requests of crates/rows_fund/data. Build the program first, by
+The files that are mutated are the stored requests of crates/rows_fund/data, and the example of crates/fund_cli/data, for
+which coins are searched. Build the program first, by
 `rt run -- coins data/wallet.json data/blocks.dat` in crates/fund_cli, which leaves it in out/."""
 
 import argparse
@@ -21,6 +22,7 @@ import time
 
 TOP = pathlib.Path(__file__).resolve().parent.parent
 DATA = TOP / "crates" / "rows_fund" / "data"
+EXAMPLE = TOP / "crates" / "fund_cli" / "data"
 PROGRAM = TOP / "crates" / "fund_cli" / "out" / "fund_cli"
 LONGEST = 1.0
 OLD_LOG = b"what stood in the log before\n"
@@ -41,7 +43,7 @@ INPUT = {
     "request": f"{NAMED}|Address {NUMBER} {ADDRESS}|Script {NUMBER}|AmountRange {NUMBER}|Dust {NUMBER}|SumRange"
     f"|NoRecipients|RateRange (rate|long_term|discard)|TriesRange|Repeat {NUMBER}",
     "bump": "NotYet",
-    "plan": f"NotYet|Total {NUMBER}|NotEligible {COIN}",
+    "plan": f"Total {NUMBER}|NotEligible {COIN}",
 }
 REPORT = (
     rf"funded (exhausted|partial|drawn|given)\nrow [0-7]\nstage [a-z-]+\ntries {NUMBER}\n"
@@ -60,10 +62,11 @@ FORMS = {status: re.compile(form.encode(), re.DOTALL) for status, form in FORMS.
 
 def cases():
     """The stored requests: for each the bytes of its wallet, blocks and request."""
-    names = sorted(path.name.removesuffix(".wallet.json") for path in DATA.glob("*.wallet.json"))
+    fronts = sorted(str(path).removesuffix("wallet.json") for path in DATA.glob("*.wallet.json"))
+    fronts += [str(EXAMPLE) + os.sep] * 5
     return [
-        tuple((DATA / f"{name}.{part}").read_bytes() for part in ("wallet.json", "blocks.dat", "request.json"))
-        for name in names
+        tuple(pathlib.Path(front + part).read_bytes() for part in ("wallet.json", "blocks.dat", "request.json"))
+        for front in fronts
     ]
 
 

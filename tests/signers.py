@@ -4,10 +4,12 @@
     tests/signers.py PROGRAM [COUNT] [SEED] [METHOD ..]
 
 PROGRAM is a built fund_cli. It wants Debian's python3-electrum and python3-bitcoinlib. COUNT requests (100) of the METHODs
-(manual) are made from the SEED (1), over wallets of P2WPKH, P2PKH, P2SH-P2WPKH, and 2 of 3 keys in P2WSH and P2SH. (Electrum 4.3 can't sign for
-P2TR.) Each payment is read by Electrum, signed and finished; each of its signatures is verified; its weight is compared
-with the declared one, and its fee with what the rate asks for its own size.
+(all five) are made from the SEED (1), over wallets of P2WPKH, P2PKH, P2SH-P2WPKH, and 2 of 3 keys in P2WSH and P2SH.
+(Electrum 4.3 can't sign for P2TR.) Each payment is read by Electrum, signed and finished; each of its signatures is
+verified; its weight is compared with the declared one, and its fee with what the rate asks for its own size. Its mark, its
+change, its coins and its log have to fit the request.
 """
+import collections
 import hashlib
 import json
 import os
@@ -62,6 +64,8 @@ class Kind:
 
 
 KINDS = ["p2wpkh", "p2pkh", "p2sh-p2wpkh", "p2wsh-2-of-3", "p2sh-2-of-3"]
+SEARCHED = {"given", "exhausted", "partial"}
+MARKS = {"manual": {"given"}, "changeless": SEARCHED, "weight": SEARCHED, "draw": SEARCHED | {"drawn"}, "auto": SEARCHED | {"drawn"}}
 
 
 def transaction(source, outputs):
@@ -94,24 +98,50 @@ class Case:
         parts = r.randint(1, 5)
         amount = max(1_000, r.randint(total // 20, total) // (2 * parts))
         recipients = [{"script": "0014" + r.randbytes(20).hex(), "amount": amount} for _ in range(parts)]
-        self.request = {"recipients": recipients, "rate": self.rate, "method": r.choice(methods), "seed": r.randbytes(32).hex(),
-                        "tries": 20_000, "replaceable": r.random() < 0.5, "locktime": r.choice([0, 1, 877_004, 2**31 - 1])}
-        if self.request["method"] == "manual" or r.random() < 0.2:
-            listed = r.sample(sorted(self.coins), r.randint(1, len(self.coins)))
-            self.request["coins"] = [f"{txid}:{index}" for txid, index in listed]
+        self.method = r.choice(methods)
+        self.request = {"recipients": recipients, "rate": self.rate, "method": self.method, "seed": r.randbytes(32).hex(),
+                        "long_term": r.choice([1_000, 10_000, self.rate]), "group": r.random() < 0.2,
+                        "tries": r.choice([1, 50, 20_000]), "replaceable": r.random() < 0.5,
+                        "locktime": r.choice([0, 1, 877_004, 2**31 - 1])}
+        self.listed = []
+        if self.method == "manual" or r.random() < 0.2:
+            self.listed = r.sample(sorted(self.coins), r.randint(1, len(self.coins)))
+            self.request["coins"] = [f"{txid}:{index}" for txid, index in self.listed]
 
     def fund(self, program, folder):
-        """The report's lines, or None where nothing pays."""
+        """The report's lines and the log's; or `none` or `unfinished` alone."""
         names = [os.path.join(folder, name) for name in ("wallet.json", "blocks.dat", "request.json", "log")]
         for name, data in zip(names, (json.dumps(self.wallet), "", json.dumps(self.request))):
             with open(name, "w", encoding="utf-8") as file:
                 file.write(data)
+        if os.path.exists(names[3]):
+            os.remove(names[3])
         run = subprocess.run([program, "fund", *names], capture_output=True, text=True)
-        if run.returncode == 11:
-            return None
+        if run.returncode in (10, 11):
+            assert os.path.exists(names[3]) == (run.returncode == 11), "a log where none is due, or none where one is"
+            return run.stdout.split("\n")[0]
         if run.returncode != 0:
             raise AssertionError(f"status {run.returncode}: {run.stdout}")
-        return [line.split(" ") for line in run.stdout.splitlines()]
+        with open(names[3], encoding="utf-8") as file:
+            return [line.split(" ") for line in run.stdout.splitlines()], file.read().splitlines()
+
+    def judge(self, report, log):
+        """Whether mark, coins, change and log fit the request."""
+        lines = {line[0]: line[-1] for line in report}
+        mark = lines["funded"]
+        assert mark in MARKS[self.method], f"{mark} by {self.method}"
+        spent = [tuple(line[1].split(":")) for line in report if line[0] == "in"]
+        spent = [(txid, int(index)) for txid, index in spent]
+        assert set(self.listed) <= set(spent) and len(set(spent)) == len(spent), "the listed coins"
+        assert mark != "given" or set(self.listed) == set(spent), "a coin that wasn't given"
+        assert (mark == "given") == (lines["row"] == "0") == (lines["stage"] == "presets"), "row and stage of given coins"
+        assert lines["stage"] != "changeless" or lines["change"] == "none", "a change at the stage without one"
+        assert self.method != "changeless" or mark == "given" or lines["stage"] == "changeless", "another stage"
+        letters = "".join(line[7:] for line in log if line.startswith("tokens "))
+        assert log[0] == "fund-log 1" and log[-1] == "end", "the log's ends"
+        assert mark == "partial" or letters.count("I") == int(lines["tries"]), "the tries of the log"
+        assert mark != "given" or len(log) == 2, "a search of given coins"
+        return mark
 
 
 def sign(case, text):
@@ -165,45 +195,52 @@ def weight_of(tx, data):
 
 
 def try_one(case, program, folder):
-    """Funds, signs and verifies; the declared and the real weight, or None where nothing pays."""
-    report = case.fund(program, folder)
-    if report is None:
-        return None
+    """Funds, signs and verifies; the mark, and how much less than declared it weighs."""
+    found = case.fund(program, folder)
+    if isinstance(found, str):
+        return found, 0
+    report, log = found
+    mark = case.judge(report, log)
     lines = {line[0]: line[-1] for line in report}
     data = sign(case, lines["psbt"])
     tx = verify(case, data)
     declared, weight = int(lines["weight"]), weight_of(tx, data)
     spent = sum(case.coins[(txin.prevout.hash[::-1].hex(), txin.prevout.n)][1] for txin in tx.vin)
     fee = spent - sum(out.nValue for out in tx.vout)
-    paid = [(out.scriptPubKey.hex(), out.nValue) for out in tx.vout][:len(case.request["recipients"])]
+    paid = [(out.scriptPubKey.hex(), out.nValue) for out in tx.vout]
+    due = [(one["script"], one["amount"]) for one in case.request["recipients"]]
+    if lines["change"] != "none":
+        due.append((case.wallet["change"]["script"], int(lines["change"])))
+    coins = [[f"{txin.prevout.hash[::-1].hex()}:{txin.prevout.n}"] for txin in tx.vin]
+    assert coins == [line[1:2] for line in report if line[0] == "in"], "the inputs"
     assert fee == int(lines["fee"]), "the fee"
-    assert paid == [(one["script"], one["amount"]) for one in case.request["recipients"]], "the recipients"
+    assert paid == due, "the recipients and the change"
     assert weight <= declared, f"it weighs {weight}, and {declared} were declared"
     assert 1000 * fee >= case.rate * -(-weight // 4), "the fee is below the rate"
-    return declared, weight
+    return mark, declared - weight
 
 
 def main():
     program = os.path.abspath(sys.argv[1])
     count = int(sys.argv[2]) if len(sys.argv) > 2 else 100
     seed = int(sys.argv[3]) if len(sys.argv) > 3 else 1
-    methods = sys.argv[4:] or ["manual"]
+    methods = sys.argv[4:] or sorted(MARKS)
     random_source = random.Random(seed)
-    funded, none, slack = 0, 0, 0
+    ends, slack = collections.Counter(), 0
     with tempfile.TemporaryDirectory() as folder:
         for number in range(count):
             case = Case(random_source, methods)
             try:
-                made = try_one(case, program, folder)
+                end, less = try_one(case, program, folder)
             except AssertionError as wrong:
-                print(f"WRONG, request {number} of seed {seed}: {wrong}")
+                print(f"WRONG, request {number} of seed {seed}, {case.method}: {wrong}")
                 return 1
-            if made is None:
-                none += 1
-                continue
-            funded += 1
-            slack = max(slack, made[0] - made[1])
-    print(f"{count} requests of seed {seed}: {funded} funded, signed and verified, {none} without a payment; "
+            ends[(case.method, end)] += 1
+            slack = max(slack, less)
+    for (method, end), times in sorted(ends.items()):
+        print(f"{times:6} {method} {end}")
+    without = sum(times for (_, end), times in ends.items() if end in ("none", "unfinished"))
+    print(f"{count} requests of seed {seed}: {count - without} funded, signed and verified, {without} without a payment; "
           f"at most {slack} weight units less than declared")
     return 0
 
