@@ -128,6 +128,28 @@ def check_rules():
                     faults.append(f"DEFINITIONS.md:{number}: {call} has no clause {clause}")
 
 
+def check_calls():
+    """Tables of calls name calls and clauses that docs/PROVED.md shows."""
+    shown = clauses_shown()
+    for page in (TOP / "docs" / "ANSWERS.md", TOP / "docs" / "CLOSING_LOG.md"):
+        within, call = False, None
+        for number, line in parts_of(page):
+            cells = [cell.strip() for cell in line.strip("|").split("|")]
+            if cells[:2] == ["Call", "Clauses"]:
+                within = True
+            elif not line.startswith("|"):
+                within = False
+            elif within and not cells[0].startswith("-"):
+                names = re.findall(r"`([^`]+)`", cells[1])
+                call = cells[0].strip("`") or call
+                for name in names if cells[0] == "law" else [call]:
+                    if name not in shown:
+                        faults.append(f"{page.name}:{number}: no call {name}")
+                for clause in [] if cells[0] == "law" else names:
+                    if clause not in shown.get(call, ()):
+                        faults.append(f"{page.name}:{number}: {call} has no clause {clause}")
+
+
 def check_kit():
     """The README's line of the kit is what `rt version` prints, where the kit is there."""
     if shutil.which("rt"):
@@ -178,6 +200,7 @@ for page in PAGES:
         check_words(page)
 check_definitions()
 check_rules()
+check_calls()
 check_kit()
 check_names()
 check_map()
