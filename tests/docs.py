@@ -1,6 +1,6 @@
 #!/usr/bin/env python3
-"""Checks the pages: links lead somewhere, names and clauses stand in the sources, the example is the
-stored run's, the kit's line is that of `rt version`, and sentences and cells are short.
+"""Checks the pages: links lead somewhere, names and clauses stand in the sources, the examples are the
+stored run's and its files, the kit's line is that of `rt version`, and sentences and cells are short.
 
     python3 tests/docs.py
 
@@ -187,11 +187,15 @@ def check_map():
 
 
 def check_example():
-    """The report that the pages show is the one that the stored run of fund_cli prints."""
+    """The report that the pages show is the one that the stored run of fund_cli prints, and the files are those of data/."""
     printed = (TOP / "crates" / "fund_cli" / "stdout").read_text()
     for page in (TOP / "README.md", TOP / "docs" / "FORMATS.md"):
         if f"```\n{printed}```" not in page.read_text():
             faults.append(f"{page.name}: the report isn't that of crates/fund_cli/stdout")
+    for page, name in (("FORMATS.md", "wallet.json"), ("FORMATS.md", "request.json"), ("USING.md", "with-change.json")):
+        text = (TOP / "crates" / "fund_cli" / "data" / name).read_text()
+        if f"```json\n{text}```" not in (TOP / "docs" / page).read_text():
+            faults.append(f"{page}: it doesn't show crates/fund_cli/data/{name}")
 
 
 for page in PAGES:
