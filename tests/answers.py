@@ -180,7 +180,8 @@ class Chain:
         found = []
         for coin in coins:
             place = coin["place"]
-            if coin["point"] in spent or (coin["inputs"] == [COINBASE] and coin["depth"] < 101) or (place is not None and place not in alive):
+            is_young = coin["inputs"] == [COINBASE] and coin["depth"] < 101
+            if coin["point"] in spent or is_young or (place is not None and place not in alive):
                 continue
             coin["mine"] = all(point in points for point in coin["inputs"])
             coin["safe"] = place is None or self.is_safe(place, own)
@@ -540,18 +541,22 @@ def case(r):
         coins.append((read_tx(data)[0], 0))
     pending, free = [], list(coins)
     for _ in range(r.choice([0, 0, 1, 2, 3])):
-        inputs = [free.pop(r.randrange(len(free)))] if free and r.random() < 0.7 else [(r.randbytes(32), 1)]
+        inputs = [r.choice(free)] if free and r.random() < 0.7 else [(r.randbytes(32), 1)]
+        free = [point for point in free if point not in inputs or r.random() < 0.2]
         data = transaction(inputs, [(r.randrange(5_000, 90_000), r.choice(SCRIPTS)[0]) for _ in range(r.choice([1, 2]))])
         pending.append(data.hex())
         free += [(read_tx(data)[0], index) for index in range(len(read_tx(data)[2]))]
     entries = [{"script": script.hex(), "weight": weight} for script, weight in SCRIPTS]
     wallet = {"height": 100, "hash": "00" * 32, "scripts": entries, "change": r.choice(entries), "earlier": earlier, "pending": pending}
+    if pending and r.random() < 0.1:
+        wallet["abandoned"] = [read_tx(bytes.fromhex(r.choice(pending)))[0][::-1].hex()]
     if coins and r.random() < 0.2:
         wallet["locked"] = [f"{coins[0][0][::-1].hex()}:0"]
     total = sum(values) or 50_000
     request = {"recipients": [{"script": "0014" + "44" * 20, "amount": r.randint(600, total)} for _ in range(r.choice([1, 1, 2]))],
                "rate": r.choice([1_000, 10_000, 25_000, 40_000]), "long_term": r.choice([1_000, 10_000, 30_000]),
-               "change_target": r.choice([0, 5_000, 20_000, 50_000]), "method": r.choice(["auto", "auto", "changeless", "weight", "draw", "manual"]),
+               "change_target": r.choice([0, 5_000, 20_000, 50_000]),
+               "method": r.choice(["auto", "auto", "changeless", "weight", "draw", "manual"]),
                "seed": r.randbytes(32).hex(), "tries": r.choice([1, 2, 5, 100_000, 100_000, 100_000]),
                "when_unfinished": r.choice(["take", "stop"]), "zero_conf": r.random() < 0.8, "include_unsafe": r.random() < 0.3,
                "group": r.random() < 0.3}
