@@ -24,9 +24,12 @@ use Rattle.fund_steps.specs.Basis.{basis_of}
 use Rattle.fund_steps.specs.Plan.{IsPlan, PlainPlan}
 use Rattle.fund_plan.specs.Chosen.{funded_at, mark_of}
 use Rattle.fund_plan.specs.Claims.{BringAll, Claims, ClaimsBy, HasTried, IsProvedBest, IsProvedDrawn, IsProvedNone, IsTakenShort, IsUsedUp, IsWhole}
-use Rattle.fund_plan.specs.Outcome.{by_end, end_at, given_of, is_partial, log_at, most_tries, outcome_at, stand_after, tries_at}
+use Rattle.fund_plan.proofs.EndLaws.{ended_answers}
+use Rattle.search_run.proofs.AnswerLaws.{one_answer_is}
+use Rattle.fund_plan.specs.Outcome.{IsAnswerOf, by_end, end_at, given_of, is_partial, log_at, most_tries, outcome_at, stand_after, tries_at}
 use Rattle.fund_plan.specs.Selection.{PlainFunded}
 use Rattle.fund_plan.specs.Steps.{is_given, steps_of}
+use Rattle.fund_plan.specs.declared.outcome.Outcome.{Outcome}
 use Rattle.fund_plan.specs.declared.outcome.Outcome.TheVariants as answers
 use Rattle.fund_plan.proofs.FoundLaws.{named}
 use Rattle.fund_plan.proofs.MeasureLaws.{waste_measured}
@@ -270,3 +273,18 @@ open_claims p n e = by (end_at p (stand_after p n)) refl e
     by (ends.Ended (Some g)) is e = absurd (cc)
     by (ends.Partial g) is e = absurd (cc)
     by ends.Unfinished is e = used_up p n is
+
+-- ---- the answer
+
+pub one_plan_answer : (p : PlainPlan) (a b : Outcome) → IsAnswerOf p a → IsAnswerOf p b → a ≡ b
+one_plan_answer p a b x y = x.is ∙ ap (λ (o : Option PlainFound). by_end p (ends.Ended o)) (one_answer_is p.request.seed (steps_of p) x.found y.found x.answer y.answer) ∙ sym y.is
+
+pub ended_is : (p : PlainPlan) (n : ℕ) (o : Outcome) → AreSteps (steps_of p) → (stand_after p n).left ≡ [] → IsAnswerOf p o → outcome_at p n ≡ o
+ended_is p n o steps over answer = one_plan_answer p (outcome_at p n) o (ended_answers p n steps over) answer
+
+pub answers_or_tries : (p : PlainPlan) (n : ℕ) → AreSteps (steps_of p) → IsAnswerOf p (outcome_at p n) ⊎ HasTried p n
+answers_or_tries p n steps = by (stand_after p n).left refl
+  where
+    by : (left : List PlainStep) → (stand_after p n).left ≡ left → IsAnswerOf p (outcome_at p n) ⊎ HasTried p n
+    by [] is = inl (ended_answers p n steps is)
+    by (x ∷ rest) is = inr (has_tried p n (record { step = x; rest = rest; left = is }))

@@ -1,6 +1,6 @@
 //! What the definitions of a plan's outcome come to.
 
-ghost use Rattle.std.specs.Prelude.{◌≡◌, ◌≤◌, ◌<◌, ◌+◌, ◌+ℤ◌, ◌↔◌, ℕ, [], All, Contains, IfSome, IsTrue, None, Some, length, sum_by, true};
+ghost use Rattle.std.specs.Prelude.{◌≡◌, ◌≤◌, ◌<◌, ◌+◌, ◌+ℤ◌, ◌⊎◌, ◌↔◌, ℕ, [], All, Contains, IfSome, IsTrue, None, Some, length, sum_by, true};
 ghost use Rattle.closing_log.specs.declared.mark.Mark.{Mark};
 ghost use Rattle.tx_codec.specs.Signals.{Signals};
 ghost use Rattle.tx_codec.specs.Transaction.{Transaction};
@@ -20,7 +20,7 @@ ghost use Rattle.fund_steps.specs.Listed.{presets_in};
 ghost use Rattle.fund_steps.specs.Plan.{IsEligible, IsPlan, PlainPlan};
 ghost use Rattle.fund_plan.specs.Answer.{AnswersAlone, IsPayment};
 ghost use Rattle.fund_plan.specs.Chosen.{funded_at, load_for, row_of};
-ghost use Rattle.fund_plan.specs.Claims.{BringAll, Claims, IsProvedNone, IsUsedUp};
+ghost use Rattle.fund_plan.specs.Claims.{BringAll, Claims, HasTried, IsProvedNone, IsUsedUp};
 ghost use Rattle.fund_plan.specs.Figures.{AddUp, cost_of, figures_of};
 ghost use Rattle.fund_plan.specs.Outcome.{IsAnswerOf, beginning_of, given_of, is_partial, log_at, outcome_at, stand_after, tries_at};
 ghost use Rattle.fund_plan.specs.Pays.{IsWorthIt, payment_of, payment_weight};
@@ -138,6 +138,14 @@ pub fn plans_go_on()
 /// A plan whose run from the start came to its end has the answer, of all that there is to find. A call does nothing.
 pub fn ended_plans_have_the_answer()
     ensures { (p : PlainPlan) (n : ℕ) → AreSteps (steps_of p) → (stand_after p n).left ≡ [] → IsAnswerOf p (outcome_at p n) }
+{}
+
+/// A plan has one answer, and comes to it wherever its run from the start came to its end; where it didn't, the run has made
+/// each of its tries, and a search is open. A call does nothing.
+pub fn plans_have_one_answer()
+    ensures one { (p : PlainPlan) (a b : Outcome) → IsAnswerOf p a → IsAnswerOf p b → a ≡ b }
+    ensures ended { (p : PlainPlan) (n : ℕ) (o : Outcome) → AreSteps (steps_of p) → (stand_after p n).left ≡ [] → IsAnswerOf p o → outcome_at p n ≡ o }
+    ensures either { (p : PlainPlan) (n : ℕ) → AreSteps (steps_of p) → IsAnswerOf p (outcome_at p n) ⊎ HasTried p n }
 {}
 
 /// The problem of each step is that of the row and the stage that the step names. A call does nothing.
