@@ -30,27 +30,28 @@ ghost use Rattle.fund_plan.specs.Steps.{is_given, problem_at, steps_of};
 ghost use Rattle.fund_plan.specs.Weighed.{AreWithinDeclared, HasOutpoint, IsWeighed, room_of, signed_weight};
 ghost use Rattle.fund_plan.specs.declared.outcome.Outcome.{Outcome};
 
-/// What listed coins alone come to is settled by what it means: the coins, the change, and whether there is a payment. A
-/// call does nothing.
+/// The law of one outcome of listed coins: what they come to alone is settled by what it means, the coins, the change,
+/// and whether there is a payment. A call does nothing.
 pub fn answers_once()
     ensures { (p : PlainPlan) (a b : Outcome) → IsPlan p → AnswersAlone p a → AnswersAlone p b → a ≡ b }
 {}
 
-/// What is computed is what listed coins alone come to: an outcome means what it should exactly where it is the one that
+/// The law of what is computed of listed coins alone: an outcome means what it should exactly where it is the one that
 /// the terms come to. A call does nothing.
 pub fn reckons_the_outcome()
     ensures { (p : PlainPlan) (o : Outcome) → IsPlan p → (AnswersAlone p o ↔ (o ≡ given_of p)) }
 {}
 
-/// Each result of a step, with the presets, is a payment: it pays every recipient and at least the fee of its declared
-/// weight, by what its row has to carry, and its coins are candidates. A call does nothing.
+/// The law of results: each result of a step, with the presets, is a payment. It pays every recipient and at least the
+/// fee of its declared weight, by what its row has to carry, and its coins are candidates. A call does nothing.
 pub fn results_pay()
     ensures { (p : PlainPlan) (mark : Mark) (f : PlainFound) → IsPlan p → IsResultOf (steps_of p) f → IsPayment p (funded_at p mark f) }
 {}
 
-/// The law of measures: what a search and a draw measure is the payment's own. Its waste is that of the result and the cost
-/// of the listed coins, its weight that of a payment from these alone and of the places, and its coins are these and those
-/// that are counted. So the least waste or weight of a selection is the least of a payment. A call does nothing.
+/// The law of measures: what a search and a draw measure is the payment's own. Its waste is that of the result and the
+/// cost of the listed coins. Its weight is that of a payment from these alone, and of the places. Its coins are these
+/// and those that are counted. So the least waste or weight of a selection is the least of a payment. A call does
+/// nothing.
 pub fn results_measure_their_payments()
     ensures waste { (p : PlainPlan) (mark : Mark) (f : PlainFound) → IsPlan p → IsResultOf (steps_of p) f →
         (funded_at p mark f).waste ≡ f.waste +ℤ cost_of p.request (presets_in p) }
@@ -60,46 +61,48 @@ pub fn results_measure_their_payments()
         length (funded_at p mark f).coins ≡ length (presets_in p) + f.coins }
 {}
 
-/// Nothing is searched for exactly where the listed coins bring all that is due without change. A call does nothing.
+/// The law of plans without a search: nothing is searched for exactly where the listed coins bring all that is due
+/// without change. A call does nothing.
 pub fn given_where_all_is_brought()
     ensures { (p : PlainPlan) → (is_given p ≡ true ↔ BringAll p) }
 {}
 
-/// Each coin of a payment is eligible: it is a candidate, and safe unless the request takes unsafe ones. A call does
-/// nothing.
+/// The law of eligible coins: each coin of a payment is a candidate, and safe unless the request takes unsafe ones. A
+/// call does nothing.
 pub fn payments_spend_eligible_coins()
     ensures { (p : PlainPlan) (f : PlainFunded) → IsPlan p → IsPayment p f → All (IsEligible p) f.coins }
 {}
 
-/// That the figures of a payment add up: its money goes to the outputs and the fee, the fee is no less than that of the
-/// rate, and the waste is what the fee is above what the base and, in the long run, the inputs cost, and what the
-/// change's spending costs. A call does nothing.
+/// The law of figures: a payment's money goes to the outputs and the fee, and the fee is no less than that of the rate.
+/// The waste is what the fee is above what the base and, in the long run, the inputs cost, and what the change's
+/// spending costs. A call does nothing.
 pub fn figures_add_up()
     ensures { (p : PlainPlan) (f : PlainFunded) → IsPayment p f → AddUp p.request p.change (load_for p f.row) f (figures_of p.request f) }
 {}
 
-/// A payment's change is worth making: it is no dust for the change script, and more than spending it costs at the discard
-/// rate. A call does nothing.
+/// The law of change: a payment's change is no dust for the change script, and more than spending it costs at the
+/// discard rate. A call does nothing.
 pub fn change_is_worth_making()
     ensures { (p : PlainPlan) (f : PlainFunded) → IsPayment p f → IfSome f.change (IsWorthIt p.request p.change) }
 {}
 
-/// A payment from a coin at least signals that it may be replaced (BIP 125, 'Summary') exactly where the request asks for
-/// that. A call does nothing.
+/// The law of replacement: a payment from a coin at least signals that it may be replaced (BIP 125, 'Summary') exactly
+/// where the request asks for that. A call does nothing.
 pub fn payments_signal_as_asked()
     ensures { (r : PlainRequest) (change : Watch) (f : PlainFunded) → 0 < length f.coins → (Signals (payment_of r change f) ↔ IsTrue r.replaceable) }
 {}
 
-/// That the weight of a payment is that of its text with marker and flag, the declared weights of its inputs standing in
-/// place of the unsigned ones, with the room that is kept for the number of inputs. A call does nothing.
+/// The law of declared weight: the weight of a payment is that of its text with marker and flag, the declared weights
+/// of its inputs standing in place of the unsigned ones, with the room that is kept for the number of inputs. A call
+/// does nothing.
 pub fn weighs_as_declared()
     ensures { (p : PlainPlan) (f : PlainFunded) → IsPayment p f → All HasOutpoint f.coins →
         IsWeighed f.change f.weight (signed_weight p.request p.change f.coins f.change) (room_of (load_for p f.row) f.coins) }
 {}
 
-/// That a payment pays its rate however it is signed: a transaction with its outputs, whose inputs each weigh at most what
-/// their coins declare, weighs no more than is told, and the coins are worth its outputs and the fee of its weight. A call
-/// does nothing.
+/// The law of signed payments: they pay their rate however they are signed. A transaction with the payment's outputs,
+/// whose inputs each weigh at most what their coins declare, weighs no more than is told. The coins are worth its
+/// outputs and the fee of its weight. A call does nothing.
 pub fn signed_pays_the_rate()
     ensures weight { (p : PlainPlan) (f : PlainFunded) (t : Transaction) → IsPayment p f →
         t.outputs ≡ (payment_of p.request p.change f).outputs → AreWithinDeclared t.inputs f.coins → weight_of t ≤ f.weight }
@@ -108,16 +111,16 @@ pub fn signed_pays_the_rate()
         sum_by (λ (o : TxOut). o.value) t.outputs + fee_of p.request.rate (vsize_of (weight_of t)) ≤ value_of f.coins }
 {}
 
-/// That a payment from a coin at least has a text (BIP 144, 'Serialization'), and that no payment has a signed input. A
-/// call does nothing.
+/// The law of a payment's text: one from a coin at least has a text (BIP 144, 'Serialization'), and no payment has a
+/// signed input. A call does nothing.
 pub fn pays_in_text()
     ensures text { (p : PlainPlan) (f : PlainFunded) → IsPlan p → IsPayment p f → 0 < length f.coins → All HasOutpoint f.coins →
         IsTransaction (payment_of p.request p.change f) }
     ensures bare { (r : PlainRequest) (change : Watch) (f : PlainFunded) → All (λ (i : TxIn). (i.script ≡ []) × (i.witness ≡ [])) (payment_of r change f).inputs }
 {}
 
-/// What a new plan comes to is a function of what it was made from and of the tries that are granted, and so are its tries
-/// and its log. A call does nothing.
+/// The law of new plans: what one comes to is a function of what it was made from and of the tries that are granted,
+/// and so are its tries and its log. A call does nothing.
 pub fn new_plans_come_to()
     ensures outcome { (s : PlanState) (n : ℕ) → s.stand ≡ beginning_of s.plan → s.partial ≡ None → told (moved s n) ≡ outcome_at s.plan n }
     ensures tries { (s : PlanState) (n : ℕ) → s.stand ≡ beginning_of s.plan → s.partial ≡ None → (moved s n).stand.past.tries ≡ tries_at s.plan n }
@@ -125,7 +128,7 @@ pub fn new_plans_come_to()
         log_of (is_partial (end_in (moved s n))) (moved s n).stand ≡ log_at s.plan n }
 {}
 
-/// The law of plans that go on: tries in pieces are tries, also after a call that ran out of memory, and a plan that is
+/// The law of plans that go on: tries in pieces are tries, also after a call that ran out of memory. A plan that is
 /// finished, of which a result was taken or whose run has come to its end, stays finished and comes to the same. A call
 /// does nothing.
 pub fn plans_go_on()
@@ -135,39 +138,41 @@ pub fn plans_go_on()
     ensures over { (s : PlanState) (n : ℕ) → s.partial ≡ None → s.stand.left ≡ [] → told (moved s n) ≡ told s }
 {}
 
-/// A plan whose run from the start came to its end has the answer, of all that there is to find. A call does nothing.
+/// The law of ended plans: one whose run from the start came to its end has the answer, of all that there is to find. A
+/// call does nothing.
 pub fn ended_plans_have_the_answer()
     ensures { (p : PlainPlan) (n : ℕ) → AreSteps (steps_of p) → (stand_after p n).left ≡ [] → IsAnswerOf p (outcome_at p n) }
 {}
 
-/// A plan has one answer, and comes to it wherever its run from the start came to its end; where it didn't, the run has made
-/// each of its tries, and a search is open. A call does nothing.
+/// The law of a plan's answer: there is one, and the plan comes to it wherever its run from the start came to its end.
+/// Where it didn't, the run has made each of its tries, and a search is open. A call does nothing.
 pub fn plans_have_one_answer()
     ensures one { (p : PlainPlan) (a b : Outcome) → IsAnswerOf p a → IsAnswerOf p b → a ≡ b }
     ensures ended { (p : PlainPlan) (n : ℕ) (o : Outcome) → AreSteps (steps_of p) → (stand_after p n).left ≡ [] → IsAnswerOf p o → outcome_at p n ≡ o }
     ensures either { (p : PlainPlan) (n : ℕ) → AreSteps (steps_of p) → IsAnswerOf p (outcome_at p n) ⊎ HasTried p n }
 {}
 
-/// The problem of each step is that of the row and the stage that the step names. A call does nothing.
+/// The law of a plan's steps: the problem of each is that of the row and the stage that it names. A call does nothing.
 pub fn steps_have_their_problems()
     ensures { (p : PlainPlan) (x : PlainStep) → Contains (steps_of p) x → x.problem ≡ problem_at p (row_of p x.row) x.stage }
 {}
 
-/// What a payment claims by its mark is so: exhausted, that its coins are the best choice of the problem of its row and
-/// stage, that no column before has a result, and that the log has each search up to and with its column, accepted; drawn,
-/// the same of what is drawn; partial, that its coins are an admissible choice and that the tries are used up; given, that
-/// the listed coins alone pay. A call does nothing.
+/// The law of marks: what a payment claims by its mark is so. Exhausted, its coins are the best choice of the problem
+/// of its row and stage, no column before has a result, and the log has each search up to and with its column,
+/// accepted. Drawn, it claims the same of what is drawn. Partial, its coins are an admissible choice, the one that is
+/// taken of what is at hand, and the tries are used up. Given, the listed coins alone pay. A call does nothing.
 pub fn payments_keep_their_claims()
     ensures { (p : PlainPlan) (n : ℕ) (f : PlainFunded) → IsPlan p → AreSteps (steps_of p) → outcome_at p n ≡ Outcome.Funded f → Claims p n f }
 {}
 
-/// Where a plan comes to no selection, no step has a result, the log has each search, accepted with no answer, and the
-/// listed coins alone don't pay. A call does nothing.
+/// The law of no selection: where a plan comes to that, no step has a result, and no choice from any row's pool does.
+/// The log has each search, accepted with no answer, and the listed coins alone don't pay. A call does nothing.
 pub fn none_is_proved()
     ensures { (p : PlainPlan) (n : ℕ) → IsPlan p → AreSteps (steps_of p) → outcome_at p n ≡ Outcome.NoSelection → IsProvedNone p (log_at p n) }
 {}
 
-/// A plan is unfinished only where its run has made each of its tries, and a search is open. A call does nothing.
+/// The law of unfinished plans: the run has made each of its tries, a search is open, and nothing is taken, since that
+/// isn't asked for or nothing is at hand. A call does nothing.
 pub fn unfinished_plans_used_their_tries()
     ensures { (p : PlainPlan) (n : ℕ) → outcome_at p n ≡ Outcome.Unfinished → IsUsedUp p n }
 {}
