@@ -1,10 +1,15 @@
 -- What the files mean is what they come to.
-use Rattle.std.proofs.Common.{◌≡◌, ◌∙◌, ℕ, List, Option, Some, Err, inl, inr, refl, ap}
+use Rattle.std.proofs.Common.{sym, ◌≡◌, ◌∙◌, ℕ, List, Option, Some, Err, inl, inr, refl, ap}
 use Rattle.std.specs.Prelude.{◌≢◌}
 use Rattle.block_feed.specs.Block.{ChainBlock}
 use Rattle.fund_steps.proofs.FaultLaws.{fault_found, none_found}
-use Rattle.fund_plan.specs.Outcome.{outcome_at}
-use Rattle.fund_steps.specs.Plan.{IsFault, IsPlan}
+use Rattle.fund_plan.proofs.EndLaws.{ended_answers}
+use Rattle.fund_plan.specs.Outcome.{IsAnswerOf, by_end, outcome_at}
+use Rattle.fund_plan.specs.Steps.{steps_of}
+use Rattle.search_run.proofs.AnswerLaws.{one_answer_is}
+use Rattle.search_run.specs.Found.{PlainFound}
+use Rattle.search_run.specs.declared.ending.End.TheVariants as ends
+use Rattle.fund_steps.specs.Plan.{IsFault, IsPlan, PlainPlan}
 use Rattle.fund_steps.specs.declared.fault.PlanFault.{PlanFault}
 use Rattle.fund_steps.specs.declared.fault.PlanFault.TheVariants as plans
 use Rattle.fund_plan.specs.declared.outcome.Outcome.{Outcome as Answer}
@@ -20,7 +25,7 @@ use Rattle.command_end.specs.Names.{Sources}
 use Rattle.command_fund.specs.Cause.{Cause, Files, BumpNotYet, Plan}
 use Rattle.command_fund.specs.Due.{Refused, by_answer, by_asked, by_cause, by_chain, due_of, not_taken, plan_cause, plan_of, planned}
 use Rattle.command_fund.specs.Inputs.{AreInputs}
-use Rattle.command_fund.specs.Meant.{IsMeant}
+use Rattle.command_fund.specs.Meant.{IsEndedPlan, IsMeant}
 use Rattle.command_fund.specs.Names.{Payment}
 
 -- ---- the files
@@ -75,3 +80,9 @@ refusal_due files s p (Plan fault) h = inputs_due files s p h.0 h.1 h.2 h.3 ∙ 
 pub answer_due : (files : List ℕ → List ℕ) (s : Sources) (p : Payment) (w : PlainWallet) (blocks : List ChainBlock) (r : PlainRequest) (o : Answer) → AreInputs files s p w blocks r → IsPlan (plan_of (held_of w blocks) r)
     → outcome_at (plan_of (held_of w blocks) r) r.tries ≡ o → due_of files s p ≡ by_answer (held_of w blocks) r o
 answer_due files s p w blocks r o has rules is = inputs_due files s p w blocks r has ∙ due_is (held_of w blocks) r o rules is
+
+-- a run that came to its end has the answer, and there is no other
+pub only_answer : (p : PlainPlan) (o : Answer) → IsEndedPlan p → IsAnswerOf p o → outcome_at p p.request.tries ≡ o
+only_answer p o ended a =
+    let x : IsAnswerOf p (outcome_at p p.request.tries) = ended_answers p p.request.tries ended.steps ended.over in
+    x.is ∙ ap (λ (f : Option PlainFound). by_end p (ends.Ended f)) (one_answer_is p.request.seed (steps_of p) x.found a.found x.answer a.answer) ∙ sym a.is

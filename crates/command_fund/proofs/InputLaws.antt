@@ -1,8 +1,9 @@
 -- What was read of the files of a payment, joined; and why their reading stops.
-use Rattle.std.proofs.Common.{◌≡◌, ℕ, cond, List, Option, Some, None, inl, inr, refl, sym, subst}
+use Rattle.std.proofs.Common.{◌≡◌, ℕ, cond, List, Option, Some, None, inl, inr, refl, sym, subst, [], ◌∷◌}
 use Rattle.std.specs.Prelude.{is_some}
 use Rattle.std.proofs.lemmas.Option.{same_Some}
-use Rattle.fund_base.specs.Causes.{OnlyReads, ShelfView}
+use Rattle.fund_base.specs.Causes.{Asks, OnlyReads, ShelfView}
+use Rattle.fund_base.proofs.Asking.{asks_first, asks_then}
 use Rattle.fund_base.proofs.Outside.{rose_earlier}
 use Rattle.block_feed.specs.Block.{ChainBlock}
 use Rattle.request_text.specs.PlainRequest.{PlainRequest}
@@ -20,7 +21,7 @@ use Rattle.fund_files.specs.declared.stop.Stop.TheVariants as stops
 use Rattle.command_end.specs.Names.{Sources}
 use Rattle.command_fund.specs.Cause.{Cause, BumpNotYet}
 use Rattle.command_fund.specs.Due.{not_taken}
-use Rattle.command_fund.specs.Inputs.{AreAsked, IsUnread, Reaches}
+use Rattle.command_fund.specs.Inputs.{AreAsked, AsksInOrder, IsUnread, Reaches}
 use Rattle.command_fund.specs.Meant.{IsDue, IsMeant}
 use Rattle.command_fund.specs.Names.{Payment}
 use Rattle.command_fund.specs.Stops.{StopsFor, lifted}
@@ -67,3 +68,13 @@ pub taken_stops : (told : Type 0) (s : Sources) (p : Payment) (k : Held) (r : Pl
 taken_stops told s p k r cause old middle h only asked not = λ t.
     let has : HasRequest (old.files p.request) r = subst (λ (files : List ℕ → List ℕ). HasRequest (files p.request) r) (only.same t) (asked t) in
     (not_taken_due old.files s p k.wallet h.held.blocks r cause (h.chain t) has not, bump_meant old.files s p k.wallet h.held.blocks r cause r.bump (h.chain t) has refl not)
+
+-- ---- which files were asked for
+
+-- up to the block file is up to the request
+pub chain_asked : (told : Type 0) (s : Sources) (p : Payment) (old new : ShelfView) → (told → Asks (s.wallet ∷ s.blocks ∷ []) old.asked new.asked) → told → AsksInOrder s p old new
+chain_asked told s p old new both t = asks_first (s.wallet ∷ s.blocks ∷ []) (p.request ∷ []) old.asked new.asked (both t)
+
+-- after these the request
+pub all_asked : (told : Type 0) (s : Sources) (p : Payment) (old middle new : ShelfView) → (told → Asks (s.wallet ∷ s.blocks ∷ []) old.asked middle.asked) → (told → Asks (p.request ∷ []) middle.asked new.asked) → told → AsksInOrder s p old new
+all_asked told s p old middle new first second t = asks_then (s.wallet ∷ s.blocks ∷ []) (p.request ∷ []) old.asked middle.asked new.asked (first t) (second t)

@@ -1,6 +1,6 @@
 -- The files of a payment, and what they hold.
-use Rattle.std.specs.Prelude.{ℕ, ◌≡◌, List, None}
-use Rattle.fund_base.specs.Causes.{ShelfView, Rose}
+use Rattle.std.specs.Prelude.{ℕ, ◌≡◌, List, [], ◌∷◌, None}
+use Rattle.fund_base.specs.Causes.{Asks, ShelfView, Rose}
 use Rattle.block_feed.specs.Block.{ChainBlock}
 use Rattle.request_text.specs.PlainRequest.{PlainRequest}
 use Rattle.wallet_text.specs.PlainWallet.{PlainWallet}
@@ -18,6 +18,10 @@ abbrev pub name_of : Sources → Payment → File → List ℕ
 name_of s p Wallet = s.wallet
 name_of s p Blocks = s.blocks
 name_of s p Request = p.request
+
+-- The wallet file was asked for, then the block file, then the request, each any number of times, and no other name was.
+abbrev pub AsksInOrder : Sources → Payment → ShelfView → ShelfView → Type 0
+AsksInOrder s p old new = Asks (s.wallet ∷ s.blocks ∷ p.request ∷ []) old.asked new.asked
 
 -- a read of this file failed
 abbrev pub IsUnread : Sources → Payment → File → ShelfView → ShelfView → Type 0

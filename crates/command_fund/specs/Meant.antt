@@ -1,7 +1,10 @@
 -- What the refusal of a payment means by itself.
-use Rattle.std.specs.Prelude.{ℕ, ◌≡◌, ◌≢◌, ◌⊎◌, List, Some}
+use Rattle.std.specs.Prelude.{ℕ, ◌≡◌, ◌≢◌, ◌⊎◌, List, [], Some}
 use Rattle.block_feed.specs.Block.{ChainBlock}
-use Rattle.fund_steps.specs.Plan.{IsFault}
+use Rattle.fund_plan.specs.Outcome.{stand_after}
+use Rattle.fund_plan.specs.Steps.{steps_of}
+use Rattle.search_run.specs.Step.{AreSteps}
+use Rattle.fund_steps.specs.Plan.{IsFault, IsPlan, PlainPlan}
 use Rattle.fund_steps.specs.declared.fault.PlanFault.TheVariants as plans
 use Rattle.request_text.specs.PlainRequest.{PlainRequest}
 use Rattle.wallet_text.specs.PlainWallet.{PlainWallet}
@@ -29,3 +32,10 @@ IsMeant files s p (Plan fault) =
 -- The files come to a refusal of this cause, and it means what it says.
 abbrev pub IsDue : (List ℕ → List ℕ) → Sources → Payment → Cause → Type 0
 IsDue files s p cause = (due_of files s p ≡ Refused cause) × IsMeant files s p cause
+
+-- A plan that keeps its rules and whose run comes to its end within the request's tries. Its steps are searches and draws,
+-- each with a problem that keeps its rules.
+pub record IsEndedPlan (p : PlainPlan) : Type 0 where
+  pub rules : IsPlan p
+  pub steps : AreSteps (steps_of p)
+  pub over : (stand_after p p.request.tries).left ≡ []

@@ -3,6 +3,7 @@
 ghost use Rattle.std.specs.Prelude.{◌≡◌, IfErr, IfOk};
 ghost use Rattle.fund_base.specs.Causes.{CountsNeverFall, NeverFall, OnlyReads, SameElsewhere};
 ghost use Rattle.command_end.specs.Names.{plain_sources};
+ghost use Rattle.command_fund.specs.Inputs.{AsksInOrder};
 ghost use Rattle.command_fund.specs.Names.{plain_payment};
 ghost use Rattle.command_fund.specs.PlanEnds.{IsEnded};
 ghost use Rattle.command_fund.specs.Statuses.{Ends, IsBeforeTheLog};
@@ -27,13 +28,15 @@ fn outcome<H: Shelf>(
     ensures ends { IfOk result (λ e. IsEnded H.tells (H.view shelf.old).files (plain_sources sources.now) (plain_payment payment.now) e) }
     ensures frame { OnlyReads H.tells (H.view shelf.old) (H.view shelf.new) }
     ensures stop { IfErr result (StopsFor H.tells (plain_sources sources.now) (plain_payment payment.now) (H.view shelf.old) (H.view shelf.new)) }
+    ensures asked { H.tells → AsksInOrder (plain_sources sources.now) (plain_payment payment.now) (H.view shelf.old) (H.view shelf.new) }
 {
     let Inputs { held, request } = read_inputs(alloc, sources, payment, shelf)?;
     conclude(alloc, &held, &request)
 }
 
 /// Funds a payment with the request's tries: it reads the three files, writes the log, and then prints the report to `out`.
-/// Where the tries are used up while a search is open, it writes no log. What is refused gets its fault line there.
+/// Where the run is unfinished, it writes no log: the tries are used up, a search is open, and nothing is taken. What is
+/// refused gets its fault line there.
 ///
 /// The clauses on content hold where the shelf and the sink tell theirs.
 pub fn fund<H: Shelf, O: Sink>(
@@ -49,6 +52,9 @@ pub fn fund<H: Shelf, O: Sink>(
     // What stays: every file but the log, and the log too before it is written.
     ensures others { H.tells → SameElsewhere (plain_payment payment.now).log (H.view shelf.old).files (H.view shelf.new).files }
     ensures kept { H.tells → IsBeforeTheLog result → (H.view shelf.new).files ≡ (H.view shelf.old).files }
+
+    // It asks for the wallet file, then for the block file, then for the request, and for no other name.
+    ensures asked { H.tells → AsksInOrder (plain_sources sources.now) (plain_payment payment.now) (H.view shelf.old) (H.view shelf.new) }
 
     // No count falls.
     ensures reads { NeverFall (H.view shelf.old).reads (H.view shelf.new).reads }

@@ -2,7 +2,7 @@
 
 ghost use Rattle.std.specs.Prelude.{◌≡◌, ℕ, List};
 ghost use Rattle.block_feed.specs.Block.{ChainBlock};
-ghost use Rattle.fund_plan.specs.Outcome.{outcome_at, tries_at};
+ghost use Rattle.fund_plan.specs.Outcome.{IsAnswerOf, outcome_at, tries_at};
 ghost use Rattle.fund_plan.specs.Selection.{PlainFunded};
 ghost use Rattle.fund_plan.specs.declared.outcome.Outcome.TheVariants as answers;
 ghost use Rattle.fund_steps.specs.Plan.{IsPlan};
@@ -14,7 +14,7 @@ ghost use Rattle.command_end.specs.Names.{Sources};
 ghost use Rattle.command_fund.specs.Cause.{Cause};
 ghost use Rattle.command_fund.specs.Due.{Refused, Unfinished, NoSelection, Funded, due_of, log_text_at, none_report_at, open_report_at, plan_of};
 ghost use Rattle.command_fund.specs.Inputs.{AreInputs};
-ghost use Rattle.command_fund.specs.Meant.{IsMeant};
+ghost use Rattle.command_fund.specs.Meant.{IsEndedPlan, IsMeant};
 ghost use Rattle.command_fund.specs.Names.{Payment};
 
 /// The law of what the files of a payment come to: a cause for a refusal which they mean is the one that they come to; and
@@ -24,5 +24,8 @@ pub fn payments_are_due()
     ensures refused { (files : List ℕ → List ℕ) (s : Sources) (p : Payment) (cause : Cause) → IsMeant files s p cause → due_of files s p ≡ Refused cause }
     ensures funded { (files : List ℕ → List ℕ) (s : Sources) (p : Payment) (w : PlainWallet) (blocks : List ChainBlock) (r : PlainRequest) (f : PlainFunded) → AreInputs files s p w blocks r → IsPlan (plan_of (held_of w blocks) r) → outcome_at (plan_of (held_of w blocks) r) r.tries ≡ answers.Funded f → due_of files s p ≡ Funded (report_of (history_of w blocks) r w.change (tries_at (plan_of (held_of w blocks) r) r.tries) f) (log_text_at (plan_of (held_of w blocks) r) r.tries) }
     ensures none { (files : List ℕ → List ℕ) (s : Sources) (p : Payment) (w : PlainWallet) (blocks : List ChainBlock) (r : PlainRequest) → AreInputs files s p w blocks r → IsPlan (plan_of (held_of w blocks) r) → outcome_at (plan_of (held_of w blocks) r) r.tries ≡ answers.NoSelection → due_of files s p ≡ NoSelection (none_report_at (plan_of (held_of w blocks) r) r.tries) (log_text_at (plan_of (held_of w blocks) r) r.tries) }
+    // The same, in words that know no run, where the tries reach the end: the answer of all that there is to find.
+    ensures answered { (files : List ℕ → List ℕ) (s : Sources) (p : Payment) (w : PlainWallet) (blocks : List ChainBlock) (r : PlainRequest) (f : PlainFunded) → AreInputs files s p w blocks r → IsEndedPlan (plan_of (held_of w blocks) r) → IsAnswerOf (plan_of (held_of w blocks) r) (answers.Funded f) → due_of files s p ≡ Funded (report_of (history_of w blocks) r w.change (tries_at (plan_of (held_of w blocks) r) r.tries) f) (log_text_at (plan_of (held_of w blocks) r) r.tries) }
+    ensures answered_by_none { (files : List ℕ → List ℕ) (s : Sources) (p : Payment) (w : PlainWallet) (blocks : List ChainBlock) (r : PlainRequest) → AreInputs files s p w blocks r → IsEndedPlan (plan_of (held_of w blocks) r) → IsAnswerOf (plan_of (held_of w blocks) r) answers.NoSelection → due_of files s p ≡ NoSelection (none_report_at (plan_of (held_of w blocks) r) r.tries) (log_text_at (plan_of (held_of w blocks) r) r.tries) }
     ensures unfinished { (files : List ℕ → List ℕ) (s : Sources) (p : Payment) (w : PlainWallet) (blocks : List ChainBlock) (r : PlainRequest) → AreInputs files s p w blocks r → IsPlan (plan_of (held_of w blocks) r) → outcome_at (plan_of (held_of w blocks) r) r.tries ≡ answers.Unfinished → due_of files s p ≡ Unfinished (open_report_at (plan_of (held_of w blocks) r) r.tries) }
 {}

@@ -4,7 +4,7 @@ use Rattle.fund_files.proofs.FrameLaws.{only_reads_on}
 use Rattle.command_end.specs.Names.{plain_sources}
 use Rattle.command_fund.specs.Cause.{cause_of}
 use Rattle.command_fund.specs.Names.{plain_payment}
-use Rattle.command_fund.proofs.InputLaws.{asked_is, asked_stops, chain_stops, taken_stops}
+use Rattle.command_fund.proofs.InputLaws.{all_asked, asked_is, asked_stops, chain_asked, chain_stops, taken_stops}
 use Rattle.command_fund.proofs.inputs.read_inputs.Goals as goal
 
 pub returns-in_err-held-clause-stop : goal.returns-in_err-held-clause-stop
@@ -34,3 +34,15 @@ returns-in-None-clause-frame g c = only_reads_on _ (g.H.Shelf.view c.args.shelf.
 pub returns-in-None-clause-held : goal.returns-in-None-clause-held
 returns-in-None-clause-held g c = asked_is _ (g.H.Shelf.view c.args.shelf.now).files (g.H.Shelf.view c.read_chain.new.shelf).files (plain_sources c.args.sources.now) (plain_payment c.args.payment.now) c.in_ok-held.held c.in_ok-request.request
     c.in_ok-held.ensures.held c.read_chain.ensures.frame.same c.in_ok-request.ensures.asked (sym c.in-None.ensures)
+
+pub returns-in_err-held-clause-asked : goal.returns-in_err-held-clause-asked
+returns-in_err-held-clause-asked g c = chain_asked _ (plain_sources c.args.sources.now) (plain_payment c.args.payment.now) (g.H.Shelf.view c.args.shelf.now) (g.H.Shelf.view c.read_chain.new.shelf) c.read_chain.ensures.asked
+
+pub returns-in_err-request-clause-asked : goal.returns-in_err-request-clause-asked
+returns-in_err-request-clause-asked g c = all_asked _ (plain_sources c.args.sources.now) (plain_payment c.args.payment.now) (g.H.Shelf.view c.args.shelf.now) (g.H.Shelf.view c.read_chain.new.shelf) (g.H.Shelf.view c.read_asked.new.shelf) c.read_chain.ensures.asked c.read_asked.ensures.asked_for
+
+pub returns-in-Some-clause-asked : goal.returns-in-Some-clause-asked
+returns-in-Some-clause-asked g c = all_asked _ (plain_sources c.args.sources.now) (plain_payment c.args.payment.now) (g.H.Shelf.view c.args.shelf.now) (g.H.Shelf.view c.read_chain.new.shelf) (g.H.Shelf.view c.read_asked.new.shelf) c.read_chain.ensures.asked c.read_asked.ensures.asked_for
+
+pub returns-in-None-clause-asked : goal.returns-in-None-clause-asked
+returns-in-None-clause-asked g c = all_asked _ (plain_sources c.args.sources.now) (plain_payment c.args.payment.now) (g.H.Shelf.view c.args.shelf.now) (g.H.Shelf.view c.read_chain.new.shelf) (g.H.Shelf.view c.read_asked.new.shelf) c.read_chain.ensures.asked c.read_asked.ensures.asked_for
