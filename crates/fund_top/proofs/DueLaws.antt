@@ -1,11 +1,10 @@
 -- What the files of a command mean is what they come to.
 use Rattle.std.proofs.Common.{◌≡◌, ℕ, List, ap}
 use Rattle.block_feed.specs.Block.{ChainBlock}
-use Rattle.fund_plan.specs.Answer.{Answers}
+use Rattle.fund_plan.specs.Outcome.{outcome_at}
 use Rattle.fund_steps.specs.Plan.{IsPlan}
 use Rattle.fund_plan.specs.declared.outcome.Outcome.{Outcome as Answer}
 use Rattle.request_text.specs.PlainRequest.{PlainRequest}
-use Rattle.request_text.specs.declared.request.Method.TheVariants.{Manual}
 use Rattle.wallet_text.specs.PlainWallet.{PlainWallet}
 use Rattle.fund_files.specs.Chain.{held_of}
 use Rattle.fund_files.specs.Contents.{HasChain}
@@ -13,7 +12,7 @@ use Rattle.command_end.specs.Names.{Sources}
 use Rattle.command_coins.proofs.ListingLaws as listings
 use Rattle.command_coins.specs.Due.{listing_in}
 use Rattle.command_fund.proofs.DueLaws as payments
-use Rattle.command_fund.specs.Cause.{Cause, Files, BumpNotYet, PlanNotYet, Plan}
+use Rattle.command_fund.specs.Cause.{Cause, Files, BumpNotYet, Plan}
 use Rattle.command_fund.specs.Due.{by_answer, plan_of}
 use Rattle.command_fund.specs.Inputs.{AreInputs}
 use Rattle.command_fund.specs.Names.{Payment}
@@ -23,7 +22,6 @@ use Rattle.fund_top.specs.Words.{Command, Coins, Fund}
 listing_refused : (files : List ℕ → List ℕ) (s : Sources) (cause : Cause) → IsListingMeant (files s.wallet) (files s.blocks) cause → outcome_of files (Coins s) ≡ Refused cause
 listing_refused files s (Files cause) h = ap listing_outcome (listings.refused_due files s cause h)
 listing_refused files s BumpNotYet h = absurd h
-listing_refused files s PlanNotYet h = absurd h
 listing_refused files s (Plan fault) h = absurd h
 
 pub refusal_due : (files : List ℕ → List ℕ) (c : Command) (cause : Cause) → IsMeant files c cause → outcome_of files c ≡ Refused cause
@@ -33,6 +31,6 @@ refusal_due files (Fund s p) cause h = ap payment_outcome (payments.refusal_due 
 pub listing_due : (files : List ℕ → List ℕ) (s : Sources) (w : PlainWallet) (blocks : List ChainBlock) → HasChain (files s.wallet) (files s.blocks) w blocks → outcome_of files (Coins s) ≡ Listed (listing_in (held_of w blocks))
 listing_due files s w blocks h = ap listing_outcome (listings.listing_due files s w blocks h)
 
-pub answer_due : (files : List ℕ → List ℕ) (s : Sources) (p : Payment) (w : PlainWallet) (blocks : List ChainBlock) (r : PlainRequest) (a : Answer) → AreInputs files s p w blocks r → IsPlan (plan_of (held_of w blocks) r) → r.method ≡ Manual → Answers (plan_of (held_of w blocks) r) a
-    → outcome_of files (Fund s p) ≡ payment_outcome (by_answer (held_of w blocks) r a)
-answer_due files s p w blocks r a has rules manual means = ap payment_outcome (payments.answer_due files s p w blocks r a has rules manual means)
+pub answer_due : (files : List ℕ → List ℕ) (s : Sources) (p : Payment) (w : PlainWallet) (blocks : List ChainBlock) (r : PlainRequest) (a : Answer) → AreInputs files s p w blocks r → IsPlan (plan_of (held_of w blocks) r)
+    → outcome_at (plan_of (held_of w blocks) r) r.tries ≡ a → outcome_of files (Fund s p) ≡ payment_outcome (by_answer (held_of w blocks) r a)
+answer_due files s p w blocks r a has rules is = ap payment_outcome (payments.answer_due files s p w blocks r a has rules is)

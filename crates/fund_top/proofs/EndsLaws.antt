@@ -1,5 +1,5 @@
 -- What the status tells of how a command ended.
-use Rattle.std.proofs.Common.{◌≡◌, ◌∙◌, ℕ, List, Result, Ok, Err, inl, inr, refl, sym, ap, subst}
+use Rattle.std.proofs.Common.{◌≡◌, ◌∙◌, ℕ, List, Some, None, Result, Ok, Err, inl, inr, refl, sym, ap, subst}
 use Rattle.std.specs.Prelude.{◌⊎◌}
 use Rattle.fund_base.specs.Causes.{ShelfView, SinkView}
 use Rattle.fund_files.specs.Cause.{FileCause}
@@ -12,7 +12,8 @@ use Rattle.command_fund.specs.Cause.{Cause, status_of_cause}
 use Rattle.command_fund.specs.Due as payment_files
 use Rattle.command_fund.specs.Names.{Payment}
 use Rattle.command_fund.specs.Statuses as payments
-use Rattle.fund_top.specs.Due.{Outcome, Refused, listing_outcome, outcome_of, payment_outcome}
+use Rattle.command_fund.proofs.Finished.{log_lost, report_due}
+use Rattle.fund_top.specs.Due.{Refused, listing_outcome, outcome_of, payment_outcome}
 use Rattle.fund_top.specs.Statuses.{Ends, NoneFailed, NoneUnread, status_of}
 use Rattle.fund_top.specs.Words.{Command, Coins, Fund}
 
@@ -21,6 +22,7 @@ use Rattle.fund_top.specs.Words.{Command, Coins, Fund}
 pub listing_ends : (told_files told : Type 0) (s : Sources) (shelf shelf' : ShelfView) (sink sink' : SinkView) (status : Status) → listings.Ends told_files told s shelf shelf' sink sink' status → Ends told_files told (Coins s) shelf shelf' sink sink' status
 listing_ends told_files told s shelf shelf' sink sink' statuses.Done h = h
 listing_ends told_files told s shelf shelf' sink sink' statuses.NoSelection h = h
+listing_ends told_files told s shelf shelf' sink sink' statuses.Unfinished h = h
 listing_ends told_files told s shelf shelf' sink sink' statuses.Usage h = h
 listing_ends told_files told s shelf shelf' sink sink' statuses.Input h = h
 listing_ends told_files told s shelf shelf' sink sink' statuses.Limit h = h
@@ -31,6 +33,7 @@ listing_ends told_files told s shelf shelf' sink sink' statuses.Memory h = h
 pub payment_ends : (told_files told : Type 0) (s : Sources) (p : Payment) (shelf shelf' : ShelfView) (sink sink' : SinkView) (status : Status) → payments.Ends told_files told s p shelf shelf' sink sink' status → Ends told_files told (Fund s p) shelf shelf' sink sink' status
 payment_ends told_files told s p shelf shelf' sink sink' statuses.Done h = h
 payment_ends told_files told s p shelf shelf' sink sink' statuses.NoSelection h = h
+payment_ends told_files told s p shelf shelf' sink sink' statuses.Unfinished h = h
 payment_ends told_files told s p shelf shelf' sink sink' statuses.Usage h = h
 payment_ends told_files told s p shelf shelf' sink sink' statuses.Input h = h
 payment_ends told_files told s p shelf shelf' sink sink' statuses.Limit h = h
@@ -43,6 +46,7 @@ payment_ends told_files told s p shelf shelf' sink sink' statuses.Memory h = h
 listing_back : (told_files told : Type 0) (s : Sources) (shelf shelf' : ShelfView) (sink sink' : SinkView) (status : Status) → Ends told_files told (Coins s) shelf shelf' sink sink' status → listings.Ends told_files told s shelf shelf' sink sink' status
 listing_back told_files told s shelf shelf' sink sink' statuses.Done h = h
 listing_back told_files told s shelf shelf' sink sink' statuses.NoSelection h = h
+listing_back told_files told s shelf shelf' sink sink' statuses.Unfinished h = h
 listing_back told_files told s shelf shelf' sink sink' statuses.Usage h = h
 listing_back told_files told s shelf shelf' sink sink' statuses.Input h = h
 listing_back told_files told s shelf shelf' sink sink' statuses.Limit h = h
@@ -53,6 +57,7 @@ listing_back told_files told s shelf shelf' sink sink' statuses.Memory h = h
 payment_back : (told_files told : Type 0) (s : Sources) (p : Payment) (shelf shelf' : ShelfView) (sink sink' : SinkView) (status : Status) → Ends told_files told (Fund s p) shelf shelf' sink sink' status → payments.Ends told_files told s p shelf shelf' sink sink' status
 payment_back told_files told s p shelf shelf' sink sink' statuses.Done h = h
 payment_back told_files told s p shelf shelf' sink sink' statuses.NoSelection h = h
+payment_back told_files told s p shelf shelf' sink sink' statuses.Unfinished h = h
 payment_back told_files told s p shelf shelf' sink sink' statuses.Usage h = h
 payment_back told_files told s p shelf shelf' sink sink' statuses.Input h = h
 payment_back told_files told s p shelf shelf' sink sink' statuses.Limit h = h
@@ -66,10 +71,11 @@ listing_not : (due : Result (List ℕ) FileCause) (cause : Cause) → listing_ou
 listing_not (Ok listing) cause is reported = cc
 listing_not (Err file_cause) cause is reported = reported
 
-payment_not : (due : payment_files.Outcome) (cause : Cause) → payment_outcome due ≡ Refused cause → payments.IsReported due → ⊥
-payment_not (payment_files.Refused own) cause is reported = reported
-payment_not payment_files.NoSelection cause is reported = cc
-payment_not (payment_files.Funded report) cause is reported = cc
+payment_not : (due : payment_files.Outcome) (cause : Cause) → payment_outcome due ≡ Refused cause → due ≡ payment_files.Refused cause
+payment_not (payment_files.Refused own) cause is = cc
+payment_not (payment_files.Unfinished report) cause is = absurd cc
+payment_not (payment_files.NoSelection report log) cause is = absurd cc
+payment_not (payment_files.Funded report log) cause is = absurd cc
 
 -- ---- where nothing failed
 
@@ -83,6 +89,7 @@ listing_complete : (told_files told : Type 0) (s : Sources) (shelf shelf' : Shel
     → (status ≡ status_of (outcome_of shelf.files (Coins s))) ⊎ (status ≡ statuses.Memory)
 listing_complete told_files told s shelf shelf' sink sink' statuses.Done h t none = inl (sym (ap listing_status (h.1.comes_to t)))
 listing_complete told_files told s shelf shelf' sink sink' statuses.NoSelection h t none = absurd h
+listing_complete told_files told s shelf shelf' sink sink' statuses.Unfinished h t none = absurd h
 listing_complete told_files told s shelf shelf' sink sink' statuses.Usage h t none = absurd h
 listing_complete told_files told s shelf shelf' sink sink' statuses.Input h t none = inl (sym (ap listing_status (h.2 t).0 ∙ h.1))
 listing_complete told_files told s shelf shelf' sink sink' statuses.Limit h t none = inl (sym (ap listing_status (h.2 t).0 ∙ h.1))
@@ -92,14 +99,15 @@ listing_complete told_files told s shelf shelf' sink sink' statuses.Memory h t n
 
 payment_complete : (told_files told : Type 0) (s : Sources) (p : Payment) (shelf shelf' : ShelfView) (sink sink' : SinkView) (status : Status) → payments.Ends told_files told s p shelf shelf' sink sink' status → told_files → NoneFailed (Fund s p) shelf shelf' sink sink'
     → (status ≡ status_of (outcome_of shelf.files (Fund s p))) ⊎ (status ≡ statuses.Memory)
-payment_complete told_files told s p shelf shelf' sink sink' statuses.Done h t none = inl (sym (ap payment_status (h.1.comes_to t)))
-payment_complete told_files told s p shelf shelf' sink sink' statuses.NoSelection h t none = inl (sym (ap payment_status (h.0.comes_to t)))
+payment_complete told_files told s p shelf shelf' sink sink' statuses.Done h t none = inl (sym (ap payment_status (h.2.comes_to t)))
+payment_complete told_files told s p shelf shelf' sink sink' statuses.NoSelection h t none = inl (sym (ap payment_status (h.2.comes_to t)))
+payment_complete told_files told s p shelf shelf' sink sink' statuses.Unfinished h t none = inl (sym (ap payment_status (h.1.comes_to t)))
 payment_complete told_files told s p shelf shelf' sink sink' statuses.Usage h t none = absurd h
 payment_complete told_files told s p shelf shelf' sink sink' statuses.Input h t none = inl (sym (ap payment_status (h.2 t).0 ∙ h.1))
 payment_complete told_files told s p shelf shelf' sink sink' statuses.Limit h t none = inl (sym (ap payment_status (h.2 t).0 ∙ h.1))
 payment_complete told_files told s p shelf shelf' sink sink' statuses.ReadFault h t none = absurd (none.reads h.0 h.1)
 payment_complete told_files told s p shelf shelf' sink sink' statuses.WriteFault h t none =
-    elim h.1 as (λ x. (statuses.WriteFault ≡ status_of (outcome_of shelf.files (Fund s p))) ⊎ (statuses.WriteFault ≡ statuses.Memory)) [ inl w ↦ absurd (none.log w.0) | inr w ↦ absurd (none.sinks w.0) ]
+    elim h.3 as (λ x. (statuses.WriteFault ≡ status_of (outcome_of shelf.files (Fund s p))) ⊎ (statuses.WriteFault ≡ statuses.Memory)) [ inl w ↦ absurd (none.log (log_lost p h.1 shelf shelf' w.0)) | inr w ↦ absurd (none.sinks w.0) ]
 payment_complete told_files told s p shelf shelf' sink sink' statuses.Memory h t none = inr refl
 
 -- it is the status of what the files come to, or want of memory
@@ -114,6 +122,7 @@ listing_refused : (told_files told : Type 0) (s : Sources) (shelf shelf' : Shelf
     → (status ≡ status_of_cause cause) ⊎ (status ≡ statuses.Memory)
 listing_refused told_files told s shelf shelf' sink sink' statuses.Done h t none cause is = absurd (listing_not (listing_files.due_of shelf.files s) cause is (subst listings.IsReported (sym (h.1.comes_to t)) tt))
 listing_refused told_files told s shelf shelf' sink sink' statuses.NoSelection h t none cause is = absurd h
+listing_refused told_files told s shelf shelf' sink sink' statuses.Unfinished h t none cause is = absurd h
 listing_refused told_files told s shelf shelf' sink sink' statuses.Usage h t none cause is = absurd h
 listing_refused told_files told s shelf shelf' sink sink' statuses.Input h t none cause is = inl (sym (ap status_of (sym is) ∙ ap listing_status (h.2 t).0 ∙ h.1))
 listing_refused told_files told s shelf shelf' sink sink' statuses.Limit h t none cause is = inl (sym (ap status_of (sym is) ∙ ap listing_status (h.2 t).0 ∙ h.1))
@@ -123,13 +132,14 @@ listing_refused told_files told s shelf shelf' sink sink' statuses.Memory h t no
 
 payment_refused : (told_files told : Type 0) (s : Sources) (p : Payment) (shelf shelf' : ShelfView) (sink sink' : SinkView) (status : Status) → payments.Ends told_files told s p shelf shelf' sink sink' status → told_files → NoneUnread (Fund s p) shelf shelf' → (cause : Cause) → outcome_of shelf.files (Fund s p) ≡ Refused cause
     → (status ≡ status_of_cause cause) ⊎ (status ≡ statuses.Memory)
-payment_refused told_files told s p shelf shelf' sink sink' statuses.Done h t none cause is = absurd (payment_not (payment_files.due_of shelf.files s p) cause is (subst payments.IsReported (sym (h.1.comes_to t)) tt))
-payment_refused told_files told s p shelf shelf' sink sink' statuses.NoSelection h t none cause is = absurd (payment_not (payment_files.due_of shelf.files s p) cause is (subst payments.IsReported (sym (h.0.comes_to t)) tt))
+payment_refused told_files told s p shelf shelf' sink sink' statuses.Done h t none cause is = absurd (report_due told_files shelf.files s p h.0 (Some h.1) (inl h.2) t cause (payment_not (payment_files.due_of shelf.files s p) cause is))
+payment_refused told_files told s p shelf shelf' sink sink' statuses.NoSelection h t none cause is = absurd (report_due told_files shelf.files s p h.0 (Some h.1) (inr h.2) t cause (payment_not (payment_files.due_of shelf.files s p) cause is))
+payment_refused told_files told s p shelf shelf' sink sink' statuses.Unfinished h t none cause is = absurd (report_due told_files shelf.files s p h.0 None h.1 t cause (payment_not (payment_files.due_of shelf.files s p) cause is))
 payment_refused told_files told s p shelf shelf' sink sink' statuses.Usage h t none cause is = absurd h
 payment_refused told_files told s p shelf shelf' sink sink' statuses.Input h t none cause is = inl (sym (ap status_of (sym is) ∙ ap payment_status (h.2 t).0 ∙ h.1))
 payment_refused told_files told s p shelf shelf' sink sink' statuses.Limit h t none cause is = inl (sym (ap status_of (sym is) ∙ ap payment_status (h.2 t).0 ∙ h.1))
 payment_refused told_files told s p shelf shelf' sink sink' statuses.ReadFault h t none cause is = absurd (none h.0 h.1)
-payment_refused told_files told s p shelf shelf' sink sink' statuses.WriteFault h t none cause is = absurd (payment_not (payment_files.due_of shelf.files s p) cause is (h.0 t))
+payment_refused told_files told s p shelf shelf' sink sink' statuses.WriteFault h t none cause is = absurd (report_due told_files shelf.files s p h.0 h.1 h.2 t cause (payment_not (payment_files.due_of shelf.files s p) cause is))
 payment_refused told_files told s p shelf shelf' sink sink' statuses.Memory h t none cause is = inr refl
 
 -- it is the status of the refusal, or want of memory

@@ -1,2 +1,3 @@
 pub mod EndsLaws
 pub mod DueLaws
+pub mod SureLaws

@@ -3,17 +3,19 @@ use Rattle.std.specs.Prelude.{ℕ, List, Result, Ok, Err}
 use Rattle.fund_files.specs.Cause.{FileCause}
 use Rattle.fund_files.specs.Refusals.{IsChainMeant}
 use Rattle.command_coins.specs.Due as listings
-use Rattle.command_fund.specs.Cause.{Cause, Files, BumpNotYet, PlanNotYet, Plan}
+use Rattle.command_fund.specs.Cause.{Cause, Files, BumpNotYet, Plan}
 use Rattle.command_fund.specs.Due as payments
 use Rattle.command_fund.specs.Meant as payment_causes
 use Rattle.fund_top.specs.Words.{Command, Coins, Fund}
 
--- a refusal, the listing, no selection, or a payment and its report
+-- a refusal; the listing; a report with which the tries are used up; or a report and a log, where nothing pays or of a
+-- payment
 pub data Outcome : Type 0 where
   Refused : Cause → Outcome
   Listed : (listing : List ℕ) → Outcome
-  NoSelection : Outcome
-  Funded : (report : List ℕ) → Outcome
+  Unfinished : (report : List ℕ) → Outcome
+  NoSelection : (report log : List ℕ) → Outcome
+  Funded : (report log : List ℕ) → Outcome
 
 -- that of a listing
 abbrev pub listing_outcome : Result (List ℕ) FileCause → Outcome
@@ -23,8 +25,9 @@ listing_outcome (Ok listing) = Listed listing
 -- that of a payment
 abbrev pub payment_outcome : payments.Outcome → Outcome
 payment_outcome (payments.Refused cause) = Refused cause
-payment_outcome payments.NoSelection = NoSelection
-payment_outcome (payments.Funded report) = Funded report
+payment_outcome (payments.Unfinished report) = Unfinished report
+payment_outcome (payments.NoSelection report log) = NoSelection report log
+payment_outcome (payments.Funded report log) = Funded report log
 
 -- what a command comes to, by the content of files
 abbrev pub outcome_of : (List ℕ → List ℕ) → Command → Outcome
@@ -35,7 +38,6 @@ outcome_of files (Fund s p) = payment_outcome (payments.due_of files s p)
 abbrev pub IsListingMeant : (wallet blocks : List ℕ) → Cause → Type 0
 IsListingMeant wallet blocks (Files cause) = IsChainMeant wallet blocks cause
 IsListingMeant wallet blocks BumpNotYet = ⊥
-IsListingMeant wallet blocks PlanNotYet = ⊥
 IsListingMeant wallet blocks (Plan fault) = ⊥
 
 -- what a cause means by itself

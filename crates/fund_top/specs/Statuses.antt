@@ -11,15 +11,16 @@ use Rattle.command_fund.specs.Cause.{status_of_cause}
 use Rattle.command_fund.specs.Inputs as inputs
 use Rattle.command_fund.specs.Names.{Payment}
 use Rattle.command_fund.specs.Statuses as payments
-use Rattle.fund_top.specs.Due.{Outcome, Refused, Listed, NoSelection, Funded}
+use Rattle.fund_top.specs.Due.{Outcome, Refused, Listed, Unfinished, NoSelection, Funded}
 use Rattle.fund_top.specs.Words.{Command, Coins, Fund}
 
 -- the status of what the files come to, where nothing fails
 abbrev pub status_of : Outcome → Status
 status_of (Refused cause) = status_of_cause cause
 status_of (Listed listing) = statuses.Done
-status_of NoSelection = statuses.NoSelection
-status_of (Funded report) = statuses.Done
+status_of (Unfinished report) = statuses.Unfinished
+status_of (NoSelection report log) = statuses.NoSelection
+status_of (Funded report log) = statuses.Done
 
 -- the sources of a command that lists coins have this
 abbrev pub WhereListing : Option Command → (Sources → Type 0) → Type 0
@@ -42,6 +43,11 @@ EndsDone told_files told (Fund s p) shelf shelf' sink sink' = payments.EndsFunde
 abbrev pub EndsNotFunded : Type 0 → Type 0 → Command → ShelfView → ShelfView → SinkView → SinkView → Type 0
 EndsNotFunded told_files told (Coins s) shelf shelf' sink sink' = ⊥
 EndsNotFunded told_files told (Fund s p) shelf shelf' sink sink' = payments.EndsNotFunded told_files told s p shelf shelf' sink sink'
+
+-- unfinished, which no listing ends with
+abbrev pub EndsUnfinished : Type 0 → Type 0 → Command → ShelfView → ShelfView → SinkView → SinkView → Type 0
+EndsUnfinished told_files told (Coins s) shelf shelf' sink sink' = ⊥
+EndsUnfinished told_files told (Fund s p) shelf shelf' sink sink' = payments.EndsUnfinished told_files told s p shelf shelf' sink sink'
 
 -- a refusal of this status, whose cause the files come to where they are told, with its line
 abbrev pub EndsRefused : Status → Type 0 → Type 0 → Command → ShelfView → SinkView → SinkView → Type 0
@@ -67,6 +73,7 @@ EndsWithoutMemory told_files told (Fund s p) shelf shelf' sink sink' = payments.
 abbrev pub Ends : Type 0 → Type 0 → Command → ShelfView → ShelfView → SinkView → SinkView → Status → Type 0
 Ends told_files told c shelf shelf' sink sink' statuses.Done = EndsDone told_files told c shelf shelf' sink sink'
 Ends told_files told c shelf shelf' sink sink' statuses.NoSelection = EndsNotFunded told_files told c shelf shelf' sink sink'
+Ends told_files told c shelf shelf' sink sink' statuses.Unfinished = EndsUnfinished told_files told c shelf shelf' sink sink'
 Ends told_files told c shelf shelf' sink sink' statuses.Usage = ⊥
 Ends told_files told c shelf shelf' sink sink' statuses.Input = EndsRefused statuses.Input told_files told c shelf sink sink'
 Ends told_files told c shelf shelf' sink sink' statuses.Limit = EndsRefused statuses.Limit told_files told c shelf sink sink'

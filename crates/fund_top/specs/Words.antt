@@ -1,5 +1,5 @@
 -- The words of the command line.
-use Rattle.std.specs.Prelude.{ℕ, not, ◌&&◌, nat_lt, List, [], ◌∷◌, length, String, string_bytes, bytes_eq, codes, Bool, Option, Some, None, if◌then◌else◌}
+use Rattle.std.specs.Prelude.{not, ◌&&◌, nat_lt, List, [], ◌∷◌, length, String, string_bytes, bytes_eq, codes, Bool, Option, Some, None, if◌then◌else◌}
 use Rattle.std.specs.declared.alloc.Global.{Global}
 use Rattle.command_end.specs.Names.{Sources}
 use Rattle.command_fund.specs.Names.{Payment}

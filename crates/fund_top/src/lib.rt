@@ -1,5 +1,5 @@
 //! The commands of Ninelace, from their words to their status: they list the payments and the coins of a wallet, or fund a
-//! payment from listed coins. Each command is a crate; here is which one the words ask for, and what is true of all.
+//! payment. Each command is a crate; here is which one the words ask for, and what is true of all.
 #![tactic(auto)]
 
 mod laws;

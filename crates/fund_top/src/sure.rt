@@ -4,7 +4,7 @@ ghost use Rattle.std.specs.Prelude.{◌≡◌, ◌≢◌, ◌⊎◌, IfSome};
 ghost use Rattle.fund_base.specs.SureShelf.{view_of as shelf_view};
 ghost use Rattle.fund_base.specs.SureSink.{view_of as sink_view};
 ghost use Rattle.fund_top.specs.Due.{outcome_of};
-ghost use Rattle.fund_top.specs.InMemory.{Funds, FundsNot, Lists};
+ghost use Rattle.fund_top.specs.InMemory.{Funds, FundsNot, FundsOpen, Lists};
 ghost use Rattle.fund_top.specs.Statuses.{WhereFunding, WhereListing, status_of};
 ghost use Rattle.fund_top.specs.Words.{command_of};
 
@@ -25,6 +25,7 @@ pub fn run_in_memory(
     ensures written { result ≢ Status.WriteFault }
     ensures done { result ≡ Status.Done → WhereFunding (command_of words.now.items) (λ s p. Funds s p (shelf_view shelf.old) (shelf_view shelf.new) (sink_view out.old) (sink_view out.new)) }
     ensures listed { result ≡ Status.Done → WhereListing (command_of words.now.items) (λ s. Lists s (shelf_view shelf.old) (sink_view out.old) (sink_view out.new)) }
+    ensures unfinished { result ≡ Status.Unfinished → IfSome (command_of words.now.items) (λ c. FundsOpen c (shelf_view shelf.old) (shelf_view shelf.new) (sink_view out.old) (sink_view out.new)) }
     ensures none { result ≡ Status.NoSelection → IfSome (command_of words.now.items) (λ c. FundsNot c (shelf_view shelf.old) (shelf_view shelf.new) (sink_view out.old) (sink_view out.new)) }
     ensures complete { IfSome (command_of words.now.items) (λ c. (result ≡ status_of (outcome_of (shelf_view shelf.old).files c)) ⊎ (result ≡ Status.Memory)) }
 {

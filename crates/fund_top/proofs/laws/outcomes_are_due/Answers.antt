@@ -9,7 +9,10 @@ pub returns-clause-listed : goal.returns-clause-listed
 returns-clause-listed c = listing_due
 
 pub returns-clause-funded : goal.returns-clause-funded
-returns-clause-funded c = λ files s p w blocks r f has rules manual means. answer_due files s p w blocks r (answers.Funded f) has rules manual means
+returns-clause-funded c = λ files s p w blocks r f has rules is. answer_due files s p w blocks r (answers.Funded f) has rules is
 
 pub returns-clause-none : goal.returns-clause-none
-returns-clause-none c = λ files s p w blocks r has rules manual means. answer_due files s p w blocks r answers.NoSelection has rules manual means
+returns-clause-none c = λ files s p w blocks r has rules is. answer_due files s p w blocks r answers.NoSelection has rules is
+
+pub returns-clause-unfinished : goal.returns-clause-unfinished
+returns-clause-unfinished c = λ files s p w blocks r has rules is. answer_due files s p w blocks r answers.Unfinished has rules is

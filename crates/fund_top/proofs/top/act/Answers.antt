@@ -1,4 +1,3 @@
-use Rattle.std.proofs.Common.{◌≡◌}
 use Rattle.command_end.specs.Names.{plain_sources}
 use Rattle.command_fund.specs.Names.{plain_payment}
 use Rattle.fund_top.proofs.EndsLaws.{listing_ends, payment_ends}

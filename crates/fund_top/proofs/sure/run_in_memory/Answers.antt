@@ -1,0 +1,14 @@
+use Rattle.fund_base.specs.SureShelf.{view_of as shelf_view}
+use Rattle.fund_base.specs.SureSink.{view_of as sink_view}
+use Rattle.fund_top.specs.Words.{command_of}
+use Rattle.fund_top.proofs.SureLaws.{funds, funds_not, funds_open}
+use Rattle.fund_top.proofs.sure.run_in_memory.Goals as goal
+
+pub returns-clause-done : goal.returns-clause-done
+returns-clause-done c = λ is. funds (command_of c.args.words.now.items) (shelf_view c.args.shelf.now) (shelf_view c.run.new.shelf) (sink_view c.args.out.now) (sink_view c.run.new.out) (c.run.ensures.done is)
+
+pub returns-clause-unfinished : goal.returns-clause-unfinished
+returns-clause-unfinished c = λ is. funds_open (command_of c.args.words.now.items) (shelf_view c.args.shelf.now) (shelf_view c.run.new.shelf) (sink_view c.args.out.now) (sink_view c.run.new.out) (c.run.ensures.unfinished is)
+
+pub returns-clause-none : goal.returns-clause-none
+returns-clause-none c = λ is. funds_not (command_of c.args.words.now.items) (shelf_view c.args.shelf.now) (shelf_view c.run.new.shelf) (sink_view c.args.out.now) (sink_view c.run.new.out) (c.run.ensures.none is)
