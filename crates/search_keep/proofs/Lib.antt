@@ -1,4 +1,3 @@
-pub mod LineLaws
 pub mod MarkLaws
 pub mod ResumedLaws
 pub mod StartLaws

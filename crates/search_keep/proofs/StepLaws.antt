@@ -1,17 +1,12 @@
--- Reading line after line.
+-- Reading the lines after the stage.
 use Rattle.std.proofs.Common.{◌≡◌, ℕ, List, Option, Result, Ok, Err, ap, ◌∙◌}
-use Rattle.std.specs.Prelude.{⊤, codes}
 use Rattle.fund_base.specs.Parsing.{◌>>=◌}
 use Rattle.closing_log.specs.declared.fault.LineFault.{LineFault}
 use Rattle.closing_log.specs.declared.fault.LineFault.TheVariants as lines
-use Rattle.closing_log.specs.declared.log.Stage.{Stage}
 use Rattle.closing_log.specs.Gives.{Fails}
-use Rattle.closing_log.specs.Reading.{both_at, made_at, word_at}
+use Rattle.closing_log.specs.Reading.{both_at, made_at}
 use Rattle.search_keep.specs.declared.lines.Start.{Start}
-use Rattle.search_keep.specs.Reading.{behind_at, best_at, chosen_at, job_at, next_at, parts_at, position_at, row_at, saved_of, stage_line, start_at, start_of, tries_at}
-
-behind_is : {X : Type 0} (word : List ℕ) (item : List ℕ → Result (X × List ℕ) (List ℕ)) (bytes rest : List ℕ) (r : Result (X × List ℕ) (List ℕ)) → word_at word bytes ≡ Ok (tt, rest) → item rest ≡ r → behind_at word item bytes ≡ r
-behind_is word item bytes rest r first is = ap (λ (q : Result (⊤ × List ℕ) (List ℕ)). q >>= λ u. item u.1) first ∙ is
+use Rattle.search_keep.specs.Reading.{best_at, chosen_at, next_at, parts_at, position_at, saved_of}
 
 made_is : {X Y : Type 0} (make : X → Y) (item : List ℕ → Result (X × List ℕ) (List ℕ)) (bytes : List ℕ) (r : Result (X × List ℕ) (List ℕ)) → item bytes ≡ r → made_at make item bytes ≡ (r >>= λ x. Ok (make x.0, x.1))
 made_is {X = X} make item bytes r is = ap (λ (q : Result (X × List ℕ) (List ℕ)). q >>= λ x. Ok (make x.0, x.1)) is
@@ -21,38 +16,6 @@ both_is : {X Y : Type 0} (first : List ℕ → Result (X × List ℕ) (List ℕ)
 both_is {X = X} {Y = Y} first second bytes x rest r one is =
     ap (λ (q : Result (X × List ℕ) (List ℕ)). q >>= λ x. second x.0 x.1 >>= λ y. Ok ((x.0, y.0), y.1)) one
     ∙ ap (λ (q : Result (Y × List ℕ) (List ℕ)). q >>= λ y. Ok ((x, y.0), y.1)) is
-
--- ---- the lines up to the stage
-
-abbrev stages : ℕ → List ℕ → Result (Stage × List ℕ) (List ℕ)
-stages row = stage_line
-
-abbrev rows : ℕ → List ℕ → Result ((ℕ × Stage) × List ℕ) (List ℕ)
-rows tries = both_at row_at stages
-
-abbrev counts : List ℕ → List ℕ → Result ((ℕ × (ℕ × Stage)) × List ℕ) (List ℕ)
-counts job = both_at tries_at rows
-
-abbrev started : List ℕ → Result ((List ℕ × (ℕ × (ℕ × Stage))) × List ℕ) (List ℕ)
-started = both_at job_at counts
-
-module _ (bytes a b c job : List ℕ) (tries : ℕ) (one : word_at (codes "fund-saved 1\n") bytes ≡ Ok (tt, a)) (two : job_at a ≡ Ok (job, b)) (three : tries_at b ≡ Ok (tries, c)) where
-  start_is : (r : Result ((ℕ × Stage) × List ℕ) (List ℕ)) → rows tries c ≡ r → start_at bytes ≡ (r >>= λ y. Ok (start_of (job, (tries, y.0)), y.1))
-  start_is (Ok y) is = behind_is (codes "fund-saved 1\n") (made_at start_of started) bytes a (Ok (start_of (job, (tries, y.0)), y.1)) one
-      (made_is start_of started a (Ok ((job, (tries, y.0)), y.1)) (both_is job_at counts a job b (Ok ((tries, y.0), y.1)) two (both_is tries_at rows b tries c (Ok y) three is)))
-  start_is (Err stop) is = behind_is (codes "fund-saved 1\n") (made_at start_of started) bytes a (Err stop) one
-      (made_is start_of started a (Err stop) (both_is job_at counts a job b (Err stop) two (both_is tries_at rows b tries c (Err stop) three is)))
-
-  pub start_row_fails : (stop : List ℕ) → row_at c ≡ Err stop → start_at bytes ≡ Err stop
-  start_row_fails stop four = start_is (Err stop) (ap (λ (q : Result (ℕ × List ℕ) (List ℕ)). q >>= λ x. stages x.0 x.1 >>= λ y. Ok ((x.0, y.0), y.1)) four)
-
-  pub start_stage_fails : (d : List ℕ) (row : ℕ) (stop : List ℕ) → row_at c ≡ Ok (row, d) → stage_line d ≡ Err stop → start_at bytes ≡ Err stop
-  start_stage_fails d row stop four five = start_is (Err stop) (both_is row_at stages c row d (Err stop) four five)
-
-  pub start_read : (d e : List ℕ) (row : ℕ) (stage : Stage) → row_at c ≡ Ok (row, d) → stage_line d ≡ Ok (stage, e) → start_at bytes ≡ Ok (record { job = job; tries = tries; row = row; stage = stage }, e)
-  start_read d e row stage four five = start_is (Ok ((row, stage), e)) (both_is row_at stages c row d (Ok (stage, e)) four five)
-
--- ---- the lines behind it
 
 abbrev last : ℕ → Option (List ℕ) → List ℕ → Result (ℕ × List ℕ) (List ℕ)
 last tries best = parts_at tries

@@ -6,6 +6,7 @@ use Rattle.std.proofs.lemmas.List.{append-nil}
 use Rattle.closing_log.specs.declared.log.Stage.{Stage}
 use Rattle.closing_log.specs.LogText.{IsDigest, IsSearched, answer_text, stage_word}
 use Rattle.closing_log.specs.Exact.{StopsAt, NoneGoesOn}
+use Rattle.closing_log.specs.Lines.{ended_at, number_line, positive_line}
 use Rattle.closing_log.specs.Reading.{digest_at, stage_at}
 use Rattle.closing_log.proofs.Exactness.{Piece, Law, Then, Made, then_law, law_as}
 use Rattle.closing_log.proofs.PartLaws.{Both, both_piece, made_piece}
@@ -13,9 +14,9 @@ use Rattle.closing_log.proofs.DigestLaws.{digest_piece}
 use Rattle.closing_log.proofs.SectionLaws.{stage_piece}
 use Rattle.closing_log.proofs.WordLaws.{IsOneOf}
 use Rattle.search_keep.specs.declared.lines.Start.{Start}
-use Rattle.search_keep.specs.Reading.{best_at, best_line, chosen_at, chosen_line, end_of, ended_at, job_at, most_parts, next_at, number_line, parts_at, position_at, position_end, positive_line, row_at, saved_at, saved_of, stage_line, start_at, start_of, tries_at}
+use Rattle.search_keep.specs.Reading.{best_at, best_line, chosen_at, chosen_line, end_of, job_at, most_parts, next_at, parts_at, position_at, position_end, row_at, saved_at, saved_of, stage_line, start_at, start_of, tries_at}
 use Rattle.search_keep.specs.SavedText.{CanBeSaved, HasNumbers, IsSavedText, PlainSaved, chosen_text, line, position_text, saved_text}
-use Rattle.search_keep.proofs.LineLaws.{Behind, Ended, IsNumberLine, IsPositiveLine, behind_piece, ended_piece, number_line_piece, positive_piece}
+use Rattle.closing_log.proofs.LineLaws.{Behind, Ended, IsNumberLine, IsPositiveLine, behind_piece, ended_piece, number_line_piece, positive_piece}
 use Rattle.search_keep.proofs.MarkLaws.{IsBestLine, IsChosenLine, best_piece, chosen_piece}
 
 abbrev IsJob : List ℕ → List ℕ → Type 0

@@ -2,29 +2,13 @@
 -- goes on as they do.
 use Rattle.std.specs.Prelude.{ℕ, ◌==◌, ◌+◌, min, List, [], ◌∷◌, codes, Option, Some, None, Result, Ok, Err, if◌then◌else◌, ⊤}
 use Rattle.closing_log.specs.declared.log.Stage.{Stage}
-use Rattle.closing_log.specs.Reading.{both_at, digest_at, made_at, number_at, places_at, stage_at, word_at}
+use Rattle.closing_log.specs.Lines.{behind_at, ended_at, number_line, positive_line}
+use Rattle.closing_log.specs.Reading.{both_at, digest_at, made_at, places_at, stage_at, word_at}
 use Rattle.fund_base.specs.Parsing.{◌>>=◌}
 use Rattle.search_keep.specs.declared.lines.Start.{Start}
 use Rattle.search_keep.specs.SavedText.{PlainSaved}
 
 -- ---- parts of lines
-
--- what stands behind a word
-abbrev pub behind_at : {X : Type 0} → List ℕ → (List ℕ → Result (X × List ℕ) (List ℕ)) → List ℕ → Result (X × List ℕ) (List ℕ)
-behind_at word item bytes = word_at word bytes >>= λ u. item u.1
-
--- what ends with a line feed
-abbrev pub ended_at : {X : Type 0} → (List ℕ → Result (X × List ℕ) (List ℕ)) → List ℕ → Result (X × List ℕ) (List ℕ)
-ended_at item bytes = item bytes >>= λ x. word_at (codes "\n") x.1 >>= λ u. Ok (x.0, u.1)
-
--- a number of at most `most`, and a line feed
-abbrev pub number_line : ℕ → List ℕ → Result (ℕ × List ℕ) (List ℕ)
-number_line most = made_at (λ (v : ℕ × ℕ). v.0) (number_at most (10 ∷ []))
-
--- the same of a number that isn't 0
-unfoldable pub positive_line : ℕ → List ℕ → Result (ℕ × List ℕ) (List ℕ)
-positive_line most [] = number_line most []
-positive_line most (b ∷ rest) = if b == 48 then Err (b ∷ rest) else number_line most (b ∷ rest)
 
 -- places up to a line feed, or this word in their stead, which begins with the byte m
 unfoldable pub marked_line : ℕ → List ℕ → List ℕ → Result (Option (List ℕ) × List ℕ) (List ℕ)

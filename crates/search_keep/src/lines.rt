@@ -4,7 +4,8 @@
 ghost use Rattle.std.specs.Prelude.{◌≡◌, ◌≤◌, codes, IfOk};
 ghost use Rattle.closing_log.specs.Gives.{Gives, Reads};
 ghost use Rattle.closing_log.specs.Reading.{both_at, made_at};
-ghost use Rattle.search_keep.specs.Reading.{behind_at, best_at, chosen_at, chosen_line, best_line, job_at, number_line, parts_at, position_at, row_at, stage_line, start_at, start_of, tries_at};
+ghost use Rattle.closing_log.specs.Lines.{behind_at, number_line};
+ghost use Rattle.search_keep.specs.Reading.{best_at, chosen_at, chosen_line, best_line, job_at, parts_at, position_at, row_at, stage_line, start_at, start_of, tries_at};
 
 use crate::saved::Saved;
 use closing_log::{
@@ -145,7 +146,7 @@ fn read_best(alloc: Global, bytes: &[u8]) -> Result<(Option<Places>, &[u8]), Lin
 }
 
 /// The line of the parts: a number from 1 to one more than the tries.
-#[tactic(auto, unfolding(crate::specs::Reading::positive_line))]
+#[tactic(auto, unfolding(closing_log::specs::Lines::positive_line))]
 fn read_parts(bytes: &[u8], tries: u64) -> Result<(u64, &[u8]), &[u8]>
     ensures value { Reads (λ x. (x.0, x.1.now)) result (parts_at tries bytes.now) }
     ensures bound { IfOk result (λ x. x.0 ≤ 4_294_967_295) }
