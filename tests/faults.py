@@ -23,13 +23,7 @@ TOP = pathlib.Path(__file__).resolve().parent.parent
 DATA = TOP / "crates" / "rows_fund" / "data"
 PROGRAM = TOP / "crates" / "fund_cli" / "out" / "fund_cli"
 OLD_LOG = b"what stood in the log before\n"
-CASES = (
-    ("fund", "exact-coin"),
-    ("fund", "least-change"),
-    ("fund", "auto"),
-    ("coins", "exact-coin"),
-    ("coins", "replacement"),
-)
+CASES = (("fund", "exact-coin"), ("fund", "auto"), ("fund", "least-change"), ("coins", "exact-coin"), ("coins", "replacement"))
 KINDS = ("alloc", "open", "seek", "read", "write", "short-read", "short-write")
 
 LIBRARY = r"""
