@@ -19,7 +19,7 @@ pub enum Status {
     Memory,
     /// A file is longer than its limit, or there are more coins than a book holds.
     Limit,
-    /// The tries are used up, and a search is open.
+    /// The tries are used up, a search is open, and nothing is taken.
     Unfinished,
     /// Nothing pays for what is asked.
     NoSelection,

@@ -1,4 +1,4 @@
-//! The command that funds a payment from listed coins: what its files come to, how it ends, and the law of that.
+//! The command that funds a payment by the method of its request: what its files come to, how it ends, and the law of that.
 #![tactic(auto)]
 
 mod answer;

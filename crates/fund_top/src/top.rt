@@ -35,8 +35,8 @@ fn act<H: Shelf, O: Sink>(alloc: Global, command: &Command, shelf: &mut H, out: 
 /// Does what the words say. `coins WALLET BLOCKS` reads the two files and prints to `out` the listing of the wallet: the
 /// tip of its chain, its pending payments and their states, and the coins that may be spent. `fund WALLET BLOCKS REQUEST
 /// LOG` funds a payment by the method of the request: it reads the three files, searches with the request's tries, writes
-/// the log, and then prints the report to `out`. Where a search is open at the end of its tries, no log is written. What is
-/// refused gets its fault line there.
+/// the log, and then prints the report to `out`. Where the run is unfinished, no log is written: the tries are used up, a
+/// search is open, and nothing is taken. What is refused gets its fault line there.
 ///
 /// The clauses on content hold where the shelf and the sink tell theirs.
 pub fn run<H: Shelf, O: Sink>(
@@ -51,16 +51,16 @@ pub fn run<H: Shelf, O: Sink>(
     ensures untouched { result ≡ Status.Usage → (H.view shelf.new) ≡ (H.view shelf.old) }
 
     // Done: the coins are eligible, the transaction pays what is asked and at least the fee, the log is written, and the
-    // report is printed. An exhausted payment is the best, and its log is accepted.
+    // report is printed. An exhausted payment is the best of its row and stage, and its log is accepted.
     ensures done { result ≡ Status.Done → WhereFunding (command_of words.now.items) (λ s p. EndsFunded H.tells O.tells s p (H.view shelf.old) (H.view shelf.new) (O.view out.old) (O.view out.new)) }
 
     // Done, where coins are listed: the states and the candidates are printed, and nothing else.
     ensures listed { result ≡ Status.Done → WhereListing (command_of words.now.items) (λ s. EndsListed H.tells O.tells s (H.view shelf.old) (O.view out.old) (O.view out.new)) }
 
-    // Unfinished: the tries of the request were made, and the next step is a try. No file is written.
+    // Unfinished: each try of the request was made, the next step is a try, and nothing is taken. No file is written.
     ensures unfinished { result ≡ Status.Unfinished → IfSome (command_of words.now.items) (λ c. EndsUnfinished H.tells O.tells c (H.view shelf.old) (H.view shelf.new) (O.view out.old) (O.view out.new)) }
 
-    // No selection: no search and no draw has a result, which the log proves; or the listed coins alone don't pay.
+    // No selection: no search and no draw has a result, which the log proves, and the listed coins alone don't pay.
     ensures none { result ≡ Status.NoSelection → IfSome (command_of words.now.items) (λ c. EndsNotFunded H.tells O.tells c (H.view shelf.old) (H.view shelf.new) (O.view out.old) (O.view out.new)) }
 
     // Refusals: of the first rule that a file breaks.
