@@ -1,13 +1,14 @@
-//! Plans of payments of listed coins.
+//! Plans of payments.
 
-ghost use Rattle.std.specs.Prelude.{◌≡◌, None};
+ghost use Rattle.std.specs.Prelude.{◌≡◌, None, IfOk};
 ghost use Rattle.fund_base.specs.Candidates.{AreCandidates};
-ghost use Rattle.request_text.specs.declared.request.Method.TheVariants.{Manual};
+ghost use Rattle.fund_plan.specs.Answer.{HasSelection, IsSelection};
 
 use crate::coins::candidates_in;
 use fund_base::{Candidate, Memory};
-use fund_plan::{Figures, Funded, Outcome, Plan, PlanFault, unsigned};
-use request_text::{Method, Request, read_request};
+use fund_plan::{Figures, Funded, Outcome, Plan, unsigned};
+use fund_steps::PlanFault;
+use request_text::{Request, read_request};
 use std::alloc::Global;
 use tx_codec::write_tx;
 use wallet_text::{Wallet, read_wallet};
@@ -46,6 +47,29 @@ fn payment_text(
     )?)
 }
 
+/// What a payment of the request comes to.
+fn paid_text(
+    alloc: Global,
+    request: &Request,
+    wallet: &Wallet,
+    funded: &Funded,
+) -> Result<String, Memory>
+    requires { IsSelection request.now funded.now }
+{
+    let figures = Figures::new(request, funded);
+    let tx = unsigned(alloc, request, &wallet.change, funded)?;
+    let text = write_tx(alloc, &tx)?;
+    payment_text(alloc, funded, &figures, &text)
+}
+
+/// What the plan comes to with so many tries.
+fn outcome(plan: &mut Plan, tries: u64) -> Result<Outcome, Memory>
+    ensures { IfOk result (HasSelection plan.old.plan.request) }
+{
+    let outcome = plan.go(tries)?;
+    Ok(outcome)
+}
+
 /// What the candidates come to.
 fn plan_text(
     alloc: Global,
@@ -54,21 +78,17 @@ fn plan_text(
     candidates: Vec<Candidate>,
 ) -> Result<String, Memory>
     requires bump { request.now.bump ≡ None }
-    requires method { request.now.method ≡ Manual }
     requires candidates { AreCandidates candidates.items }
 {
-    let plan = match Plan::new(alloc, request, &wallet.change, candidates) {
+    let mut plan = match Plan::new(alloc, request, &wallet.change, candidates) {
         Ok(plan) => plan,
         Err(fault) => return fault_text(alloc, fault),
     };
-    let funded = match plan.go()? {
-        Outcome::Funded(funded) => funded,
-        Outcome::NoSelection => return Ok(String::from_str(alloc, "none")?),
-    };
-    let figures = Figures::new(request, &wallet.change, &funded);
-    let tx = unsigned(alloc, request, &wallet.change, &funded)?;
-    let text = write_tx(alloc, &tx)?;
-    payment_text(alloc, &funded, &figures, &text)
+    match outcome(&mut plan, request.tries)? {
+        Outcome::Funded(funded) => paid_text(alloc, request, wallet, &funded),
+        Outcome::NoSelection => Ok(String::from_str(alloc, "none")?),
+        Outcome::Unfinished => Ok(String::from_str(alloc, "unfinished")?),
+    }
 }
 
 /// What the request and the coins come to: a fault, none, or a payment.
@@ -82,7 +102,7 @@ pub fn answer(alloc: Global, request: &str, coins: &str) -> Result<String, Memor
     let Ok(request) = read_request(alloc, request.as_bytes()) else {
         return Ok(String::from_str(alloc, "no request")?);
     };
-    if request.bump.is_some() || request.method != Method::Manual {
+    if request.bump.is_some() {
         return Ok(String::from_str(alloc, "another request")?);
     }
     plan_text(alloc, &request, &wallet, candidates)
