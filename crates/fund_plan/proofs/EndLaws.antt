@@ -26,7 +26,7 @@ end_back s ends.Unfinished is = is
 pub moved_none : (s : PlanState) (n : ℕ) (o : Option PlainFound) → o ≡ None → moved_by s o n ≡ moved_by s None n
 moved_none s n o is = ap (λ (x : Option PlainFound). moved_by s x n) is
 
-told_there : (s : PlanState) (n : ℕ) → told (moved_by s None n) ≡ by_end s.plan (end_at s.plan (led s.plan s.stand (granted s n)))
+pub told_there : (s : PlanState) (n : ℕ) → told (moved_by s None n) ≡ by_end s.plan (end_at s.plan (led s.plan s.stand (granted s n)))
 told_there s n = ap (by_end s.plan) (end_back (moved_by s None n) (end_at s.plan (led s.plan s.stand (granted s n))) refl)
 
 pub new_told : (s : PlanState) (n : ℕ) → s.stand ≡ beginning_of s.plan → s.partial ≡ None → told (moved s n) ≡ outcome_at s.plan n

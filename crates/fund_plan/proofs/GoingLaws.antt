@@ -34,7 +34,7 @@ new_log s n new none =
 -- ---- in pieces
 
 -- so many tries more, of those that are left at a stand
-abbrev further : PlainPlan → Stand → ℕ → Stand
+abbrev pub further : PlainPlan → Stand → ℕ → Stand
 further p s n = led p s (min n (most_tries - s.past.tries))
 
 -- where all were made those that are left are as many less
@@ -62,7 +62,7 @@ further_by p s n m (x ∷ rest) e =
 pub further_on : (p : PlainPlan) (s : Stand) (n m : ℕ) → further p (further p s n) m ≡ further p s (n + m)
 further_on p s n m = further_by p s n m (further p s n).left refl
 
-abbrev state_at : PlainPlan → Stand → PlanState
+abbrev pub state_at : PlainPlan → Stand → PlanState
 state_at p s = record { plan = p; stand = s; partial = partial_of (end_at p s) }
 
 pub pieces_add : (s : PlanState) (n m : ℕ) → (moved s n).partial ≡ None → moved (moved s n) m ≡ moved s (n + m)

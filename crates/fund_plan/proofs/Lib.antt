@@ -9,12 +9,14 @@ pub mod FoundLaws
 pub mod FundedLaws
 pub mod GivenLaws
 pub mod GoingLaws
+pub mod KeepLaws
 pub mod LoadLaws
 pub mod MeasureLaws
 pub mod OnceLaws
 pub mod OutcomeLaws
 pub mod PaymentLaws
 pub mod PaysLaws
+pub mod RefusedLaws
 pub mod RowLaws
 pub mod SignedLaws
 pub mod SourceLaws

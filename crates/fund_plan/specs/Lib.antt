@@ -5,6 +5,7 @@ pub mod Figures
 pub mod Kept
 pub mod Outcome
 pub mod Pays
+pub mod Resumed
 pub mod Selection
 pub mod State
 pub mod Steps

@@ -4,15 +4,22 @@
 #![tactic(auto)]
 
 mod chosen;
+mod fault;
 mod figures;
 mod funding;
+mod keeping;
 mod laws;
 mod outcome;
 mod payment;
 mod plan;
 mod worth;
 
+pub use fault::{CheckAt, PlanSavedFault};
 pub use figures::Figures;
+pub use keeping::{
+    kept_faults_have_one_cause, kept_plans_are_accepted, restored_plans_go_on,
+    verified_plans_have_the_answer,
+};
 pub use laws::{
     answers_once, change_is_worth_making, ended_plans_have_the_answer, figures_add_up,
     given_where_all_is_brought, new_plans_come_to, none_is_proved, payments_keep_their_claims,

@@ -1,24 +1,30 @@
 //! Plans, and how they go on.
 
-ghost use Rattle.std.specs.Prelude.{◌≡◌, ◌-◌, min, All, IfErr, IfOk, OnErr, OnOk, None};
+ghost use Rattle.std.specs.Prelude.{◌≡◌, ◌-◌, ◌↔◌, ◌≤◌, min, All, Err, IfErr, IfOk, OnErr, OnOk, None};
 ghost use Rattle.fund_base.specs.Candidates.{AreCandidates};
 ghost use Rattle.wallet_text.specs.WalletRules.{IsWatch};
 ghost use Rattle.fund_steps.specs.Plan.{HasEligible, IsFault, IsPlan, IsRoomy, IsWithin, ladder_in};
 ghost use Rattle.fund_plan.specs.Answer.{ArePayments, HasSelection};
+ghost use Rattle.search_keep.specs.declared.fault.SavedFault.TheVariants as saved_fault;
 ghost use Rattle.search_run.specs.Kept.{log_of};
 ghost use Rattle.search_run.specs.Run.{end_of, go_on};
 ghost use Rattle.search_run.specs.Stands.{IsEndOf};
 ghost use Rattle.search_run.specs.Step.{AreSteps};
 ghost use Rattle.fund_plan.specs.Outcome.{beginning_of, is_partial, most_tries};
+ghost use Rattle.fund_plan.specs.Resumed.{AreAccepted, CanRestore, IsCheckFault, IsNotRestored, IsStandOf, restored_at, saved_at};
 ghost use Rattle.fund_plan.specs.State.{IsCutShort, IsRunCut, end_in, moved, partial_of, place_of, told};
 ghost use Rattle.fund_plan.specs.Steps.{steps_of};
+ghost use Rattle.fund_plan.specs.declared.fault.CheckAt.TheVariants as check;
+ghost use Rattle.fund_plan.specs.declared.fault.PlanSavedFault.TheVariants as planned;
 
+use crate::fault::{CheckAt, PlanSavedFault};
 use crate::funding::Funding;
 use crate::outcome::{Outcome, Place};
 use closing_log::{LogText, Mark};
 use fund_base::{Candidate, Memory};
 use fund_steps::{Funds, PlanFault, Prepared};
 use request_text::Request;
+use search_keep::{Saved, SavedFault};
 use search_run::{End, Found, SearchRun};
 use std::alloc::Global;
 use std::marker::Model;
@@ -134,7 +140,15 @@ impl Plan {
         let _ = self.run.tries();
     }
 
-    /// The tries of all its runs.
+    /// That its run stands where one over its steps may stand: where it begins, or goes on from what is kept, whatever that
+    /// is, or where tries lead from there. A call does nothing.
+    pub fn keeps_stand(&self)
+        ensures { IsStandOf self.now }
+    {
+        let _ = self.run.tries();
+    }
+
+    /// The tries of all its runs, with those from before it was restored.
     pub fn tries(&self) -> u64
         ensures { result ≡ self.now.stand.past.tries }
     {
@@ -195,5 +209,61 @@ impl Plan {
         let partial = self.is_partial()?;
         let log = self.run.log(partial)?;
         Ok(log)
+    }
+
+    /// What is saved of it beside its log, for this job and so many parts of the log; `None` exactly where it isn't
+    /// unfinished: a result was taken for want of tries, or its run has come to its end. The error is out of memory.
+    pub fn saved(&self, job: [u8; 32], parts: u32) -> Result<Option<Saved>, Memory>
+        ensures { IfOk result (λ saved. saved ≡ saved_at job parts self.now) }
+    {
+        if self.is_partial()? {
+            return Ok(None);
+        }
+        let saved = self.run.saved(job, parts)?;
+        Ok(saved)
+    }
+
+    /// Goes on from a saved position and a log, which may be any, wherever it stood before; `now` is the digest of the job
+    /// now. The fault is the first of these: `JobElse` exactly where another digest is saved; `Spent` exactly where the job
+    /// has made 10,000,000 tries or more; `Section` exactly where a section isn't that of the search to which the run comes
+    /// at its index, or none is open; `IllFormed` exactly where no search of the open section's problem stands at the saved
+    /// position; `Log` with `AnswerNotAdmissible` for the first closed answer that isn't admissible. `Memory` comes for
+    /// out of memory alone. A refusal leaves the plan as it was.
+    pub fn restore(
+        &mut self,
+        now: [u8; 32],
+        saved: &Saved,
+        log: &LogText,
+    ) -> Result<(), PlanSavedFault>
+        ensures accepts { OnOk result (CanRestore self.old.plan now saved.now log.now) }
+        ensures stands { OnOk result (self.new ≡ restored_at self.old.plan saved.now log.now) }
+        ensures refuses { IfErr result (IsNotRestored self.old.plan now saved.now log.now) }
+        ensures job { (result ≡ Err (planned.Saved (saved_fault.JobElse saved.now.job now))) ↔ (saved.now.job ≡ now → ⊥) }
+        ensures spent { (result ≡ Err (planned.Saved saved_fault.Spent)) ↔ ((saved.now.job ≡ now) × (10_000_000 ≤ saved.now.tries)) }
+        ensures same { OnErr result (self.new ≡ self.old) }
+    {
+        let kept = saved.job;
+        if kept != now {
+            return Err(PlanSavedFault::Saved(SavedFault::JobElse(kept, now)));
+        }
+        if saved.tries >= MOST_TRIES {
+            return Err(PlanSavedFault::Saved(SavedFault::Spent));
+        }
+        self.run.restore(saved, log)?;
+        self.partial = None;
+        Ok(())
+    }
+
+    /// Whether the letters of each finished search are accepted with its answer, by a checker that knows no search; those
+    /// from before it was restored too. The fault is that of the first search whose letters aren't, or out of memory.
+    /// It is never `Section`.
+    pub fn verify(&self) -> Result<(), CheckAt>
+        ensures accepted { OnOk result (AreAccepted self.now.plan self.now.stand.past.closed) }
+        ensures refused { IfErr result (IsCheckFault self.now.plan self.now.stand.past.closed) }
+        // Where each section is accepted, the only error is out of memory.
+        ensures made { AreAccepted self.now.plan self.now.stand.past.closed → IfErr result (λ e. e ≡ check.Memory) }
+    {
+        self.run.verify()?;
+        Ok(())
     }
 }
