@@ -1,5 +1,5 @@
 -- The log of a plan's run that came to its end, or of which a result was taken, is ended and reads as it was written.
-use Rattle.std.proofs.Common.{◌≡◌, ℕ, ◌≤◌, min, Bool, true, false, cond, List, [], ◌∷◌, Option, Some, None, refl, sym, ap, subst, arith, Contains}
+use Rattle.std.proofs.Common.{◌≡◌, ◌∙◌, ℕ, ◌≤◌, min, Bool, true, false, cond, List, [], ◌∷◌, ◌++◌, Option, Some, None, refl, sym, ap, subst, arith, Contains}
 use Rattle.std.specs.List.{AllByRecursion}
 use Rattle.std.proofs.lemmas.List.Elements.{All-contains, All-from_recursion}
 use Rattle.closing_log.specs.Log.{PlainLog}
@@ -14,7 +14,13 @@ use Rattle.output_groups.specs.declared.rows.Row.{Row}
 use Rattle.search_run.specs.Found.{PlainFound, taken}
 use Rattle.search_run.specs.Kept.{is_over, log_of, tail_of}
 use Rattle.search_run.specs.Run.{Stand, at_hand, end_by, or_unfinished}
-use Rattle.search_run.specs.Step.{AreSteps, PlainStep}
+use Rattle.search_run.specs.Step.{AreSteps, FitsStage, IsStep, PlainStep}
+use Rattle.search_run.specs.Stands.{IsFromStart}
+use Rattle.search_run.proofs.MadeLaws.{run_stands}
+use Rattle.pick_problem.specs.Problem.{PlainProblem}
+use Rattle.fund_report.specs.ReportText.{IsRead}
+use Rattle.closing_log.specs.declared.log.Stage.{Stage}
+use Rattle.closing_log.specs.declared.log.Stage.TheVariants.{Presets, Changeless, LeanBig, Draw, LeanSmall, Wide}
 use Rattle.search_run.specs.declared.ending.End.{End}
 use Rattle.search_run.specs.declared.ending.End.TheVariants as ends
 use Rattle.command_fund.proofs.LogLaws.{ended_reads}
@@ -84,3 +90,25 @@ log_written p n are goes =
       reads = ended_reads (steps_of p) are (small_row p) p.request.seed (min n most_tries) (log_of (is_partial (end_at p (stand_after p n))) (stand_after p n)) e.closed e.tail e.ended;
       ended = e.ended;
     }
+
+-- ---- the step that is left
+
+step_behind : (P : PlainStep → Type 0) (front : List PlainStep) (x : PlainStep) (rest : List PlainStep) → AllByRecursion P (front ++ x ∷ rest) → P x
+step_behind P [] x rest h = h.0
+step_behind P (y ∷ ys) x rest h = step_behind P ys x rest h.1
+
+read_stage : (s : Stage) (q : PlainProblem) → FitsStage s q → IsRead s
+read_stage Presets q h = absurd h
+read_stage Changeless q h = tt
+read_stage LeanBig q h = tt
+read_stage Draw q h = tt
+read_stage LeanSmall q h = tt
+read_stage Wide q h = absurd h
+
+-- its stage is one that a report can name
+pub open_stage : (p : PlainPlan) (n : ℕ) (x : PlainStep) (rest : List PlainStep) → AreSteps (steps_of p) → (stand_after p n).left ≡ x ∷ rest → IsRead x.stage
+open_stage p n x rest are left =
+    let stands : IsFromStart p.request.seed (steps_of p) (stand_after p n) = run_stands p.request.seed (steps_of p) are (min n most_tries) in
+    let parts : steps_of p ≡ stands.left.0 ++ x ∷ rest = stands.left.1 ∙ ap (λ (xs : List PlainStep). stands.left.0 ++ xs) left in
+    let step : IsStep x = step_behind IsStep stands.left.0 x rest (subst (AllByRecursion IsStep) parts are) in
+    read_stage x.stage x.problem step.stage

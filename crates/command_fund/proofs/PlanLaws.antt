@@ -1,5 +1,5 @@
 -- How a plan's run ends is what is due, and what the files of the command come to.
-use Rattle.std.proofs.Common.{◌≡◌, ◌∙◌, ℕ, ◌-◌, min, List, [], ◌∷◌, None, Result, Ok, Err, refl, sym, ap, subst, All, Contains}
+use Rattle.std.proofs.Common.{◌≡◌, ◌∙◌, ℕ, ◌-◌, min, List, ◌∷◌, None, Result, Ok, Err, refl, sym, ap, subst, All, Contains}
 use Rattle.std.specs.Prelude.{◌≢◌, IfErr, IfOk}
 use Rattle.block_feed.specs.Block.{ChainBlock}
 use Rattle.closing_log.specs.Log.{PlainLog}
@@ -20,6 +20,8 @@ use Rattle.fund_plan.specs.declared.outcome.Outcome.TheVariants as answers
 use Rattle.fund_steps.specs.Plan.{IsFault, IsPlan, PlainPlan}
 use Rattle.fund_steps.specs.declared.fault.PlanFault.{PlanFault}
 use Rattle.fund_steps.specs.declared.fault.PlanFault.TheVariants as plans
+use Rattle.fund_report.specs.ReportText.{IsRead, IsReportText}
+use Rattle.fund_report.specs.declared.report.Report.TheVariants as kinds
 use Rattle.psbt_codec.specs.Psbt.{IsPsbt}
 use Rattle.request_text.specs.PlainRequest.{PlainRequest}
 use Rattle.search_run.specs.Kept.{log_of}
@@ -38,14 +40,14 @@ use Rattle.command_fund.specs.Due.{Unfinished, NoSelection, Funded, candidates_i
 use Rattle.command_fund.specs.Inputs.{AreAsked, AreInputs}
 use Rattle.command_fund.specs.Meant.{IsMeant}
 use Rattle.command_fund.specs.Names.{Payment}
-use Rattle.command_fund.specs.PlanEnds.{IsAfter, IsConcluded, IsEnded, IsNew, IsOpen, IsPaid, IsUnpaid, MeansFault, StopsPlan, plan_stop_of}
+use Rattle.command_fund.specs.PlanEnds.{IsAfter, IsConcluded, IsEnded, IsNew, IsOpen, IsOpenAt, IsOpenReport, IsPaid, IsUnpaid, MeansFault, StopsPlan, plan_stop_of}
 use Rattle.command_fund.specs.Stops.{StopsFor}
 use Rattle.command_fund.specs.declared.funding.Ending.{Ending}
 use Rattle.command_fund.specs.declared.funding.Ending.TheVariants as endings
 use Rattle.command_fund.specs.declared.refusal.Stop.{Stop}
 use Rattle.command_fund.specs.declared.refusal.Stop.TheVariants as stops
 use Rattle.command_fund.proofs.DueLaws.{due_is, inputs_due, plan_refused}
-use Rattle.command_fund.proofs.EndedLaws.{log_written}
+use Rattle.command_fund.proofs.EndedLaws.{log_written, open_stage}
 
 abbrev plan_by : PlainRequest → Watch → List Candidate → PlainPlan
 plan_by r change coins = record { request = r; change = change; candidates = coins }
@@ -110,17 +112,17 @@ after k r old new n o h tries rules steps is says pays fits =
 pub used_up : (p : PlainPlan) (n : ℕ) (s : PlanState) (o : Answer) → IsAfter p n s o → o ≡ answers.Unfinished → IsUsedUp p n
 used_up p n s o a is = open_claims p n (sym a.outcome ∙ is)
 
-some_left : (left : List PlainStep) (x : PlainStep) (rest : List PlainStep) → left ≡ x ∷ rest → left ≢ []
-some_left left x rest e = λ none. absurd (let y = sym none ∙ e in cc)
+open_left : (left : List PlainStep) (x : PlainStep) (rest : List PlainStep) → left ≡ x ∷ rest → IsRead x.stage → IsOpenAt left
+open_left left x rest e h = subst IsOpenAt (sym e) h
 
 -- a search is open
-pub is_open : (p : PlainPlan) (n : ℕ) (s : PlanState) (o : Answer) → IsAfter p n s o → o ≡ answers.Unfinished → s.stand.left ≢ []
+pub is_open : (p : PlainPlan) (n : ℕ) (s : PlanState) (o : Answer) → IsAfter p n s o → o ≡ answers.Unfinished → IsOpenAt s.stand.left
 is_open p n s o a is =
     let u = used_up p n s o a is in
-    some_left s.stand.left u.step u.rest (a.left ∙ u.left)
+    open_left s.stand.left u.step u.rest (a.left ∙ u.left) (open_stage p n u.step u.rest a.steps u.left)
 
-pub concluded_open : (k : Held) (r : PlainRequest) (s : PlanState) (o : Answer) (text : List ℕ) → IsAfter (plan_of k r) r.tries s o → o ≡ answers.Unfinished → text ≡ open_report s.stand.past.tries s.stand.left → IsPlan (plan_of k r) × IsOpen k r text
-concluded_open k r s o text a is text_is =
+pub concluded_open : (k : Held) (r : PlainRequest) (s : PlanState) (o : Answer) (text : List ℕ) → IsAfter (plan_of k r) r.tries s o → o ≡ answers.Unfinished → text ≡ open_report s.stand.past.tries s.stand.left → IsOpenReport text s.stand.past.tries s.stand.left → IsPlan (plan_of k r) × IsOpen k r text
+concluded_open k r s o text a is text_is told =
     let p : PlainPlan = plan_of k r in
     let u = used_up p r.tries s o a is in
     let out : outcome_at p r.tries ≡ answers.Unfinished = sym a.outcome ∙ is in
@@ -130,6 +132,7 @@ concluded_open k r s o text a is text_is =
         outcome = out;
         used_up = u;
         reports = same ∙ ap (open_report (tries_at p r.tries)) u.left;
+        told = subst (λ (xs : List PlainStep). IsOpenReport text (tries_at p r.tries) xs) (a.left ∙ u.left) (subst (λ (n : ℕ). IsOpenReport text n s.stand.left) a.tries told);
         due = due_is k r answers.Unfinished a.rules out ∙ ap (λ (t : List ℕ). Unfinished t) (sym same);
       },
     )
@@ -145,9 +148,9 @@ logged p n s o log a reads is =
     let same : log ≡ log_text_at p n = is ∙ ap (λ (l : PlainLog). log_text_of l) a.log in
     record { logs = same; reads = subst (λ (t : List ℕ). IsLogText t (log_at p n)) (sym same) reads }
 
-pub concluded_none : (k : Held) (r : PlainRequest) (s : PlanState) (o : Answer) (text log : List ℕ) → IsAfter (plan_of k r) r.tries s o → o ≡ answers.NoSelection → text ≡ none_report s.stand.past.tries → log ≡ log_text_of (log_of (is_partial (end_in s)) s.stand)
+pub concluded_none : (k : Held) (r : PlainRequest) (s : PlanState) (o : Answer) (text log : List ℕ) → IsAfter (plan_of k r) r.tries s o → o ≡ answers.NoSelection → text ≡ none_report s.stand.past.tries → IsReportText text (kinds.NoSelection s.stand.past.tries) → log ≡ log_text_of (log_of (is_partial (end_in s)) s.stand)
     → IsPlan (plan_of k r) × IsUnpaid k r text log
-concluded_none k r s o text log a is text_is log_is =
+concluded_none k r s o text log a is text_is told log_is =
     let p : PlainPlan = plan_of k r in
     let out : outcome_at p r.tries ≡ answers.NoSelection = sym a.outcome ∙ is in
     let goes : outcome_at p r.tries ≡ answers.Unfinished → ⊥ = λ e. absurd (let x = sym out ∙ e in cc) in
@@ -159,6 +162,7 @@ concluded_none k r s o text log a is text_is log_is =
         outcome = out;
         none = none_claims p r.tries a.rules a.steps out;
         reports = same;
+        told = subst (λ (n : ℕ). IsReportText text (kinds.NoSelection n)) a.tries told;
         logs = l.logs;
         reads = l.reads;
         ended = w.ended;
@@ -215,6 +219,7 @@ ended_on told_files files s p w blocks r (endings.Unfinished text) inputs c = re
   outcome = c.1.outcome;
   used_up = c.1.used_up;
   reports = c.1.reports;
+  told = c.1.told;
   comes_to = λ t. inputs_due files s p w blocks r (inputs t) ∙ c.1.due;
 }
 ended_on told_files files s p w blocks r (endings.NoSelection texts) inputs c = record {
@@ -226,6 +231,7 @@ ended_on told_files files s p w blocks r (endings.NoSelection texts) inputs c = 
   outcome = c.1.outcome;
   none = c.1.none;
   reports = c.1.reports;
+  told = c.1.told;
   logs = c.1.logs;
   reads = c.1.reads;
   ended = c.1.ended;

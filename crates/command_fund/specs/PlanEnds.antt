@@ -1,5 +1,5 @@
 -- How a request ends, as one of the outcomes of the files.
-use Rattle.std.specs.Prelude.{ℕ, ◌≡◌, ◌≢◌, true, List, All, None}
+use Rattle.std.specs.Prelude.{ℕ, ◌≡◌, ◌≢◌, true, List, [], ◌∷◌, All, None}
 use Rattle.closing_log.specs.LogText.{IsLogText}
 use Rattle.fund_plan.specs.Answer.{ArePayments, HasSelection, IsPayment}
 use Rattle.fund_plan.specs.Claims.{Claims, IsProvedNone, IsUsedUp}
@@ -11,7 +11,9 @@ use Rattle.fund_plan.specs.declared.outcome.Outcome.{Outcome as Answer}
 use Rattle.fund_plan.specs.declared.outcome.Outcome.TheVariants as answers
 use Rattle.fund_steps.specs.Plan.{IsEligible, IsFault, IsPlan, PlainPlan}
 use Rattle.search_run.specs.Kept.{log_of}
-use Rattle.search_run.specs.Step.{AreSteps}
+use Rattle.search_run.specs.Step.{AreSteps, PlainStep}
+use Rattle.fund_report.specs.ReportText.{IsRead, IsReportText}
+use Rattle.fund_report.specs.declared.report.Report.TheVariants as kinds
 use Rattle.fund_steps.specs.declared.fault.PlanFault.{PlanFault}
 use Rattle.fund_steps.specs.declared.fault.PlanFault.TheVariants as plans
 use Rattle.psbt_codec.specs.Psbt.{IsPsbt}
@@ -49,6 +51,16 @@ pub record IsAfter (p : PlainPlan) (n : ℕ) (s : PlanState) (o : Answer) : Type
   pub left : s.stand.left ≡ (stand_after p n).left
   pub log : log_of (is_partial (end_in s)) s.stand ≡ log_at p n
 
+-- a step is left whose stage a report can name
+abbrev pub IsOpenAt : List PlainStep → Type 0
+IsOpenAt [] = ⊥
+IsOpenAt (x ∷ rest) = IsRead x.stage
+
+-- the bytes are a report of the search that is open, which is the first that is left, after so many tries
+abbrev pub IsOpenReport : List ℕ → ℕ → List PlainStep → Type 0
+IsOpenReport bytes tries [] = ⊥
+IsOpenReport bytes tries (x ∷ rest) = IsReportText bytes (kinds.Unfinished tries x.row x.stage)
+
 -- ---- how it ends
 
 -- a payment of this plan, with this report and this log
@@ -71,6 +83,7 @@ pub record IsUnpaid (k : Held) (r : PlainRequest) (report log : List ℕ) : Type
   pub outcome : outcome_at (plan_of k r) r.tries ≡ answers.NoSelection
   pub none : IsProvedNone (plan_of k r) (log_at (plan_of k r) r.tries)
   pub reports : report ≡ none_report_at (plan_of k r) r.tries
+  pub told : IsReportText report (kinds.NoSelection (tries_at (plan_of k r) r.tries))
   pub logs : log ≡ log_text_at (plan_of k r) r.tries
   pub reads : IsLogText log (log_at (plan_of k r) r.tries)
   pub ended : (log_at (plan_of k r) r.tries).ended ≡ true
@@ -81,6 +94,7 @@ pub record IsOpen (k : Held) (r : PlainRequest) (report : List ℕ) : Type 0 whe
   pub outcome : outcome_at (plan_of k r) r.tries ≡ answers.Unfinished
   pub used_up : IsUsedUp (plan_of k r) r.tries
   pub reports : report ≡ open_text (tries_at (plan_of k r) r.tries) used_up.step
+  pub told : IsReportText report (kinds.Unfinished (tries_at (plan_of k r) r.tries) used_up.step.row used_up.step.stage)
   pub due : planned k r ≡ Unfinished report
 
 -- how a plan ends

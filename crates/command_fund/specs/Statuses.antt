@@ -9,6 +9,8 @@ use Rattle.fund_plan.specs.Outcome.{log_at, outcome_at, tries_at}
 use Rattle.fund_plan.specs.Selection.{PlainFunded}
 use Rattle.fund_plan.specs.declared.outcome.Outcome.TheVariants as answers
 use Rattle.fund_steps.specs.Plan.{IsEligible, IsPlan}
+use Rattle.fund_report.specs.ReportText.{IsReportText}
+use Rattle.fund_report.specs.declared.report.Report.TheVariants as kinds
 use Rattle.psbt_codec.specs.Psbt.{IsPsbt}
 use Rattle.request_text.specs.PlainRequest.{PlainRequest}
 use Rattle.wallet_text.specs.PlainWallet.{PlainWallet}
@@ -70,6 +72,7 @@ pub record IsNotFunded (told_files : Type 0) (files : List ℕ → List ℕ) (s 
   pub outcome : outcome_at (plan_of (held_of wallet blocks) asked) asked.tries ≡ answers.NoSelection
   pub none : IsProvedNone (plan_of (held_of wallet blocks) asked) (log_at (plan_of (held_of wallet blocks) asked) asked.tries)
   pub reports : report ≡ none_report_at (plan_of (held_of wallet blocks) asked) asked.tries
+  pub told : IsReportText report (kinds.NoSelection (tries_at (plan_of (held_of wallet blocks) asked) asked.tries))
   pub logs : log ≡ log_text_at (plan_of (held_of wallet blocks) asked) asked.tries
   pub reads : IsLogText log (log_at (plan_of (held_of wallet blocks) asked) asked.tries)
   pub ended : (log_at (plan_of (held_of wallet blocks) asked) asked.tries).ended ≡ true
@@ -86,6 +89,7 @@ pub record IsUnfinished (told_files : Type 0) (files : List ℕ → List ℕ) (s
   pub outcome : outcome_at (plan_of (held_of wallet blocks) asked) asked.tries ≡ answers.Unfinished
   pub used_up : IsUsedUp (plan_of (held_of wallet blocks) asked) asked.tries
   pub reports : report ≡ open_text (tries_at (plan_of (held_of wallet blocks) asked) asked.tries) used_up.step
+  pub told : IsReportText report (kinds.Unfinished (tries_at (plan_of (held_of wallet blocks) asked) asked.tries) used_up.step.row used_up.step.stage)
   pub comes_to : told_files → due_of files s p ≡ Unfinished report
 
 -- done: the log is written, and after what was in the sink stands the report of a payment

@@ -1,17 +1,18 @@
 //! How a request ends whose files are read.
 
-ghost use Rattle.std.specs.Prelude.{◌≡◌, ◌≢◌, [], All, Contains, None, IfErr, IfOk};
+ghost use Rattle.std.specs.Prelude.{◌≡◌, All, Contains, None, IfErr, IfOk};
 ghost use Rattle.closing_log.specs.LogText.{text_of as log_text_of};
 ghost use Rattle.fund_plan.specs.Answer.{IsSelection};
 ghost use Rattle.fund_plan.specs.Outcome.{is_partial};
 ghost use Rattle.fund_plan.specs.State.{end_in};
 ghost use Rattle.search_run.specs.Kept.{log_of};
+ghost use Rattle.fund_report.specs.ReportText.{IsReportText};
 ghost use Rattle.psbt_codec.specs.Psbt.{IsPsbt};
 ghost use Rattle.fund_files.specs.Chain.{IsHeld};
 ghost use Rattle.fund_payment.specs.Report.{psbt_of, report_of};
 ghost use Rattle.fund_payment.specs.Shown.{ShowsCoins};
 ghost use Rattle.command_fund.specs.Due.{candidates_in, none_report, not_taken, open_report, plan_of};
-ghost use Rattle.command_fund.specs.PlanEnds.{IsAfter, IsConcluded, IsNew, StopsPlan};
+ghost use Rattle.command_fund.specs.PlanEnds.{IsAfter, IsConcluded, IsNew, IsOpenAt, IsOpenReport, StopsPlan};
 
 use crate::refusal::Stop;
 use closing_log::write_sections;
@@ -85,8 +86,9 @@ fn log_text(alloc: Global, plan: &Plan) -> Result<Vec<u8>, Memory>
 
 /// The report of a run that goes on. The error is out of memory.
 fn open_report(alloc: Global, plan: &Plan) -> Result<Vec<u8>, Memory>
-    requires { plan.now.stand.left ≢ [] }
-    ensures { IfOk result (λ text. text.items ≡ open_report plan.now.stand.past.tries plan.now.stand.left) }
+    requires { IsOpenAt plan.now.stand.left }
+    ensures text { IfOk result (λ text. text.items ≡ open_report plan.now.stand.past.tries plan.now.stand.left) }
+    ensures means { IfOk result (λ text. IsOpenReport text.items plan.now.stand.past.tries plan.now.stand.left) }
 {
     let tries = plan.tries();
     match plan.place() {
@@ -105,7 +107,8 @@ fn open_report(alloc: Global, plan: &Plan) -> Result<Vec<u8>, Memory>
 
 /// The report where nothing pays. The error is out of memory.
 fn none_report(alloc: Global, plan: &Plan) -> Result<Vec<u8>, Memory>
-    ensures { IfOk result (λ text. text.items ≡ none_report plan.now.stand.past.tries) }
+    ensures text { IfOk result (λ text. text.items ≡ none_report plan.now.stand.past.tries) }
+    ensures means { IfOk result (λ text. IsReportText text.items (Report.NoSelection plan.now.stand.past.tries)) }
 {
     let report = Report::NoSelection {
         tries: plan.tries(),
@@ -117,6 +120,7 @@ fn none_report(alloc: Global, plan: &Plan) -> Result<Vec<u8>, Memory>
 /// What is printed and written where nothing pays. The error is out of memory.
 fn none_texts(alloc: Global, plan: &Plan) -> Result<Texts, Memory>
     ensures report { IfOk result (λ t. t.report.items ≡ none_report plan.now.stand.past.tries) }
+    ensures means { IfOk result (λ t. IsReportText t.report.items (Report.NoSelection plan.now.stand.past.tries)) }
     ensures log { IfOk result (λ t. t.log.items ≡ log_text_of (log_of (is_partial (end_in plan.now)) plan.now.stand)) }
 {
     let report = none_report(alloc, plan)?;

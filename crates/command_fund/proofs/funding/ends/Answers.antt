@@ -19,14 +19,14 @@ paid_texts-requires c =
 pub returns-in_ok-report-in-Unfinished : goal.returns-in_ok-report-in-Unfinished
 returns-in_ok-report-in-Unfinished c =
     let r = c.args.run.now in
-    concluded_open c.args.held.now c.args.request.now r.plan r.outcome c.in_ok-report-in-Unfinished.report.items c.requires.run c.in-Unfinished.is c.in_ok-report-in-Unfinished.ensures
+    concluded_open c.args.held.now c.args.request.now r.plan r.outcome c.in_ok-report-in-Unfinished.report.items c.requires.run c.in-Unfinished.is c.in_ok-report-in-Unfinished.ensures.text c.in_ok-report-in-Unfinished.ensures.means
 
 pub returns-in_ok-texts-in-NoSelection : goal.returns-in_ok-texts-in-NoSelection
 returns-in_ok-texts-in-NoSelection c =
     let r = c.args.run.now in
     let e = c.in_ok-texts-in-NoSelection.ensures in
     let t = c.in_ok-texts-in-NoSelection.texts in
-    concluded_none c.args.held.now c.args.request.now r.plan r.outcome t.report.items t.log.items c.requires.run c.in-NoSelection.is e.report e.log
+    concluded_none c.args.held.now c.args.request.now r.plan r.outcome t.report.items t.log.items c.requires.run c.in-NoSelection.is e.report e.means e.log
 
 pub returns-in_ok-texts-in-Funded : goal.returns-in_ok-texts-in-Funded
 returns-in_ok-texts-in-Funded c =
