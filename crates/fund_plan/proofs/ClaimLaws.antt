@@ -39,15 +39,15 @@ use Rattle.fund_plan.proofs.SourceLaws.{best_of, drawn_of, own_result}
 -- ---- ends
 
 -- a run that came to its end
-record EndsSo (p : PlainPlan) (s : Stand) (o : Option PlainFound) : Type 0 where
-  over : s.left ≡ []
-  taken_is : taken s.past.found ≡ o
+pub record EndsSo (p : PlainPlan) (s : Stand) (o : Option PlainFound) : Type 0 where
+  pub over : s.left ≡ []
+  pub taken_is : taken s.past.found ≡ o
 
 never_ended : (o : Option PlainFound) (found : Option PlainFound) → or_unfinished found ≡ ends.Ended o → ⊥
 never_ended o None e = cc
 never_ended o (Some f) e = cc
 
-ended_so : (p : PlainPlan) (s : Stand) (o : Option PlainFound) → end_at p s ≡ ends.Ended o → EndsSo p s o
+pub ended_so : (p : PlainPlan) (s : Stand) (o : Option PlainFound) → end_at p s ≡ ends.Ended o → EndsSo p s o
 ended_so p s o e = by s.left refl e
   where
     open_end : (b : Bool) (found : Option PlainFound) → cond b (or_unfinished found) ends.Unfinished ≡ ends.Ended o → ⊥
@@ -59,12 +59,12 @@ ended_so p s o e = by s.left refl e
     by (x ∷ rest) is e = absurd (open_end p.request.take (taken (at_hand p.request.seed s (x ∷ rest))) e)
 
 -- a run that goes on
-record GoesOn (s : Stand) : Type 0 where
-  step : PlainStep
-  rest : List PlainStep
-  left : s.left ≡ step ∷ rest
+pub record GoesOn (s : Stand) : Type 0 where
+  pub step : PlainStep
+  pub rest : List PlainStep
+  pub left : s.left ≡ step ∷ rest
 
-open_so : (p : PlainPlan) (s : Stand) → end_at p s ≡ ends.Unfinished → GoesOn s
+pub open_so : (p : PlainPlan) (s : Stand) → end_at p s ≡ ends.Unfinished → GoesOn s
 open_so p s e = by s.left refl e
   where
     by : (left : List PlainStep) → s.left ≡ left → end_by p.request.take p.request.seed s left ≡ ends.Unfinished → GoesOn s

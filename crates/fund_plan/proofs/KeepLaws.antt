@@ -1,9 +1,9 @@
 -- Plans that go on from what was kept of them.
-use Rattle.std.specs.Prelude.{ℕ, ◌≡◌, ◌<◌, ◌-◌, ◌+◌, min, Bool, true, false, List, [], ◌∷◌, Option, Some, None, if◌then◌else◌}
+use Rattle.std.specs.Prelude.{ℕ, ◌≡◌, ◌<◌, ◌≤◌, ◌-◌, ◌+◌, min, Bool, true, false, List, [], ◌∷◌, Option, Some, None, if◌then◌else◌}
 use Rattle.std.proofs.Common.{refl, sym, ap, subst, ◌∙◌}
 use Rattle.closing_log.specs.Log.{PlainLog}
 use Rattle.pick_problem.specs.Walk.{upward}
-use Rattle.search_keep.specs.SavedText.{PlainSaved}
+use Rattle.search_keep.specs.SavedText.{CanBeSaved, PlainSaved}
 use Rattle.search_run.proofs.KeptLaws.{kept_is, refreshed_goes_on, same_end, same_log, same_saved}
 use Rattle.search_run.proofs.MadeLaws.{accepted_best_along, kept_stands_on, stand_answers}
 use Rattle.search_run.proofs.ResultLaws.{kept_stands}
@@ -14,7 +14,6 @@ use Rattle.search_run.specs.Kept.{CanGoOn, log_of, refreshed, saved_by, saved_of
 use Rattle.search_run.specs.Kept as run
 use Rattle.search_run.specs.Run.{Stand}
 use Rattle.search_run.specs.Runs.{saved_with}
-use Rattle.search_run.specs.Stands.{IsStand}
 use Rattle.search_run.specs.Step.{AreSteps, PlainStep}
 use Rattle.search_run.specs.declared.ending.End.{End}
 use Rattle.search_run.specs.declared.ending.End.TheVariants as ends
@@ -25,6 +24,7 @@ use Rattle.fund_plan.specs.Outcome.{IsAnswerOf, by_end, end_at, is_partial, most
 use Rattle.fund_plan.specs.Resumed.{AreAccepted, CanRestore, IsStandOf, log_in, restored_at, saved_at}
 use Rattle.fund_plan.specs.State.{PlanState, end_by, end_in, granted, moved, moved_by, partial_of, told}
 use Rattle.fund_plan.specs.Steps.{steps_of}
+use Rattle.fund_plan.proofs.CanLaws.{writable}
 use Rattle.fund_plan.proofs.EndLaws.{end_back, end_left, moved_none}
 use Rattle.fund_plan.proofs.GoingLaws.{further, further_on, state_at}
 
@@ -64,6 +64,12 @@ job_back job parts saved (Some k) e =
     let same : record { job = job; tries = k.tries; row = k.row; stage = k.stage; chosen = k.chosen; next = k.next; best = k.best; parts = parts } ≡ saved = cc in
     sym (ap (λ (s : PlainSaved). s.job) same)
 
+parts_back : (job : List ℕ) (parts : ℕ) (saved : PlainSaved) (o : Option run.PlainSaved) → saved_with job parts o ≡ Some saved → saved.parts ≡ parts
+parts_back job parts saved None e = absurd (cc)
+parts_back job parts saved (Some k) e =
+    let same : record { job = job; tries = k.tries; row = k.row; stage = k.stage; chosen = k.chosen; next = k.next; best = k.best; parts = parts } ≡ saved = cc in
+    sym (ap (λ (s : PlainSaved). s.parts) same)
+
 tries_back : (s : Stand) (left : List PlainStep) (k : run.PlainSaved) → saved_by s left ≡ Some k → k.tries ≡ s.past.tries
 tries_back s [] k e = absurd (cc)
 tries_back s (x ∷ rest) k e =
@@ -75,29 +81,31 @@ left_by s [] k e = absurd (cc)
 left_by s (x ∷ rest) k e = (x, (rest, refl))
 
 -- what is known of a plan of which this is saved after n tries
-record IsKept (s : PlanState) (n : ℕ) (job : List ℕ) (saved : PlainSaved) : Type 0 where
+record IsKept (s : PlanState) (n : ℕ) (job : List ℕ) (parts : ℕ) (saved : PlainSaved) : Type 0 where
   none : s.partial ≡ None
   here : saved_of (further s.plan s.stand n) ≡ Some (saved_in saved)
   log : log_in (moved s n) ≡ log_of false (further s.plan s.stand n)
   of_job : saved.job ≡ job
+  of_parts : saved.parts ≡ parts
 
 unsaved : (s : PlanState) (f : PlainFound) (job : List ℕ) (parts : ℕ) → s.partial ≡ Some f → saved_at job parts s ≡ None
 unsaved s f job parts some = ap (λ (o : Option PlainFound). if is_partial (end_by s o) then None else saved_with job parts (saved_of s.stand)) some
 
 kept_there : (s : PlanState) (n : ℕ) (job : List ℕ) (parts : ℕ) (saved : PlainSaved) (b : Bool) → s.partial ≡ None → is_partial (end_in (state_at s.plan (further s.plan s.stand n))) ≡ b →
-    (if b then None else saved_with job parts (saved_of (further s.plan s.stand n))) ≡ Some saved → IsKept s n job saved
+    (if b then None else saved_with job parts (saved_of (further s.plan s.stand n))) ≡ Some saved → IsKept s n job parts saved
 kept_there s n job parts saved true none is e = absurd (cc)
 kept_there s n job parts saved false none is e = record {
   none = none;
   here = saved_back job parts saved (saved_of (further s.plan s.stand n)) e;
   log = ap log_in (moved_none s n s.partial none) ∙ ap (λ (b : Bool). log_of b (further s.plan s.stand n)) is;
   of_job = job_back job parts saved (saved_of (further s.plan s.stand n)) e;
+  of_parts = parts_back job parts saved (saved_of (further s.plan s.stand n)) e;
 }
 
-kept : (s : PlanState) (n : ℕ) (job : List ℕ) (parts : ℕ) (saved : PlainSaved) → saved_at job parts (moved s n) ≡ Some saved → IsKept s n job saved
+kept : (s : PlanState) (n : ℕ) (job : List ℕ) (parts : ℕ) (saved : PlainSaved) → saved_at job parts (moved s n) ≡ Some saved → IsKept s n job parts saved
 kept s n job parts saved e = by s.partial refl
   where
-    by : (o : Option PlainFound) → s.partial ≡ o → IsKept s n job saved
+    by : (o : Option PlainFound) → s.partial ≡ o → IsKept s n job parts saved
     by (Some f) is =
         let none : None ≡ Some saved = sym (unsaved s f job parts is) ∙ (sym (ap (λ (o : Option PlainFound). saved_at job parts (moved_by s o n)) is) ∙ e) in
         absurd (cc)
@@ -108,7 +116,7 @@ kept s n job parts saved e = by s.partial refl
 
 -- ---- going on from it
 
-module _ (s : PlanState) (n : ℕ) (job : List ℕ) (saved : PlainSaved) (are : AreSteps (steps_of s.plan)) (stands : IsStandOf s) (k : IsKept s n job saved) where
+module _ (s : PlanState) (n : ℕ) (job : List ℕ) (parts : ℕ) (saved : PlainSaved) (are : AreSteps (steps_of s.plan)) (stands : IsStandOf s) (k : IsKept s n job parts saved) where
   there : Stand
   there = further s.plan s.stand n
 
@@ -157,22 +165,41 @@ module _ (s : PlanState) (n : ℕ) (job : List ℕ) (saved : PlainSaved) (are : 
         can = subst (λ (log : PlainLog). CanGoOn s.plan.request.seed (steps_of s.plan) (saved_in saved) log) (sym k.log) both.1;
       }
 
+  goes_written : 1 ≤ parts → parts ≤ (moved s n).stand.past.tries + 1 → CanBeSaved saved
+  goes_written some few =
+      let left = left_by (further s.plan s.stand n) (further s.plan s.stand n).left (saved_in saved) k.here in
+      let w = writable s.plan.request.seed (steps_of s.plan) (further s.plan s.stand n) (saved_in saved) are
+      (kept_stands_on s.plan.request.seed (steps_of s.plan) are s.stand (granted s n) stands)
+      (all_tries s.plan.request.seed s.stand (granted s n) left.0 left.1.0 left.1.1).going k.here in
+      let made : saved.tries ≡ (moved s n).stand.past.tries =
+      tries_back (further s.plan s.stand n) (further s.plan s.stand n).left (saved_in saved) k.here
+      ∙ sym (ap (λ (t : PlanState). t.stand.past.tries) (moved_none s n s.partial k.none)) in
+      record {
+        stage = w.stage;
+        best = w.best;
+        some = subst (λ (t : ℕ). 1 ≤ t) (sym k.of_parts) some;
+        parts = subst (λ (t : ℕ). t ≤ saved.tries + 1) (sym k.of_parts) (subst (λ (t : ℕ). parts ≤ t + 1) (sym made) few);
+      }
+
 -- the same, of what is saved
 module _ (s : PlanState) (n : ℕ) (job : List ℕ) (parts : ℕ) (saved : PlainSaved) (are : AreSteps (steps_of s.plan)) (stands : IsStandOf s) (e : saved_at job parts (moved s n) ≡ Some saved) where
   pub told_on : (m : ℕ) → told (moved (restored_at s.plan saved (log_in (moved s n))) m) ≡ told (moved s (n + m))
-  told_on m = goes_told s n job saved are stands (kept s n job parts saved e) m
+  told_on m = goes_told s n job parts saved are stands (kept s n job parts saved e) m
 
   pub tries_on : (m : ℕ) → (moved (restored_at s.plan saved (log_in (moved s n))) m).stand.past.tries ≡ (moved s (n + m)).stand.past.tries
-  tries_on m = goes_tries s n job saved are stands (kept s n job parts saved e) m
+  tries_on m = goes_tries s n job parts saved are stands (kept s n job parts saved e) m
 
   pub log_on : (m : ℕ) → log_in (moved (restored_at s.plan saved (log_in (moved s n))) m) ≡ log_in (moved s (n + m))
-  log_on m = goes_log s n job saved are stands (kept s n job parts saved e) m
+  log_on m = goes_log s n job parts saved are stands (kept s n job parts saved e) m
 
   pub saved_on : (m : ℕ) (now : List ℕ) (count : ℕ) → saved_at now count (moved (restored_at s.plan saved (log_in (moved s n))) m) ≡ saved_at now count (moved s (n + m))
-  saved_on m now count = goes_saved s n job saved are stands (kept s n job parts saved e) m now count
+  saved_on m now count = goes_saved s n job parts saved are stands (kept s n job parts saved e) m now count
 
   pub accepted_on : (moved s n).stand.past.tries < most_tries → CanRestore s.plan job saved (log_in (moved s n))
-  accepted_on few = goes_accepted s n job saved are stands (kept s n job parts saved e) few
+  accepted_on few = goes_accepted s n job parts saved are stands (kept s n job parts saved e) few
+
+  pub written_on : 1 ≤ parts → parts ≤ (moved s n).stand.past.tries + 1 → CanBeSaved saved
+  written_on some few = goes_written s n job parts saved are stands (kept s n job parts saved e) some few
 
 -- ---- whatever was kept
 

@@ -1,5 +1,6 @@
 pub mod AnswerLaws
 pub mod BringLaws
+pub mod CanLaws
 pub mod ChosenLaws
 pub mod ClaimLaws
 pub mod EligibleLaws
@@ -18,6 +19,7 @@ pub mod PaymentLaws
 pub mod PaysLaws
 pub mod RefusedLaws
 pub mod RowLaws
+pub mod SavedLaws
 pub mod SignedLaws
 pub mod SourceLaws
 pub mod SpendLaws

@@ -17,7 +17,6 @@ use Rattle.search_run.specs.Stands.{IsMadeAt}
 use Rattle.search_run.specs.Step.{AreSteps}
 use Rattle.search_run.specs.declared.fault.RestoreRefused.{RestoreRefused}
 use Rattle.search_run.specs.declared.fault.RestoreRefused.TheVariants as refused
-use Rattle.search_run.specs.declared.fault.VerifyFault.{VerifyFault}
 use Rattle.search_run.specs.declared.fault.VerifyFault.TheVariants as verified
 use Rattle.fund_steps.specs.Plan.{PlainPlan}
 use Rattle.fund_plan.specs.Outcome.{most_tries, stand_after}

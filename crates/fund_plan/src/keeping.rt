@@ -1,8 +1,8 @@
 //! Laws of what is kept of a plan, and of plans that go on from it. A call of any of them does nothing.
 
-ghost use Rattle.std.specs.Prelude.{◌≡◌, ◌≢◌, ◌<◌, ◌+◌, ℕ, List, [], None, Some};
+ghost use Rattle.std.specs.Prelude.{◌≡◌, ◌≢◌, ◌↔◌, ◌<◌, ◌≤◌, ◌+◌, ℕ, List, [], None, Some};
 ghost use Rattle.closing_log.specs.Log.{PlainLog, PlainSection};
-ghost use Rattle.search_keep.specs.SavedText.{PlainSaved};
+ghost use Rattle.search_keep.specs.SavedText.{CanBeSaved, PlainSaved};
 ghost use Rattle.search_run.specs.Step.{AreSteps};
 ghost use Rattle.fund_steps.specs.Plan.{PlainPlan};
 ghost use Rattle.fund_plan.specs.Outcome.{IsAnswerOf, most_tries, stand_after};
@@ -13,11 +13,21 @@ ghost use Rattle.fund_plan.specs.declared.fault.CheckAt.{CheckAt};
 ghost use Rattle.fund_plan.specs.declared.fault.CheckAt.TheVariants as check;
 ghost use Rattle.fund_plan.specs.declared.fault.PlanSavedFault.{PlanSavedFault};
 ghost use Rattle.fund_plan.specs.declared.fault.PlanSavedFault.TheVariants as planned;
+ghost use Rattle.fund_plan.specs.declared.outcome.Outcome.{Outcome};
+
+/// The law of what is saved: there is something exactly where the plan is unfinished. A call does nothing.
+pub fn unfinished_plans_are_saved()
+    ensures { (s : PlanState) (job : List ℕ) (parts : ℕ) →
+        (told s ≡ Outcome.Unfinished ↔ ((saved : PlainSaved) × (saved_at job parts s ≡ Some saved))) }
+{}
 
 /// The law of kept plans: what is saved of an unfinished one, with its log, is accepted for the same job while tries are
-/// left to it, wherever it had gone on from. A call does nothing.
+/// left to it, wherever it had gone on from. It can be written as a text, with one part at least and no more than the
+/// tries and one. A call does nothing.
 pub fn kept_plans_are_accepted()
-    ensures { (s : PlanState) (n : ℕ) (job : List ℕ) (parts : ℕ) (saved : PlainSaved) → AreSteps (steps_of s.plan) → IsStandOf s →
+    ensures written { (s : PlanState) (n : ℕ) (job : List ℕ) (parts : ℕ) (saved : PlainSaved) → AreSteps (steps_of s.plan) → IsStandOf s →
+        saved_at job parts (moved s n) ≡ Some saved → 1 ≤ parts → parts ≤ (moved s n).stand.past.tries + 1 → CanBeSaved saved }
+    ensures accepted { (s : PlanState) (n : ℕ) (job : List ℕ) (parts : ℕ) (saved : PlainSaved) → AreSteps (steps_of s.plan) → IsStandOf s →
         saved_at job parts (moved s n) ≡ Some saved → (moved s n).stand.past.tries < most_tries →
         CanRestore s.plan job saved (log_in (moved s n)) }
 {}

@@ -18,7 +18,7 @@ pub use fault::{CheckAt, PlanSavedFault};
 pub use figures::Figures;
 pub use keeping::{
     kept_faults_have_one_cause, kept_plans_are_accepted, restored_plans_go_on,
-    verified_plans_have_the_answer,
+    unfinished_plans_are_saved, verified_plans_have_the_answer,
 };
 pub use laws::{
     answers_once, change_is_worth_making, ended_plans_have_the_answer, figures_add_up,

@@ -212,7 +212,8 @@ impl Plan {
     }
 
     /// What is saved of it beside its log, for this job and so many parts of the log; `None` exactly where it isn't
-    /// unfinished: a result was taken for want of tries, or its run has come to its end. The error is out of memory.
+    /// unfinished: a result was taken for want of tries, or its run has come to its end. After an Ok of `go` a plan can go
+    /// on from it. The error is out of memory.
     pub fn saved(&self, job: [u8; 32], parts: u32) -> Result<Option<Saved>, Memory>
         ensures { IfOk result (λ saved. saved ≡ saved_at job parts self.now) }
     {
