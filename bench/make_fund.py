@@ -1,12 +1,12 @@
 #!/usr/bin/env python3
 """Writes a wallet file, a block file and a request for a payment from many coins, made from a seed alone.
 
-usage: make_fund.py WALLET BLOCKS REQUEST [--seed N] [--coins N] [--bytes N] [--listed N]
+usage: make_fund.py WALLET BLOCKS REQUEST [--seed N] [--coins N] [--bytes N] [--listed N] [--method METHOD] [--tries N]
 
 Half of the --coins coins are outputs of earlier transactions of the wallet, 20 each, and half of them are outputs of
 payments in the blocks. The blocks are filled up with other payments until the file has at least --bytes bytes. The
-request lists --listed coins and pays a third of what they are worth; its ladder has six rows. The same words give the
-same bytes.
+request pays a third of what --listed coins are worth; its ladder has six rows. With the method `manual` it lists these
+coins, and with another it lists none, and asks for --tries tries. The same words give the same bytes.
 """
 
 import argparse
@@ -61,6 +61,8 @@ def main():
     words.add_argument("--coins", type=int, default=10_000)
     words.add_argument("--bytes", type=int, default=64 * 1024 * 1024)
     words.add_argument("--listed", type=int, default=100)
+    words.add_argument("--method", default="manual")
+    words.add_argument("--tries", type=int, default=100_000)
     words = words.parse_args()
     rng = random.Random(words.seed)
 
@@ -82,8 +84,12 @@ def main():
     listed = rng.sample(coins, words.listed)
     request = {
         "recipients": [{"script": "0014" + rng.randbytes(20).hex(), "amount": sum(value for _, value in listed) // 3}],
-        "rate": 10_000, "method": "manual", "zero_conf": True, "coins": [name for name, _ in listed],
+        "rate": 10_000, "method": words.method, "zero_conf": True,
     }
+    if words.method == "manual":
+        request["coins"] = [name for name, _ in listed]
+    else:
+        request.update(seed="00" * 32, tries=words.tries)
     with open(words.request, "w") as file:
         json.dump(request, file)
     print(f"{len(coins)} coins, {blocks} blocks, {count} transactions")
