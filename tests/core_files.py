@@ -3,9 +3,11 @@
 for these calls, by this script, and not by a node.
 
     tests/core_files.py [PROGRAM]
+    tests/core_files.py --keep FOLDER
 
 With PROGRAM, a built fund_cli, it also lists the coins of the files that were made: these must be the ones that the
-node lists as unspent.
+node lists as unspent. With --keep it leaves answers in FOLDER, for trying the tool by hand as docs/USING.md says: those
+of a node that watches the address of BIP 173's examples, whose secret key is 1.
 """
 import hashlib
 import json
@@ -48,6 +50,10 @@ KINDS = {
 }
 STRANGE = ("0020" + "66" * 32, f"wsh(and_v(v:pk({KEY}),older(144)))#u3kl6lg5")
 SPENT_BY_PENDING = ("0014" + "77" * 20, f"wpkh({KEY})#0000", 272)
+# BIP 173, 'Examples': the address of the public key whose secret key is 1, and its script
+KNOWN_ADDRESS, KNOWN_SCRIPT = "bc1qw508d6qejxtdg4y5r3zarvary0c5xw7kv8f3t4", "0014751e76e8199196d454941c45d1b3a323f1433bd6"
+KNOWN_KEY = "0279be667ef9dcbbac55a06295ce870b07029bfcdb2dce28d959f2815b16f81798"
+KNOWN_VALUES = [51_100, 250_000, 80_000, 33_000, 120_000, 640_000]
 
 
 def address_of(script):
@@ -112,6 +118,26 @@ def saved_answers(folder):
     return [f"{c['txid']}:{c['vout']}" for c in coins if c["scriptPubKey"] != STRANGE[0]], before, pending
 
 
+def kept_answers(folder):
+    """Saves the answers of a made node that watches the known address, and returns the coins that it lists."""
+    saved = Saved(folder)
+    saved.put({"chain": "main", "blocks": TIP}, "getblockchaininfo")
+    saved.put("ab" * 32, "getblockhash", str(TIP))
+    coins, descriptor = [], f"wpkh({KNOWN_KEY})"
+    for n, value in enumerate(KNOWN_VALUES):
+        # the second output is spent by now
+        outputs = [("0014" + "99" * 20, 7_000), (KNOWN_SCRIPT, 5_000), (KNOWN_SCRIPT, value)]
+        txid, text = transaction([("%02x" % (n + 1) * 32, n)], outputs)
+        saved.put_transaction(txid, text, outputs, 10 + 5 * n)
+        coins.append({"txid": txid, "vout": 2, "address": KNOWN_ADDRESS, "scriptPubKey": KNOWN_SCRIPT, "amount": value / 1e8,
+                      "confirmations": 10 + 5 * n, "spendable": False, "solvable": True, "desc": descriptor, "safe": True})
+    saved.put({"scriptPubKey": KNOWN_SCRIPT, "ismine": True, "desc": descriptor}, "getaddressinfo", KNOWN_ADDRESS)
+    saved.put(coins, "listunspent", "0", "9999999", "[]", "true")
+    saved.put([], "listtransactions", "*", "10000", "0", "true")
+    saved.put([], "listlockunspent")
+    return [f"{c['txid']}:{c['vout']}" for c in coins]
+
+
 def tool(folder, change, out):
     words = [sys.executable, TOOL, "--saved", folder, "--change", change, "--out", out + ".json", "--block-file", out + ".dat"]
     return subprocess.run(words, capture_output=True, text=True)
@@ -122,8 +148,29 @@ def check(holds, what):
     return holds
 
 
+def listing(program, out):
+    """What the program lists of files that were made, and the coins of it."""
+    run = subprocess.run([program, "coins", out + ".json", out + ".dat"], capture_output=True, text=True)
+    return run.stdout, sorted(line.split()[1] for line in run.stdout.splitlines() if line.startswith("coin "))
+
+
+def check_kept():
+    """The answers that are kept make files too; with PROGRAM it lists their coins."""
+    with tempfile.TemporaryDirectory() as folder:
+        coins, out = kept_answers(folder), os.path.join(folder, "made")
+        run = tool(folder, KNOWN_ADDRESS, out)
+        right = check(run.returncode == 0 and "6 coins of 1 scripts" in run.stderr, "answers that are kept make files")
+        if len(sys.argv) > 1:
+            right &= check(listing(sys.argv[1], out)[1] == sorted(coins), "the program lists their coins")
+    return right
+
+
 def main():
-    right = True
+    if sys.argv[1:2] == ["--keep"]:
+        os.makedirs(sys.argv[2], exist_ok=True)
+        kept_answers(sys.argv[2])
+        return 0
+    right = check_kept()
     with tempfile.TemporaryDirectory() as folder:
         coins, before, pending = saved_answers(folder)
         out = os.path.join(folder, "made")
@@ -143,11 +190,10 @@ def main():
         right &= check(tool(folder, "change", out).returncode == 1, "no file is overwritten")
         right &= check("isn't an address of this wallet" in tool(folder, "strangers", out + "2").stderr, "a stranger's change is refused")
         if len(sys.argv) > 1:
-            listed = subprocess.run([sys.argv[1], "coins", out + ".json", out + ".dat"], capture_output=True, text=True)
-            found = sorted(line.split()[1] for line in listed.stdout.splitlines() if line.startswith("coin "))
+            listed, found = listing(sys.argv[1], out)
             right &= check(found == sorted(coins), "the program lists the node's coins")
-            right &= check(f"payment {pending} pending" in listed.stdout, "the program lists the pending payment")
-            right &= check(f"coin {pending}:1 49000 0 mine safe 1 1" in listed.stdout, "its change is the wallet's own")
+            right &= check(f"payment {pending} pending" in listed, "the program lists the pending payment")
+            right &= check(f"coin {pending}:1 49000 0 mine safe 1 1" in listed, "its change is the wallet's own")
     return 0 if right else 1
 
 
