@@ -1,5 +1,5 @@
 -- What a search for coins has to meet, at given rates, for a payment of given sizes.
-use Rattle.std.specs.Prelude.{ℕ, ℤ, pos, neg_ℤ, ◌≡◌, false, ◌+◌, ◌*◌, ◌-◌, ◌≤◌, ◌+ℤ◌, ◌-ℤ◌, ◌≤ℤ◌, nat_le, max, length, if◌then◌else◌}
+use Rattle.std.specs.Prelude.{ℕ, ℤ, pos, neg_ℤ, ◌≡◌, ◌↔◌, ◌<◌, false, ◌+◌, ◌*◌, ◌-◌, ◌≤◌, ◌+ℤ◌, ◌-ℤ◌, ◌≤ℤ◌, nat_le, max, length, if◌then◌else◌}
 use Rattle.std.specs.Int.{int_max}
 use Rattle.fund_base.specs.CompactSize.{compact}
 use Rattle.fee_rates.specs.Fee.{fee_of, vsize_of, input_fee_of}
@@ -89,8 +89,8 @@ terms_of r l =
       change_limit = change_limit_of l;
     }
 
--- how terms stand to one another: payments without change and with one meet with no gap between them, the
--- change that is aimed at is no less than the least one, and a payment without presets chooses a coin
+-- How terms stand to one another. Payments without change and with one meet with no gap between them. The change that is
+-- aimed at is no less than the least one. A payment without presets chooses a coin.
 pub record TermsAgree (r : Rates) (l : Load) (t : Terms) : Type 0 where
   pub order : t.target ≤ℤ t.hi
   pub gap : t.small ≡ t.hi +ℤ pos 1
@@ -99,3 +99,16 @@ pub record TermsAgree (r : Rates) (l : Load) (t : Terms) : Type 0 where
   pub raw : raw_of r l ≤ℤ t.target
   pub some : l.has_presets ≡ false → pos 1 ≤ℤ t.target
   pub raised : l.preset_effective ≡ pos 0 → t.target ≤ℤ (raw_of r l +ℤ pos 1)
+  -- what a change costs: its own fee now, and that of spending it later
+  pub fee : t.change_fee ≡ fee_of r.rate l.change_size
+  pub spend : t.change_spend ≡ input_fee_of r.discard l.change_weight
+  -- the least change is the least number that is more than its spending costs, and no dust
+  pub worth : t.change_spend < t.change_least
+  pub no_dust : l.change_dust ≤ t.change_least
+  pub no_less : (n : ℕ) → t.change_spend < n → l.change_dust ≤ n → t.change_least ≤ n
+  -- what is aimed at pays for the least change that is neither below the asked one nor below the least
+  pub aimed : (t.target +ℤ pos t.change_fee +ℤ pos r.change_target) ≤ℤ t.big
+  pub aims : (n : ℕ) → r.change_target ≤ n → t.change_least ≤ n → t.big ≤ℤ (t.target +ℤ pos t.change_fee +ℤ pos n)
+  -- coins are within a limit exactly where the whole payment weighs at most 400,000, without change and with it
+  pub plain : (w : ℕ) → 1 ≤ w → w ≤ t.plain_limit ↔ t.base + l.preset_weight + w ≤ 400_000
+  pub change : (w : ℕ) → 1 ≤ w → w ≤ t.change_limit ↔ t.base + l.preset_weight + w + 4 * l.change_size ≤ 400_000

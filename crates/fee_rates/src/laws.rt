@@ -40,7 +40,9 @@ pub fn output_text_size()
 {}
 
 /// The law of terms: the payments without change and those with one meet with no gap between them, the change that is
-/// aimed at is no less than the least one, and a payment without presets chooses a coin.
+/// aimed at is no less than the least one, and a payment without presets chooses a coin. The least change is the least
+/// amount that is more than its spending costs and no dust. Coins are within a limit exactly where the payment weighs at
+/// most 400,000 weight units.
 pub fn terms_meet()
     ensures { (r : Rates) (l : Load) → TermsAgree r l (terms_of r l) }
 {}
