@@ -5,7 +5,7 @@ ghost use Rattle.std.specs.Prelude.{◌≡◌};
 /// How a command ends.
 #[derive(Clone, Copy, Debug, PartialEq, Eq)]
 pub enum Status {
-    /// The payment is funded and the report is printed whole, or the listing is.
+    /// The payment is funded and the report is printed whole, or the listing or the summary is.
     Done,
     /// The words are no command.
     Usage,
@@ -13,7 +13,7 @@ pub enum Status {
     Input,
     /// A file wasn't read.
     ReadFault,
-    /// The log wasn't written, or the report or the listing wasn't printed whole.
+    /// The log wasn't written, or the report, the listing or the summary wasn't printed whole.
     WriteFault,
     /// There was not enough memory.
     Memory,

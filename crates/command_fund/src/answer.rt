@@ -44,7 +44,7 @@ fn status_of(refusal: &Refusal) -> Status
 }
 
 /// Puts the line of a refusal.
-fn refuse<O: Sink>(alloc: Global, refusal: &Refusal, out: &mut O) -> Status
+pub fn refuse<O: Sink>(alloc: Global, refusal: &Refusal, out: &mut O) -> Status
     ensures line { IsAnswered O.tells (refusal_words refusal.now) (status_of_cause (cause_of refusal.now)) (O.view out.old) (O.view out.new) result }
     ensures counts { CountsNeverFall (O.view out.old) (O.view out.new) }
 {

@@ -24,10 +24,12 @@ use fund_report::{Report, write_report};
 use request_text::Request;
 use std::alloc::Global;
 
-/// What is printed, and what is written before it.
+/// The texts of a run that came to its end.
 #[derive(Debug, Drop)]
 pub struct Texts {
+    /// The report, which is printed.
     pub report: Vec<u8>,
+    /// The log, which a payment from files writes before that.
     pub log: Vec<u8>,
 }
 
@@ -36,7 +38,7 @@ pub struct Texts {
 pub enum Ending {
     /// The tries are used up, and a search is open. Here is its report.
     Unfinished(Vec<u8>),
-    /// Nothing pays for what is asked.
+    /// Nothing pays for what is asked, which the log proves.
     NoSelection(Texts),
     /// A payment, with its report.
     Funded(Texts),

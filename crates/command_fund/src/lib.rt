@@ -9,7 +9,9 @@ mod laws;
 mod names;
 mod refusal;
 
+pub use answer::refuse;
 pub use command::fund;
+pub use funding::{Ending, Texts, conclude};
 pub use laws::payments_are_due;
 pub use names::Payment;
-pub use refusal::Refusal;
+pub use refusal::{Refusal, Stop};

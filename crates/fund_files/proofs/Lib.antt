@@ -1,3 +1,4 @@
+pub mod AloneLaws
 pub mod BookSteps
 pub mod ChainLaws
 pub mod FeedSteps

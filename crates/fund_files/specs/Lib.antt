@@ -1,3 +1,4 @@
+pub mod Alone
 pub mod Behind
 pub mod Booked
 pub mod Cause

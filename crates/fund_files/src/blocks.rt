@@ -77,7 +77,7 @@ fn blocks_stop(fault: FeedFault) -> Stop
 }
 
 /// Why a history is refused.
-fn book_refusal(fault: BookFault) -> FileRefusal
+pub fn book_refusal(fault: BookFault) -> FileRefusal
     ensures cause { cause_of result ≡ book_cause fault }
     ensures own { is_of_wallet (Stop.Refused result) ≡ false }
 {

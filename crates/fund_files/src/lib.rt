@@ -1,7 +1,9 @@
 //! From files to values: the wallet file and the block file to the wallet, the book of its coins and where its chain
-//! ends; the request file to the request. Nothing else of Ninelace reads files that a user gives.
+//! ends; the request file to the request. Nothing else of Ninelace reads files that a user gives. A wallet that was made
+//! without files is held likewise.
 #![tactic(auto)]
 
+mod alone;
 mod blocks;
 mod booking;
 mod files;
@@ -10,6 +12,7 @@ mod laws;
 mod refusal;
 mod stop;
 
+pub use alone::hold;
 pub use files::{read_asked, read_chain};
 pub use held::{Held, Tip};
 pub use laws::chains_are_due;

@@ -15,6 +15,10 @@ title_of number count = line (codes "work ") (decimal number ++ (codes " " ++ de
 abbrev pub digest_line : List ℕ → List ℕ
 digest_line text = line (codes "report ") (encode_lower (sha256 text))
 
--- the words, the report without its lines of coins and of the PSBT, and the digest of the whole report
-unfoldable pub summary_of : ℕ → ℕ → Report → List ℕ
-summary_of number count report = title_of number count ++ (short_lines (text_of report) ++ digest_line (text_of report))
+-- the words, a report without its lines of coins and of the PSBT, and the digest of the whole report
+unfoldable pub summary_text : ℕ → ℕ → List ℕ → List ℕ
+summary_text number count text = title_of number count ++ (short_lines text ++ digest_line text)
+
+-- the summary of a report
+abbrev pub summary_of : ℕ → ℕ → Report → List ℕ
+summary_of number count report = summary_text number count (text_of report)

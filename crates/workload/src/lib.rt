@@ -12,4 +12,4 @@ mod summary;
 
 pub use laws::{coins_are_within, keeps_all_but_coins_and_psbt, leaves_the_rest_out, texts_differ};
 pub use load::Workload;
-pub use summary::write_summary;
+pub use summary::{summarize, write_summary};

@@ -3,7 +3,7 @@
 ghost use Rattle.std.specs.Prelude.{◌≡◌, ◌++◌, codes, IfOk, OnOk};
 ghost use Rattle.std.specs.Fmt.{decimal};
 ghost use Rattle.fund_base.specs.Writer.{Feeds};
-ghost use Rattle.workload.specs.Summary.{digest_line, summary_of, title_of};
+ghost use Rattle.workload.specs.Summary.{digest_line, summary_of, summary_text, title_of};
 
 use crate::lines::put_short;
 use closing_log::{write_decimal, write_digest};
@@ -40,9 +40,25 @@ fn write_name<W: Writer>(out: &mut W, text: &[u8]) -> Result<(), W::Error>
     out.write_bytes(b"\n")
 }
 
-/// The summary of the run of a number and a count that came to this report: `work` with both, the report without its
-/// lines of coins and of the PSBT, and `report` with the SHA-256 of the whole report in hex. The error is to be out of
-/// memory.
+/// The summary of the run of a number and a count, by the text of its report: `work` with both, the lines of the report
+/// but for those of coins and of the PSBT, and `report` with the SHA-256 of the whole text in hex. The error is to be out
+/// of memory.
+pub fn summarize(
+    alloc: Global,
+    number: u64,
+    count: u32,
+    report: &[u8],
+) -> Result<Vec<u8>, Memory>
+    ensures { IfOk result (λ text. text.items ≡ summary_text number count report.now) }
+{
+    let mut text = Vec::new(alloc);
+    write_title(&mut text, number, count)?;
+    put_short(&mut text, report)?;
+    write_name(&mut text, report)?;
+    Ok(text)
+}
+
+/// The same, of a report that isn't written yet.
 pub fn write_summary(
     alloc: Global,
     number: u64,
@@ -52,9 +68,5 @@ pub fn write_summary(
     ensures { IfOk result (λ text. text.items ≡ summary_of number count report.now) }
 {
     let report = write_report(alloc, report)?;
-    let mut text = Vec::new(alloc);
-    write_title(&mut text, number, count)?;
-    put_short(&mut text, report.as_slice())?;
-    write_name(&mut text, report.as_slice())?;
-    Ok(text)
+    summarize(alloc, number, count, &report)
 }

@@ -1,0 +1,14 @@
+use Rattle.command_work.proofs.EndLaws.{reads_none, run_ends, stop_ends}
+use Rattle.command_work.proofs.command.work.Goals as goal
+
+pub returns-in-Ok-clause-ends : goal.returns-in-Ok-clause-ends
+returns-in-Ok-clause-ends g c =
+    run_ends g.O.Sink.tells c.args.number c.args.count c.in-Ok.ended.status c.in-Ok.ended.summary.items (g.O.Sink.view c.args.out.now) (g.O.Sink.view c.put_report.new.out) c.put_report.result c.in-Ok.ensures.run
+    (rw c.deref.ensures.value at c.put_report.ensures.ends)
+
+pub answer-requires : goal.answer-requires
+answer-requires g c = reads_none c.args.number c.args.count c.in-Err.stop c.in-Err.ensures.stop
+
+pub returns-in-Err-clause-ends : goal.returns-in-Err-clause-ends
+returns-in-Err-clause-ends g c =
+    stop_ends g.O.Sink.tells c.args.number c.args.count c.in-Err.stop (g.O.Sink.view c.args.out.now) (g.O.Sink.view c.answer.new.out) c.answer.result c.in-Err.ensures.stop c.answer.ensures.line

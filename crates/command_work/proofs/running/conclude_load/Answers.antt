@@ -1,0 +1,22 @@
+use Rattle.std.proofs.Common.{[], ◌∙◌, ap, refl}
+use Rattle.std.proofs.lemmas.Result.{err_from_is_err_and}
+use Rattle.wallet_text.specs.PlainWallet.{PlainWallet}
+use Rattle.fund_files.specs.Chain.{held_of}
+use Rattle.command_work.proofs.RunLaws.{hold_stops, if_ends, if_stops}
+use Rattle.command_work.proofs.running.conclude_load.Goals as goal
+
+pub returns-in_err-held-clause-stop : goal.returns-in_err-held-clause-stop
+returns-in_err-held-clause-stop c =
+    let p = err_from_is_err_and c.from_residual-in_err-held.result c.from_residual-in_err-held.ensures.1 in
+    let l = c.in_ok-wallet.ensures in
+    rw (p.1, p.2) (hold_stops c.args.number c.args.count _ c.in_err-held.field-0.0 c.requires.most l.distinct l.wallet c.in_err-held.ensures.stop)
+
+pub returns-clause-ends : goal.returns-clause-ends
+returns-clause-ends c =
+    let l = c.in_ok-wallet.ensures in
+    if_ends c.args.number c.args.count c.in_ok-held.held _ c.conclude.result (c.in_ok-held.ensures.value ∙ ap (λ (w : PlainWallet). held_of w []) l.wallet) l.request c.conclude.ensures.ends
+
+pub returns-clause-stop : goal.returns-clause-stop
+returns-clause-stop c =
+    let l = c.in_ok-wallet.ensures in
+    if_stops c.args.number c.args.count c.in_ok-held.held _ c.conclude.result c.requires.some c.requires.most l.distinct (c.in_ok-held.ensures.value ∙ ap (λ (w : PlainWallet). held_of w []) l.wallet) l.request c.conclude.ensures.stop

@@ -1,0 +1,46 @@
+//! The command.
+
+ghost use Rattle.std.specs.Prelude.{◌≤◌};
+ghost use Rattle.fund_base.specs.Causes.{CountsNeverFall};
+ghost use Rattle.command_work.specs.Statuses.{Ends};
+ghost use Rattle.command_work.specs.Stops.{IsStopped, ReadsNone};
+
+use crate::running::run_load;
+use command_end::{Status, put_report, want_of_memory};
+use command_fund::{Stop, refuse};
+use fund_base::Sink;
+use std::alloc::Global;
+
+/// Puts the line of a stop. No file is read, so none can fail.
+fn answer<O: Sink>(alloc: Global, stop: Stop, out: &mut O) -> Status
+    requires { ReadsNone stop }
+    ensures line { IsStopped O.tells stop (O.view out.old) (O.view out.new) result }
+    ensures counts { CountsNeverFall (O.view out.old) (O.view out.new) }
+{
+    match stop {
+        Stop::Read(_) => unreachable!(),
+        Stop::Refused(refusal) => refuse(alloc, &refusal, out),
+        Stop::Memory => want_of_memory(out),
+    }
+}
+
+/// Makes the wallet and the request of a number and of a count of coins, 1 to 10,000, funds the payment with the request's
+/// 100,000 tries, and prints the summary of the run: the number and the count, the report's lines but for those of coins
+/// and of the PSBT, and the SHA-256 of the whole report. It reads no file and writes none, and prints no log.
+///
+/// Two transactions of a workload have different texts. Should two have one txid all the same, as only a collision of
+/// SHA-256 could make it, the workload is refused as a wallet file that holds them is. Nothing else is refused.
+///
+/// The clauses on content hold where the sink tells its.
+pub fn work<O: Sink>(alloc: Global, number: u64, count: u32, out: &mut O) -> Status
+    requires some { 1 ≤ count }
+    requires most { count ≤ 10_000 }
+    // By the status: what the run on the workload came to, and what the sink has got.
+    ensures ends { Ends O.tells number count (O.view out.old) (O.view out.new) result }
+    ensures counts { CountsNeverFall (O.view out.old) (O.view out.new) }
+{
+    match run_load(alloc, number, count) {
+        Ok(ended) => put_report(&ended.summary, ended.status, out),
+        Err(stop) => answer(alloc, stop, out),
+    }
+}

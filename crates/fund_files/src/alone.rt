@@ -1,0 +1,41 @@
+//! A wallet behind which no block stands.
+
+ghost use Rattle.std.specs.Prelude.{◌≡◌, [], None, IfErr, IfOk, OnOk};
+ghost use Rattle.coin_book.specs.Faults.{fault_of};
+ghost use Rattle.fund_files.specs.Alone.{StopsAlone};
+ghost use Rattle.fund_files.specs.Chain.{IsHeld, held_of, history_of};
+ghost use Rattle.wallet_text.specs.WalletRules.{IsWallet};
+
+use crate::blocks::book_refusal;
+use crate::booking::{Booked, add_waiting, begin};
+use crate::held::{Held, Tip};
+use crate::refusal::FileRefusal;
+use crate::stop::Stop;
+use fund_base::Memory;
+use std::alloc::Global;
+use wallet_text::Wallet;
+
+/// A wallet behind which no block stands, the book of its coins, and its own height and hash as the tip. It is refused
+/// exactly where no book holds its coins, or for want of memory.
+pub fn hold(alloc: Global, wallet: Wallet) -> Result<Held, Stop>
+    requires { IsWallet wallet }
+    ensures value { IfOk result (λ k. k ≡ held_of wallet []) }
+    ensures held { IfOk result IsHeld }
+    ensures sound { OnOk result (fault_of (history_of wallet []) ≡ None) }
+    ensures stop { IfErr result (StopsAlone wallet) }
+{
+    let Ok(booked) = begin(alloc, &wallet) else {
+        return Err(Stop::Memory);
+    };
+    match add_waiting(booked, &wallet.pending) {
+        Ok(Booked::Kept(book)) => {
+            let tip = Tip {
+                height: wallet.height,
+                hash: wallet.hash,
+            };
+            Ok(Held { wallet, book, tip })
+        }
+        Ok(Booked::Broken(fault)) => Err(Stop::Refused(book_refusal(fault))),
+        Err(Memory) => Err(Stop::Memory),
+    }
+}
