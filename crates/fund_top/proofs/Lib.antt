@@ -1,3 +1,4 @@
 pub mod EndsLaws
 pub mod DueLaws
 pub mod SureLaws
+pub mod WordLaws

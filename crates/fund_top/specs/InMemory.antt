@@ -5,7 +5,10 @@ use Rattle.command_end.specs.Names.{Sources}
 use Rattle.command_coins.specs.Statuses.{IsListed}
 use Rattle.command_fund.specs.Names.{Payment}
 use Rattle.command_fund.specs.Statuses.{IsFunded, IsNotFunded, IsUnfinished}
-use Rattle.fund_top.specs.Words.{Command, Coins, Fund}
+use Rattle.command_end.specs.declared.status.Status.{Status}
+use Rattle.command_end.specs.declared.status.Status.TheVariants as statuses
+use Rattle.command_work.specs.Statuses.{IsSummary}
+use Rattle.fund_top.specs.Words.{Command, Coins, Fund, Work}
 
 -- the listing is printed whole
 abbrev pub Lists : Sources → ShelfView → SinkView → SinkView → Type 0
@@ -16,14 +19,20 @@ abbrev pub Funds : Sources → Payment → ShelfView → ShelfView → SinkView 
 Funds s p shelf shelf' sink sink' =
     (report : List ℕ) × (log : List ℕ) × IsFunded (Unit {0}) shelf.files s p report log × (shelf'.files p.log ≡ log) × (sink'.written ≡ sink.written ++ report)
 
--- the log is written, and the report of none is printed whole
+-- the summary of a run with this status is printed whole
+abbrev pub Sums : Status → ℕ → ℕ → SinkView → SinkView → Type 0
+Sums status number count sink sink' = (summary : List ℕ) × IsSummary number count status summary × (sink'.written ≡ sink.written ++ summary)
+
+-- the log is written, and the report of none is printed whole; or the summary is
 abbrev pub FundsNot : Command → ShelfView → ShelfView → SinkView → SinkView → Type 0
 FundsNot (Coins s) shelf shelf' sink sink' = ⊥
 FundsNot (Fund s p) shelf shelf' sink sink' =
     (report : List ℕ) × (log : List ℕ) × IsNotFunded (Unit {0}) shelf.files s p report log × (shelf'.files p.log ≡ log) × (sink'.written ≡ sink.written ++ report)
+FundsNot (Work number count) shelf shelf' sink sink' = Sums statuses.NoSelection number count sink sink'
 
--- no file is written, and the report of the open search is printed whole
+-- no file is written, and the report of the open search, or the summary, is printed whole
 abbrev pub FundsOpen : Command → ShelfView → ShelfView → SinkView → SinkView → Type 0
 FundsOpen (Coins s) shelf shelf' sink sink' = ⊥
 FundsOpen (Fund s p) shelf shelf' sink sink' =
     (report : List ℕ) × IsUnfinished (Unit {0}) shelf.files s p report × (shelf'.files ≡ shelf.files) × (sink'.written ≡ sink.written ++ report)
+FundsOpen (Work number count) shelf shelf' sink sink' = Sums statuses.Unfinished number count sink sink'

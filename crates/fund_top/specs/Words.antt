@@ -1,13 +1,15 @@
 -- The words of the command line.
-use Rattle.std.specs.Prelude.{not, ◌&&◌, nat_lt, List, [], ◌∷◌, length, String, string_bytes, bytes_eq, codes, Bool, Option, Some, None, if◌then◌else◌}
+use Rattle.std.specs.Prelude.{ℕ, ◌≤◌, not, ◌&&◌, nat_lt, List, [], ◌∷◌, length, String, string_bytes, bytes_eq, codes, Bool, Option, Some, None, if◌then◌else◌}
 use Rattle.std.specs.declared.alloc.Global.{Global}
+use Rattle.fund_base.specs.Decimal.{number_of}
 use Rattle.command_end.specs.Names.{Sources}
 use Rattle.command_fund.specs.Names.{Payment}
 
--- to list payments and coins, or to fund a payment
+-- to list payments and coins, to fund a payment, or to fund one from a workload
 pub data Command : Type 0 where
   Coins : Sources → Command
   Fund : Sources → Payment → Command
+  Work : (number count : ℕ) → Command
 
 -- no name is empty
 abbrev pub are_named : Sources → Bool
@@ -32,12 +34,33 @@ sources wallet blocks = record { wallet = string_bytes wallet; blocks = string_b
 abbrev pub payment : String Global → String Global → Payment
 payment request log = record { request = string_bytes request; log = string_bytes log }
 
--- the command that the words are: coins WALLET BLOCKS, or fund WALLET BLOCKS REQUEST LOG
+-- the listing of files, where their names stand
+abbrev pub listing_of : List ℕ → List ℕ → Option Command
+listing_of wallet blocks = where_stands (are_named (record { wallet = wallet; blocks = blocks })) (Coins (record { wallet = wallet; blocks = blocks }))
+
+-- a workload of some coins, of two numbers that were read
+abbrev pub work_by : Option ℕ → Option ℕ → Option Command
+work_by None count = None
+work_by (Some number) None = None
+work_by (Some number) (Some count) = where_stands (nat_lt 0 count) (Work number count)
+
+-- The workload of two words: a number of 0 to 9,223,372,036,854,775,807 and a count of 1 to 10,000, each as its decimal
+-- digits without a leading zero.
+abbrev pub work_of : List ℕ → List ℕ → Option Command
+work_of number count = work_by (number_of 9_223_372_036_854_775_807 number) (number_of 10_000 count)
+
+-- the count of a workload's coins
+abbrev pub IsInRange : Command → Type 0
+IsInRange (Coins s) = Unit {0}
+IsInRange (Fund s p) = Unit {0}
+IsInRange (Work number count) = (1 ≤ count) × (count ≤ 10_000)
+
+-- the command that the words are: coins WALLET BLOCKS, work NUMBER COUNT, or fund WALLET BLOCKS REQUEST LOG
 abbrev pub command_of : List (String Global) → Option Command
-command_of (verb ∷ wallet ∷ blocks ∷ []) =
+command_of (verb ∷ first ∷ second ∷ []) =
     if bytes_eq (string_bytes verb) (codes "coins")
-    then where_stands (are_named (sources wallet blocks)) (Coins (sources wallet blocks))
-    else None
+    then listing_of (string_bytes first) (string_bytes second)
+    else if bytes_eq (string_bytes verb) (codes "work") then work_of (string_bytes first) (string_bytes second) else None
 command_of (verb ∷ wallet ∷ blocks ∷ request ∷ log ∷ []) =
     if bytes_eq (string_bytes verb) (codes "fund")
     then where_stands (names_stand (sources wallet blocks) (payment request log)) (Fund (sources wallet blocks) (payment request log))

@@ -1,6 +1,8 @@
 //! What the files of a command come to, in words of the files one by one.
 
-ghost use Rattle.std.specs.Prelude.{◌≡◌, ℕ, List};
+ghost use Rattle.std.specs.Prelude.{◌≡◌, ◌↔◌, ◌≤◌, ◌<◌, ◌^◌, [], ◌∷◌, ℕ, List, Some, String, codes, string_bytes};
+ghost use Rattle.std.specs.Fmt.{decimal};
+ghost use Rattle.std.specs.declared.alloc.Global.{Global};
 ghost use Rattle.block_feed.specs.Block.{ChainBlock};
 ghost use Rattle.fund_plan.specs.Outcome.{outcome_at, tries_at};
 ghost use Rattle.fund_plan.specs.Selection.{PlainFunded};
@@ -17,16 +19,31 @@ ghost use Rattle.command_fund.specs.Cause.{Cause};
 ghost use Rattle.command_fund.specs.Due.{log_text_at, none_report_at, open_report_at, plan_of};
 ghost use Rattle.command_fund.specs.Inputs.{AreInputs};
 ghost use Rattle.command_fund.specs.Names.{Payment};
-ghost use Rattle.fund_top.specs.Due.{Refused, Listed, Unfinished, NoSelection, Funded, IsMeant, outcome_of};
-ghost use Rattle.fund_top.specs.Words.{Command, Coins, Fund};
+ghost use Rattle.wallet_text.specs.WalletRules.{AreDistinctEarlier};
+ghost use Rattle.workload.specs.Load.{earlier_of, request_of, wallet_of};
+ghost use Rattle.workload.specs.Summary.{summary_text};
+ghost use Rattle.command_end.specs.declared.status.Status.TheVariants as statuses;
+ghost use Rattle.command_work.specs.Due.{load_of, load_plan};
+ghost use Rattle.fund_top.specs.Due.{Refused, Listed, Unfinished, NoSelection, Funded, Summed, IsMeant, outcome_of};
+ghost use Rattle.fund_top.specs.Words.{Command, Coins, Fund, Work, command_of};
 
 /// The law of what the files of a command come to: a cause for a refusal which they mean is the one that they come to;
 /// where they hold a wallet and blocks, they come to the listing of these; and where they hold a request too, of which the
-/// plan keeps its rules, they come to what that plan comes to with the request's tries. A call does nothing.
+/// plan keeps its rules, they come to what that plan comes to with the request's tries. A workload of which no two
+/// transactions have one txid comes to the summary of what its plan comes to. A call does nothing.
 pub fn outcomes_are_due()
     ensures refused { (files : List ℕ → List ℕ) (c : Command) (cause : Cause) → IsMeant files c cause → outcome_of files c ≡ Refused cause }
     ensures listed { (files : List ℕ → List ℕ) (s : Sources) (w : PlainWallet) (blocks : List ChainBlock) → HasChain (files s.wallet) (files s.blocks) w blocks → outcome_of files (Coins s) ≡ Listed (listing_in (held_of w blocks)) }
     ensures funded { (files : List ℕ → List ℕ) (s : Sources) (p : Payment) (w : PlainWallet) (blocks : List ChainBlock) (r : PlainRequest) (f : PlainFunded) → AreInputs files s p w blocks r → IsPlan (plan_of (held_of w blocks) r) → outcome_at (plan_of (held_of w blocks) r) r.tries ≡ answers.Funded f → outcome_of files (Fund s p) ≡ Funded (report_of (history_of w blocks) r w.change (tries_at (plan_of (held_of w blocks) r) r.tries) f) (log_text_at (plan_of (held_of w blocks) r) r.tries) }
     ensures none { (files : List ℕ → List ℕ) (s : Sources) (p : Payment) (w : PlainWallet) (blocks : List ChainBlock) (r : PlainRequest) → AreInputs files s p w blocks r → IsPlan (plan_of (held_of w blocks) r) → outcome_at (plan_of (held_of w blocks) r) r.tries ≡ answers.NoSelection → outcome_of files (Fund s p) ≡ NoSelection (none_report_at (plan_of (held_of w blocks) r) r.tries) (log_text_at (plan_of (held_of w blocks) r) r.tries) }
     ensures unfinished { (files : List ℕ → List ℕ) (s : Sources) (p : Payment) (w : PlainWallet) (blocks : List ChainBlock) (r : PlainRequest) → AreInputs files s p w blocks r → IsPlan (plan_of (held_of w blocks) r) → outcome_at (plan_of (held_of w blocks) r) r.tries ≡ answers.Unfinished → outcome_of files (Fund s p) ≡ Unfinished (open_report_at (plan_of (held_of w blocks) r) r.tries) }
+    ensures summed { (files : List ℕ → List ℕ) (number count : ℕ) (f : PlainFunded) → 1 ≤ count → count ≤ 10_000 → AreDistinctEarlier (earlier_of number count) → outcome_at (load_plan number count) 100_000 ≡ answers.Funded f → outcome_of files (Work number count) ≡ Summed statuses.Done (summary_text number count (report_of (load_of number count).book (request_of number count) (wallet_of number count).change (tries_at (load_plan number count) 100_000) f)) }
+    ensures summed_none { (files : List ℕ → List ℕ) (number count : ℕ) → 1 ≤ count → count ≤ 10_000 → AreDistinctEarlier (earlier_of number count) → outcome_at (load_plan number count) 100_000 ≡ answers.NoSelection → outcome_of files (Work number count) ≡ Summed statuses.NoSelection (summary_text number count (none_report_at (load_plan number count) 100_000)) }
+    ensures summed_open { (files : List ℕ → List ℕ) (number count : ℕ) → 1 ≤ count → count ≤ 10_000 → AreDistinctEarlier (earlier_of number count) → outcome_at (load_plan number count) 100_000 ≡ answers.Unfinished → outcome_of files (Work number count) ≡ Summed statuses.Unfinished (summary_text number count (open_report_at (load_plan number count) 100_000)) }
+{}
+
+/// The law of the words of a workload: they ask for one exactly where the second is the decimal spelling of a number below
+/// 2^63, and the third that of a count of 1 to 10,000. A call does nothing.
+pub fn workloads_are_spelled()
+    ensures { (verb first second : String Global) (number count : ℕ) → string_bytes verb ≡ codes "work" → (command_of (verb ∷ first ∷ second ∷ []) ≡ Some (Work number count)) ↔ ((string_bytes first ≡ decimal number) × (number < 2 ^ 63) × (string_bytes second ≡ decimal count) × (1 ≤ count) × (count ≤ 10_000)) }
 {}

@@ -1,5 +1,6 @@
-//! The commands of Ninelace, from their words to their status: they list the payments and the coins of a wallet, or fund a
-//! payment. Each command is a crate; here is which one the words ask for, and what is true of all.
+//! The commands of Ninelace, from their words to their status: they list the payments and the coins of a wallet, fund a
+//! payment, or fund one from a made-up wallet and sum that up. Each command is a crate; here is which one the words ask for,
+//! and what is true of all.
 #![tactic(auto)]
 
 mod laws;
@@ -8,6 +9,6 @@ mod top;
 mod words;
 
 pub use command_end::Status;
-pub use laws::outcomes_are_due;
+pub use laws::{outcomes_are_due, workloads_are_spelled};
 pub use sure::run_in_memory;
 pub use top::run;

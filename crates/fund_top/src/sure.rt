@@ -4,8 +4,8 @@ ghost use Rattle.std.specs.Prelude.{◌≡◌, ◌≢◌, ◌⊎◌, IfSome};
 ghost use Rattle.fund_base.specs.SureShelf.{view_of as shelf_view};
 ghost use Rattle.fund_base.specs.SureSink.{view_of as sink_view};
 ghost use Rattle.fund_top.specs.Due.{outcome_of};
-ghost use Rattle.fund_top.specs.InMemory.{Funds, FundsNot, FundsOpen, Lists};
-ghost use Rattle.fund_top.specs.Statuses.{WhereFunding, WhereListing, status_of};
+ghost use Rattle.fund_top.specs.InMemory.{Funds, FundsNot, FundsOpen, Lists, Sums};
+ghost use Rattle.fund_top.specs.Statuses.{WhereFunding, WhereListing, WhereWorking, status_of};
 ghost use Rattle.fund_top.specs.Words.{command_of};
 
 use crate::top::run;
@@ -14,7 +14,7 @@ use fund_base::{SureShelf, SureSink};
 use std::alloc::Global;
 
 /// [`run`] on files in memory and a sink in memory that never fail: the status is that of what the files come to, and
-/// the report or the listing is printed whole, want of memory aside.
+/// the report, the listing or the summary is printed whole, want of memory aside.
 pub fn run_in_memory(
     alloc: Global,
     words: &Vec<String>,
@@ -25,6 +25,7 @@ pub fn run_in_memory(
     ensures written { result ≢ Status.WriteFault }
     ensures done { result ≡ Status.Done → WhereFunding (command_of words.now.items) (λ s p. Funds s p (shelf_view shelf.old) (shelf_view shelf.new) (sink_view out.old) (sink_view out.new)) }
     ensures listed { result ≡ Status.Done → WhereListing (command_of words.now.items) (λ s. Lists s (shelf_view shelf.old) (sink_view out.old) (sink_view out.new)) }
+    ensures summed { result ≡ Status.Done → WhereWorking (command_of words.now.items) (λ number count. Sums Status.Done number count (sink_view out.old) (sink_view out.new)) }
     ensures unfinished { result ≡ Status.Unfinished → IfSome (command_of words.now.items) (λ c. FundsOpen c (shelf_view shelf.old) (shelf_view shelf.new) (sink_view out.old) (sink_view out.new)) }
     ensures none { result ≡ Status.NoSelection → IfSome (command_of words.now.items) (λ c. FundsNot c (shelf_view shelf.old) (shelf_view shelf.new) (sink_view out.old) (sink_view out.new)) }
     ensures complete { IfSome (command_of words.now.items) (λ c. (result ≡ status_of (outcome_of (shelf_view shelf.old).files c)) ⊎ (result ≡ Status.Memory)) }

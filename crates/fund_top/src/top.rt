@@ -1,19 +1,21 @@
 //! The commands, from their words to their status.
 
-ghost use Rattle.std.specs.Prelude.{◌≡◌, ◌↔◌, ◌⊎◌, None, codes, IfSome};
+ghost use Rattle.std.specs.Prelude.{◌≡◌, ◌↔◌, ◌⊎◌, Some, None, codes, IfSome};
 ghost use Rattle.command_end.specs.Lines.{GotLine, fault_line};
 ghost use Rattle.command_coins.specs.Statuses.{EndsListed};
 ghost use Rattle.command_fund.specs.Cause.{Cause, status_of_cause};
 ghost use Rattle.command_fund.specs.Statuses.{EndsFunded, IsBeforeTheLog};
 ghost use Rattle.fund_top.specs.Command.{plain};
 ghost use Rattle.fund_top.specs.Due.{Refused, outcome_of};
-ghost use Rattle.fund_top.specs.Statuses.{Ends, EndsNotFunded, EndsRefused, EndsUnfinished, EndsUnread, EndsUnwritten, EndsWithoutMemory, KeepsOthers, NoneFailed, NoneUnread, WhereFunding, WhereListing, status_of};
-ghost use Rattle.fund_top.specs.Words.{command_of};
+ghost use Rattle.command_work.specs.Statuses.{EndsSummed};
+ghost use Rattle.fund_top.specs.Statuses.{Ends, EndsNotFunded, EndsRefused, EndsUnfinished, EndsUnread, EndsUnwritten, EndsWithoutMemory, KeepsOthers, NoneFailed, NoneUnread, WhereFunding, WhereListing, WhereWorking, status_of};
+ghost use Rattle.fund_top.specs.Words.{IsInRange, command_of};
 
 use crate::words::{Command, parse};
 use command_coins::coins;
 use command_end::{Status, put_line};
 use command_fund::fund;
+use command_work::work;
 use fund_base::{Shelf, Sink};
 use std::alloc::Global;
 
@@ -22,13 +24,16 @@ const USAGE_LINE: &[u8] = b"fault usage\n";
 
 /// Does the command.
 fn act<H: Shelf, O: Sink>(alloc: Global, command: &Command, shelf: &mut H, out: &mut O) -> Status
+    requires { IsInRange (plain command.now) }
     ensures ends { Ends H.tells O.tells (plain command.now) (H.view shelf.old) (H.view shelf.new) (O.view out.old) (O.view out.new) result }
     ensures others { H.tells → KeepsOthers (plain command.now) (H.view shelf.old).files (H.view shelf.new).files }
     ensures kept { H.tells → IsBeforeTheLog result → (H.view shelf.new).files ≡ (H.view shelf.old).files }
+    ensures apart { WhereWorking (Some (plain command.now)) (λ number count. (H.view shelf.new) ≡ (H.view shelf.old)) }
 {
     match command {
         Command::Coins(sources) => coins(alloc, sources, shelf, out),
         Command::Fund(sources, payment) => fund(alloc, sources, payment, shelf, out),
+        Command::Work(number, count) => work(alloc, *number, *count, out),
     }
 }
 
@@ -36,7 +41,9 @@ fn act<H: Shelf, O: Sink>(alloc: Global, command: &Command, shelf: &mut H, out: 
 /// tip of its chain, its pending payments and their states, and the coins that may be spent. `fund WALLET BLOCKS REQUEST
 /// LOG` funds a payment by the method of the request: it reads the three files, searches with the request's tries, writes
 /// the log, and then prints the report to `out`. Where the run is unfinished, no log is written: the tries are used up, a
-/// search is open, and nothing is taken. What is refused gets its fault line there.
+/// search is open, and nothing is taken. `work NUMBER COUNT` reads and writes no file: it makes a wallet of COUNT coins and
+/// a request from the number, funds a payment from them, and prints the summary of that run to `out`. What is refused gets
+/// its fault line there.
 ///
 /// The clauses on content hold where the shelf and the sink tell theirs.
 pub fn run<H: Shelf, O: Sink>(
@@ -57,6 +64,10 @@ pub fn run<H: Shelf, O: Sink>(
     // Done, where coins are listed: the states and the candidates are printed, and nothing else.
     ensures listed { result ≡ Status.Done → WhereListing (command_of words.now.items) (λ s. EndsListed H.tells O.tells s (H.view shelf.old) (O.view out.old) (O.view out.new)) }
 
+    // Done, where a workload is summed up: the same is true of the payment from it as of one from files, and the summary
+    // of its report is printed, and nothing else.
+    ensures summed { result ≡ Status.Done → WhereWorking (command_of words.now.items) (λ number count. EndsSummed O.tells number count Status.Done (O.view out.old) (O.view out.new)) }
+
     // Unfinished: each try of the request was made, the next step is a try, and nothing is taken. No file is written.
     ensures unfinished { result ≡ Status.Unfinished → IfSome (command_of words.now.items) (λ c. EndsUnfinished H.tells O.tells c (H.view shelf.old) (H.view shelf.new) (O.view out.old) (O.view out.new)) }
 
@@ -75,6 +86,9 @@ pub fn run<H: Shelf, O: Sink>(
     // What stays: every file but the log of a payment, and the log too before it is written.
     ensures others { H.tells → IfSome (command_of words.now.items) (λ c. KeepsOthers c (H.view shelf.old).files (H.view shelf.new).files) }
     ensures kept { H.tells → IsBeforeTheLog result → (H.view shelf.new).files ≡ (H.view shelf.old).files }
+
+    // A workload is summed up without files: none is asked for or touched.
+    ensures apart { WhereWorking (command_of words.now.items) (λ number count. (H.view shelf.new) ≡ (H.view shelf.old)) }
 
     // Where the files are refused and were read, the status is that of the refusal, even if the sink fails.
     ensures refused { IfSome (command_of words.now.items) (λ c. H.tells → NoneUnread c (H.view shelf.old) (H.view shelf.new) → (cause : Cause) → outcome_of (H.view shelf.old).files c ≡ Refused cause → (result ≡ status_of_cause cause) ⊎ (result ≡ Status.Memory)) }

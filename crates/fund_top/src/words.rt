@@ -1,13 +1,14 @@
 //! The words of the command line.
 
-ghost use Rattle.std.specs.Prelude.{◌≡◌, option_map};
+ghost use Rattle.std.specs.Prelude.{◌≡◌, IfSome, option_map};
 ghost use Rattle.command_end.specs.Names.{plain_sources};
 ghost use Rattle.command_fund.specs.Names.{plain_payment};
 ghost use Rattle.fund_top.specs.Command.{plain};
-ghost use Rattle.fund_top.specs.Words.{are_named, command_of, names_stand};
+ghost use Rattle.fund_top.specs.Words.{IsInRange, are_named, command_of, listing_of, names_stand, work_of};
 
 use command_end::Sources;
 use command_fund::Payment;
+use fund_base::read_decimal;
 
 /// What is to be done.
 #[derive(Clone, Copy, Debug)]
@@ -16,7 +17,15 @@ pub enum Command<'a> {
     Coins(Sources<'a>),
     /// To fund a payment.
     Fund(Sources<'a>, Payment<'a>),
+    /// To fund a payment from the workload of a number and a count of coins, and to sum it up.
+    Work(u64, u32),
 }
+
+/// The greatest number of a workload.
+const MOST_NUMBER: u64 = 9_223_372_036_854_775_807;
+
+/// The greatest count of coins of a workload.
+const MOST_COINS: u64 = 10_000;
 
 /// Whether no name is empty.
 fn are_named(sources: &Sources) -> bool
@@ -36,18 +45,44 @@ fn names_stand(sources: &Sources, payment: &Payment) -> bool
     are_named(sources) && (named && apart)
 }
 
-/// The command that the words are, which is `coins WALLET BLOCKS` or `fund WALLET BLOCKS REQUEST LOG`.
+/// The workload that two words ask for: a number of 0 to 9,223,372,036,854,775,807 and a count of 1 to 10,000, each as its
+/// decimal digits without a leading zero.
+fn load_in<'a>(number: &str, count: &str) -> Option<Command<'a>>
+    ensures command { option_map plain result ≡ work_of number.now count.now }
+    ensures range { IfSome result (λ c. IsInRange (plain c)) }
+{
+    let number = read_decimal(number.as_bytes(), MOST_NUMBER)?;
+    let count = read_decimal(count.as_bytes(), MOST_COINS)?;
+    if count == 0 {
+        return None;
+    }
+    Some(Command::Work(number, count as u32))
+}
+
+/// The command of these names, where they stand for the two files of `coins`.
+fn listing_in<'a>(wallet: &'a str, blocks: &'a str) -> Option<Command<'a>>
+    ensures command { option_map plain result ≡ listing_of wallet.now blocks.now }
+    ensures range { IfSome result (λ c. IsInRange (plain c)) }
+{
+    let sources = Sources { wallet, blocks };
+    if are_named(&sources) {
+        Some(Command::Coins(sources))
+    } else {
+        None
+    }
+}
+
+/// The command that the words are, which is `coins WALLET BLOCKS`, `work NUMBER COUNT` or `fund WALLET BLOCKS REQUEST LOG`.
 pub fn parse(words: &[String]) -> Option<Command<'_>>
-    ensures { option_map plain result ≡ command_of words.now }
+    ensures command { option_map plain result ≡ command_of words.now }
+    ensures range { IfSome result (λ c. IsInRange (plain c)) }
 {
     match words {
-        [verb, wallet, blocks] => {
-            let sources = Sources {
-                wallet: wallet.as_str(),
-                blocks: blocks.as_str(),
-            };
-            if verb.as_str() == "coins" && are_named(&sources) {
-                Some(Command::Coins(sources))
+        [verb, first, second] => {
+            if verb.as_str() == "coins" {
+                listing_in(first.as_str(), second.as_str())
+            } else if verb.as_str() == "work" {
+                load_in(first.as_str(), second.as_str())
             } else {
                 None
             }

@@ -43,12 +43,7 @@ fn write_name<W: Writer>(out: &mut W, text: &[u8]) -> Result<(), W::Error>
 /// The summary of the run of a number and a count, by the text of its report: `work` with both, the lines of the report
 /// but for those of coins and of the PSBT, and `report` with the SHA-256 of the whole text in hex. The error is to be out
 /// of memory.
-pub fn summarize(
-    alloc: Global,
-    number: u64,
-    count: u32,
-    report: &[u8],
-) -> Result<Vec<u8>, Memory>
+pub fn summarize(alloc: Global, number: u64, count: u32, report: &[u8]) -> Result<Vec<u8>, Memory>
     ensures { IfOk result (λ text. text.items ≡ summary_text number count report.now) }
 {
     let mut text = Vec::new(alloc);

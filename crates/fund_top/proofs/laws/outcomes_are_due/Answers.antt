@@ -1,5 +1,5 @@
 use Rattle.fund_plan.specs.declared.outcome.Outcome.TheVariants as answers
-use Rattle.fund_top.proofs.DueLaws.{answer_due, listing_due, refusal_due}
+use Rattle.fund_top.proofs.DueLaws.{answer_due, listing_due, load_due, refusal_due}
 use Rattle.fund_top.proofs.laws.outcomes_are_due.Goals as goal
 
 pub returns-clause-refused : goal.returns-clause-refused
@@ -16,3 +16,12 @@ returns-clause-none c = λ files s p w blocks r has rules is. answer_due files s
 
 pub returns-clause-unfinished : goal.returns-clause-unfinished
 returns-clause-unfinished c = λ files s p w blocks r has rules is. answer_due files s p w blocks r answers.Unfinished has rules is
+
+pub returns-clause-summed : goal.returns-clause-summed
+returns-clause-summed c = λ files number count f some most distinct is. load_due files number count (answers.Funded f) some most distinct is
+
+pub returns-clause-summed_none : goal.returns-clause-summed_none
+returns-clause-summed_none c = λ files number count some most distinct is. load_due files number count answers.NoSelection some most distinct is
+
+pub returns-clause-summed_open : goal.returns-clause-summed_open
+returns-clause-summed_open c = λ files number count some most distinct is. load_due files number count answers.Unfinished some most distinct is

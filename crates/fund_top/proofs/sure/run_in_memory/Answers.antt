@@ -1,7 +1,8 @@
+use Rattle.std.proofs.Common.{refl}
 use Rattle.fund_base.specs.SureShelf.{view_of as shelf_view}
 use Rattle.fund_base.specs.SureSink.{view_of as sink_view}
 use Rattle.fund_top.specs.Words.{command_of}
-use Rattle.fund_top.proofs.SureLaws.{funds, funds_not, funds_open}
+use Rattle.fund_top.proofs.SureLaws.{completes, funds, funds_not, funds_open, sums}
 use Rattle.fund_top.proofs.sure.run_in_memory.Goals as goal
 
 pub returns-clause-done : goal.returns-clause-done
@@ -12,3 +13,11 @@ returns-clause-unfinished c = λ is. funds_open (command_of c.args.words.now.ite
 
 pub returns-clause-none : goal.returns-clause-none
 returns-clause-none c = λ is. funds_not (command_of c.args.words.now.items) (shelf_view c.args.shelf.now) (shelf_view c.run.new.shelf) (sink_view c.args.out.now) (sink_view c.run.new.out) (c.run.ensures.none is)
+
+pub returns-clause-summed : goal.returns-clause-summed
+returns-clause-summed c = λ is. sums (command_of c.args.words.now.items) (sink_view c.args.out.now) (sink_view c.run.new.out) (c.run.ensures.summed is)
+
+pub returns-clause-complete : goal.returns-clause-complete
+returns-clause-complete c =
+    completes (command_of c.args.words.now.items) (shelf_view c.args.shelf.now) (shelf_view c.run.new.shelf) (sink_view c.args.out.now) (sink_view c.run.new.out) c.run.result
+    (record { reads = λ name. refl; writes = λ name. refl }) (record { reads = λ name. refl; writes = λ name. refl }) refl refl c.run.ensures.complete

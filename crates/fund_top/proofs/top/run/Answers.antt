@@ -16,7 +16,7 @@ returns-in-Some-clause-complete g c =
     let sink = g.O.Sink.view c.args.out.now in
     let sink' = g.O.Sink.view c.act.new.out in
     let P : Command → Type 0 = λ d. g.H.Shelf.tells → NoneFailed d shelf shelf' sink sink' → (c.act.result ≡ status_of (outcome_of shelf.files d)) ⊎ (c.act.result ≡ statuses.Memory) in
-    subst (λ (o : Option Command). IfSome o P) (c.in-Some.ensures ∙ ap command_of c.as_slice.ensures.value)
+    subst (λ (o : Option Command). IfSome o P) (c.in-Some.ensures.command ∙ ap command_of c.as_slice.ensures.value)
     (λ told none. ends_complete _ _ (plain c.in-Some.command) shelf shelf' sink sink' c.act.result c.act.ensures.ends told none)
 
 pub returns-in-Some-clause-refused : goal.returns-in-Some-clause-refused
@@ -26,5 +26,5 @@ returns-in-Some-clause-refused g c =
     let sink = g.O.Sink.view c.args.out.now in
     let sink' = g.O.Sink.view c.act.new.out in
     let P : Command → Type 0 = λ d. g.H.Shelf.tells → NoneUnread d shelf shelf' → (cause : Cause) → outcome_of shelf.files d ≡ Refused cause → (c.act.result ≡ status_of_cause cause) ⊎ (c.act.result ≡ statuses.Memory) in
-    subst (λ (o : Option Command). IfSome o P) (c.in-Some.ensures ∙ ap command_of c.as_slice.ensures.value)
+    subst (λ (o : Option Command). IfSome o P) (c.in-Some.ensures.command ∙ ap command_of c.as_slice.ensures.value)
     (λ told none cause is. ends_refused _ _ (plain c.in-Some.command) shelf shelf' sink sink' c.act.result c.act.ensures.ends told none cause is)
