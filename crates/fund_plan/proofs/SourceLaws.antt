@@ -57,10 +57,10 @@ sources seed (x ∷ xs) fs (g ∷ front) rest f (Some q, rr, (gs, parts, more)) 
 
 -- what the result that is taken first says of the problem of its row and stage
 pub record IsOwn (p : PlainPlan) (f : PlainFound) : Type 0 where
-  step : PlainStep
-  drawn : is_drawn f.stage ≡ is_drawn step.stage
-  problem : step.problem ≡ problem_at p (row_of p f.row) f.stage
-  result : IsResult p.request.seed step (Some f.places)
+  pub step : PlainStep
+  pub drawn : is_drawn f.stage ≡ is_drawn step.stage
+  pub problem : step.problem ≡ problem_at p (row_of p f.row) f.stage
+  pub result : IsResult p.request.seed step (Some f.places)
 
 pub own_result : (p : PlainPlan) (f : PlainFound) → IsFirstTaken p.request.seed (steps_of p) f → IsOwn p f
 own_result p f first =

@@ -20,7 +20,7 @@ ghost use Rattle.fund_plan.specs.Figures.{waste_of};
 ghost use Rattle.fund_plan.specs.Kept.{choice_of};
 ghost use Rattle.fund_plan.specs.Outcome.{by_end, given_of};
 ghost use Rattle.fund_plan.specs.Pays.{payment_weight};
-ghost use Rattle.fund_plan.specs.Steps.{is_given, pool_in, steps_of};
+ghost use Rattle.fund_plan.specs.Steps.{is_given, load_in, pool_in, steps_of};
 
 use crate::chosen::{at_hand, members, together};
 use crate::outcome::{Funded, Outcome, Place};
@@ -159,6 +159,25 @@ impl Funding {
             coins: load.coins + at_hand(&pool.groups),
             ..load
         }
+    }
+
+    /// What its payments are made from.
+    pub fn funds(&self) -> &Funds
+        ensures { result.now ≡ self.now }
+    {
+        &self.funds
+    }
+
+    /// What a payment from the given coins and from those of a row of the ladder is to carry. The error is out of memory.
+    pub fn load_at(&self, row: &Row) -> Result<Load, Memory>
+        requires row { row.now.own ≤ row.now.foreign }
+        requires roomy { IsRoomy self.now row.now }
+        ensures value { IfOk result (λ l. l ≡ load_in self.now row.now) }
+        ensures fits { IfOk result IsLoad }
+        ensures paid { IfOk result (λ l. l.paid ≡ paid_to self.now.request.recipients) }
+    {
+        let pool = self.pool(row)?;
+        Ok(self.load(&pool))
     }
 
     /// The payment from these coins, by what it is to carry.

@@ -16,6 +16,7 @@ mod worth;
 
 pub use fault::{CheckAt, PlanSavedFault};
 pub use figures::Figures;
+pub use funding::Funding;
 pub use keeping::{
     kept_faults_have_one_cause, kept_plans_are_accepted, restored_plans_go_on,
     unfinished_plans_are_saved, verified_plans_have_the_answer,
@@ -31,3 +32,4 @@ pub use laws::{
 pub use outcome::{Funded, Outcome, Place};
 pub use payment::unsigned;
 pub use plan::Plan;
+pub use worth::{declared_weight, due, waste};

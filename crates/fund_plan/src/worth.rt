@@ -16,7 +16,7 @@ use fund_steps::{effective, fees, value, weight};
 
 /// What the inputs of a payment without change have to bring: the outputs, the fee of the base and those of the inputs,
 /// the burden, and by what the target is raised so that a coin is chosen; in satoshi.
-fn due(rates: &Rates, load: &Load, coins: &[Candidate]) -> u64
+pub fn due(rates: &Rates, load: &Load, coins: &[Candidate]) -> u64
     requires rates { AreRates rates.now }
     requires load { IsLoad load.now }
     requires coins { AreWithin coins.now }

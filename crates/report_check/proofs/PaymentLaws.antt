@@ -1,0 +1,123 @@
+-- A report that pays as it says, with the coins of a payment, is of that payment.
+use Rattle.std.specs.Prelude.{ℕ, ◌≡◌, ◌≢◌, ◌+◌, Bool, List, [], ◌∷◌, map, sum_by, All, AllPairs, Contains, Option, Some, None}
+use Rattle.std.specs.List.{AllZip}
+use Rattle.std.proofs.Common.{refl, sym, ap, subst, inl, inr, ◌∙◌, arith}
+use Rattle.std.proofs.lemmas.List.Elements.{All-contains, All-head, All-tail}
+use Rattle.fee_rates.specs.Fee.{vsize_of}
+use Rattle.fee_rates.specs.declared.terms.Load.{Load}
+use Rattle.fund_base.specs.declared.candidate.Candidate.{Candidate}
+use Rattle.fund_plan.proofs.PaysLaws.{outputs_sum}
+use Rattle.fund_plan.specs.Answer.{IsPayment}
+use Rattle.fund_plan.specs.Chosen.{load_for}
+use Rattle.fund_plan.specs.Figures.{waste_of}
+use Rattle.fund_plan.specs.Pays.{Pays, outputs_of, payment_of, payment_weight}
+use Rattle.fund_plan.specs.Selection as plans
+use Rattle.fund_report.specs.PlainFunded.{PlainFunded}
+use Rattle.fund_report.specs.declared.report.InLine.{InLine}
+use Rattle.fund_steps.proofs.PresetLaws.{presets_listed}
+use Rattle.fund_steps.specs.Amounts.{value_of}
+use Rattle.fund_steps.specs.Listed.{presets_in}
+use Rattle.fund_steps.specs.Plan.{IsEligible, IsPlan, PlainPlan}
+use Rattle.output_groups.proofs.Members.{all_from}
+use Rattle.output_groups.proofs.PlaceLaws.{one_coin}
+use Rattle.psbt_codec.specs.PartialTransaction.{PartialTransaction}
+use Rattle.request_text.specs.PlainRequest.{PlainRequest}
+use Rattle.tx_codec.specs.Transaction.{Transaction}
+use Rattle.tx_codec.specs.declared.tx.TxIn.{TxIn}
+use Rattle.tx_codec.specs.declared.tx.TxOut.{TxOut}
+use Rattle.wallet_text.specs.declared.wallet.Watch.{Watch}
+use Rattle.report_check.specs.Answer.{NamesPayment}
+use Rattle.report_check.specs.Payment.{IsPsbtText, MayBeSpent, PaysBy, Shows, line_of}
+use Rattle.report_check.specs.Vouched.{IsOfPayment}
+
+-- ---- the coins
+
+pub spendable_held : (p : PlainPlan) (n : ℕ) (c : Candidate) → IsPlan p → MayBeSpent p n c → Contains p.candidates c
+spendable_held p n c h may =
+    elim may [
+      | inl preset ↦ (All-contains (IsEligible p) (presets_in p) c (presets_listed p h.eligible).eligible preset).candidate
+      | inr other ↦ other.0
+    ]
+
+pub all_held : (p : PlainPlan) (n : ℕ) (coins : List Candidate) → IsPlan p → All (MayBeSpent p n) coins → All (Contains p.candidates) coins
+all_held p n coins h may = all_from (Contains p.candidates) coins (λ c there. spendable_held p n c h (All-contains (MayBeSpent p n) coins c may there))
+
+same_coins : (cs xs ys : List Candidate) → AllPairs (λ (a b : Candidate). a.coin ≢ b.coin) cs → All (Contains cs) xs → All (Contains cs) ys → map line_of xs ≡ map line_of ys → xs ≡ ys
+same_coins cs [] [] apart h k e = refl
+same_coins cs [] (y ∷ ys) apart h k e = absurd (cc)
+same_coins cs (x ∷ xs) [] apart h k e = absurd (cc)
+same_coins cs (x ∷ xs) (y ∷ ys) apart h k e =
+    let line : line_of x ≡ line_of y = cc in
+    let lines : map line_of xs ≡ map line_of ys = cc in
+    let same : x ≡ y = one_coin cs x y apart (All-head (Contains cs) x xs h) (All-head (Contains cs) y ys k) (ap (λ (l : InLine). l.coin) line) in
+    ap (λ (c : Candidate). c ∷ xs) same ∙ ap (λ (zs : List Candidate). y ∷ zs) (same_coins cs xs ys apart (All-tail (Contains cs) x xs h) (All-tail (Contains cs) y ys k) lines)
+
+-- ---- the change
+
+pub sum_of : (r : PlainRequest) (w : Watch) (l : Load) (coins : List Candidate) (amount : Option ℕ) (t : Transaction) → Pays r w l coins amount t → sum_by (λ (o : TxOut). o.value) t.outputs ≡ outputs_of r amount
+sum_of r w l coins amount t p = ap (sum_by (λ (o : TxOut). o.value)) p.outputs ∙ outputs_sum r w amount
+
+-- coins pay with one change alone
+one_change : (r : PlainRequest) (w : Watch) (l : Load) (coins : List Candidate) (a b : Option ℕ) (t u : Transaction) → Pays r w l coins a t → Pays r w l coins b u → a ≡ b
+one_change r w l coins None None t u h k = refl
+one_change r w l coins None (Some n) t u h k =
+    let first = sum_of r w l coins None t h in
+    let second = sum_of r w l coins (Some n) u k in
+    absurd (omega (arith, first, second, h.fee.0, h.fee.1, k.fee, k.change_worth))
+one_change r w l coins (Some m) None t u h k =
+    let first = sum_of r w l coins (Some m) t h in
+    let second = sum_of r w l coins None u k in
+    absurd (omega (arith, first, second, k.fee.0, k.fee.1, h.fee, h.change_worth))
+one_change r w l coins (Some m) (Some n) t u h k =
+    let first = sum_of r w l coins (Some m) t h in
+    let second = sum_of r w l coins (Some n) u k in
+    let same : m ≡ n = omega (arith, first, second, h.fee, k.fee) in
+    ap (λ (q : ℕ). Some q) same
+
+-- ---- the transaction
+
+pub same_transaction : (t u : Transaction) → t.version ≡ u.version → t.inputs ≡ u.inputs → t.outputs ≡ u.outputs → t.locktime ≡ u.locktime → t.segwit ≡ u.segwit → t ≡ u
+same_transaction t u a b c d e =
+    let version : ℕ → Transaction = λ v. record { version = v; inputs = t.inputs; outputs = t.outputs; locktime = t.locktime; segwit = t.segwit } in
+    let inputs : List TxIn → Transaction = λ v. record { version = u.version; inputs = v; outputs = t.outputs; locktime = t.locktime; segwit = t.segwit } in
+    let outputs : List TxOut → Transaction = λ v. record { version = u.version; inputs = u.inputs; outputs = v; locktime = t.locktime; segwit = t.segwit } in
+    let locktime : ℕ → Transaction = λ v. record { version = u.version; inputs = u.inputs; outputs = u.outputs; locktime = v; segwit = t.segwit } in
+    let segwit : Bool → Transaction = λ v. record { version = u.version; inputs = u.inputs; outputs = u.outputs; locktime = u.locktime; segwit = v } in
+    ap version a ∙ (ap inputs b ∙ (ap outputs c ∙ (ap locktime d ∙ ap segwit e)))
+
+one_transaction : (r : PlainRequest) (w : Watch) (l : Load) (coins : List Candidate) (a : Option ℕ) (t u : Transaction) → Pays r w l coins a t → Pays r w l coins a u → t ≡ u
+one_transaction r w l coins a t u h k =
+    same_transaction t u (h.version ∙ sym k.version) (h.inputs ∙ sym k.inputs) (h.outputs ∙ sym k.outputs) (h.locktime ∙ sym k.locktime) (h.bare ∙ sym k.bare)
+
+-- ---- the payment
+
+-- what a report says of its payment, at a row, some coins and a change
+record Says (p : PlainPlan) (f : PlainFunded) (t : PartialTransaction) (n : ℕ) (coins : List Candidate) (change : Option ℕ) : Type 0 where
+  pays : Pays p.request p.change (load_for p n) coins change t.tx
+  weight : f.weight ≡ payment_weight (load_for p n) coins change
+  vsize : f.vsize ≡ vsize_of f.weight
+  fee : value_of coins ≡ outputs_of p.request change + f.fee
+  waste : f.waste ≡ waste_of p.request (load_for p n) coins change
+  shows : AllZip Shows coins t.spent
+
+pub of_payment : (p : PlainPlan) (f : PlainFunded) (g : plans.PlainFunded) (t : PartialTransaction) → IsPlan p → IsPayment p g → NamesPayment f g → IsPsbtText f.text t → PaysBy p f t → IsOfPayment p f g
+of_payment p f g t h payment names text paid =
+    let coins : paid.coins ≡ g.coins = same_coins p.candidates paid.coins g.coins h.candidates.distinct (all_held p f.row paid.coins h paid.spendable) payment.candidates (sym paid.lines ∙ names.coins) in
+    let says : Says p f t f.row paid.coins f.change = record { pays = paid.pays; weight = paid.weight; vsize = paid.vsize; fee = paid.fee; waste = paid.waste; shows = paid.shows } in
+    let at_row : Says p f t g.row paid.coins f.change = subst (λ (n : ℕ). Says p f t n paid.coins f.change) names.row says in
+    let with_coins : Says p f t g.row g.coins f.change = subst (λ (cs : List Candidate). Says p f t g.row cs f.change) coins at_row in
+    let change : f.change ≡ g.change = one_change p.request p.change (load_for p g.row) g.coins f.change g.change t.tx (payment_of p.request p.change g) with_coins.pays payment.pays in
+    let all : Says p f t g.row g.coins g.change = subst (λ (c : Option ℕ). Says p f t g.row g.coins c) change with_coins in
+    let weight : f.weight ≡ g.weight = all.weight ∙ sym payment.weight_is in
+    record {
+      names = names;
+      change = change;
+      weight = weight;
+      vsize = all.vsize ∙ ap vsize_of weight;
+      fee = let sum = all.fee in omega (arith, sum);
+      waste = all.waste ∙ sym payment.waste_is;
+      psbt = t;
+      text = text;
+      transaction = one_transaction p.request p.change (load_for p g.row) g.coins g.change t.tx (payment_of p.request p.change g) all.pays payment.pays;
+      shows = all.shows;
+    }

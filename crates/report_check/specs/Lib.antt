@@ -1,0 +1,17 @@
+pub mod Answer
+pub mod Backing
+pub mod Checking
+pub mod Due
+pub mod Finding
+pub mod Fitting
+pub mod Ground
+pub mod Judging
+pub mod Naming
+pub mod PaidRefused
+pub mod Paying
+pub mod Payment
+pub mod Proved
+pub mod Refused
+pub mod Telling
+pub mod Verdict
+pub mod Vouched

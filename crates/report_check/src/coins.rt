@@ -1,0 +1,93 @@
+//! The coins that a payment spends, found by its inputs.
+
+ghost use Rattle.std.specs.Prelude.{◌≡◌, ◌≢◌, ◌==◌, ◌++◌, ◌∷◌, [], AllPairs, find, IfErr, IfOk, OnOk, option_copied};
+ghost use Rattle.std.specs.List.{AllZip};
+ghost use Rattle.fund_base.specs.declared.candidate.Candidate.{Candidate};
+ghost use Rattle.output_groups.specs.declared.rows.Row.{Row};
+ghost use Rattle.report_check.specs.Finding.{IsCoinAt, IsTakenAt, Takes};
+ghost use Rattle.report_check.specs.PaidRefused.{IsCoinRefusal};
+
+use crate::fault::CheckFault;
+use fund_base::{Candidate, Memory, OutPoint};
+use output_groups::{Row, meets};
+use std::alloc::Global;
+use tx_codec::TxIn;
+
+/// The first row of this number, if there is one.
+pub(crate) fn row_at(rows: &[Row], number: u8) -> Option<&Row>
+    ensures { option_copied result ≡ find (λ (r : Row). r.number == number) rows.now }
+{
+    rows.iter().find(|row| row.number == number)
+}
+
+/// The first of the coins at an outpoint.
+pub(crate) fn coin_at<'a>(coins: &'a [Candidate], point: &OutPoint) -> Option<&'a Candidate>
+    ensures { IsCoinAt coins.now point.now (option_copied result) }
+{
+    'finding: for coin in coins {
+        if coin.coin == *point {
+            return Some(coin);
+        }
+    }
+    None
+}
+
+/// The coin at an outpoint that may be spent: a preset, or another that meets the row.
+fn taken_at<'a>(
+    presets: &'a [Candidate],
+    rest: &'a [Candidate],
+    row: Option<&Row>,
+    point: &OutPoint,
+) -> Option<&'a Candidate>
+    requires { AllPairs (λ (a b : Candidate). a.coin ≢ b.coin) rest.now }
+    ensures { IsTakenAt presets.now rest.now (option_copied row.entry) point.now (option_copied result) }
+{
+    match coin_at(presets, point) {
+        Some(preset) => Some(preset),
+        None => {
+            match row {
+                None => None,
+                Some(row) => {
+                    match coin_at(rest, point) {
+                        None => None,
+                        Some(coin) => { if meets(row, coin) { Some(coin) } else { None } }
+                    }
+                }
+            }
+        }
+    }
+}
+
+/// Puts a copy of a coin after others. The error is out of memory.
+fn add(alloc: Global, coins: &mut Vec<Candidate>, coin: &Candidate) -> Result<(), Memory>
+    ensures { OnOk result (coins.new.items ≡ coins.old.items ++ coin.now ∷ []) }
+{
+    let copy = coin.copy(alloc)?;
+    coins.push(copy)?;
+    Ok(())
+}
+
+/// The coins that the inputs spend, in their order. The refusal is the first outpoint at which there is none that may be
+/// spent.
+pub(crate) fn coins_of(
+    alloc: Global,
+    presets: &[Candidate],
+    rest: &[Candidate],
+    row: Option<&Row>,
+    inputs: &[TxIn],
+) -> Result<Vec<Candidate>, CheckFault>
+    requires { AllPairs (λ (a b : Candidate). a.coin ≢ b.coin) rest.now }
+    ensures found { IfOk result (λ coins. AllZip (Takes presets.now rest.now (option_copied row.entry)) inputs.now coins.items) }
+    ensures foreign { IfErr result (IsCoinRefusal presets.now rest.now (option_copied row.entry) inputs.now) }
+{
+    let mut coins = Vec::new(alloc);
+    'taking: for input in inputs {
+        let Some(coin) = taken_at(presets, rest, row, &input.prev) else {
+            return Err(CheckFault::Coin(input.prev));
+        };
+        if let Err(_) = add(alloc, &mut coins, coin) {
+            return Err(CheckFault::Memory);
+        }
+    }
+    Ok(coins)
+}

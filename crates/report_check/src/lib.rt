@@ -1,0 +1,32 @@
+//! What a report and its log vouch for: whether a report is accepted with its log, or which rule it breaks first. It takes
+//! them at nobody's word: it works out the problems of the searches, checks the letters of the log, and makes the draws.
+#![tactic(auto)]
+
+mod answered;
+mod checked;
+mod coins;
+mod examiner;
+mod fault;
+mod figures;
+mod given;
+mod laws;
+mod log_form;
+mod log_rules;
+mod names;
+mod paid;
+mod place;
+mod psbt;
+mod right;
+mod section_check;
+mod sections;
+mod shown;
+mod telling;
+mod tries;
+mod up_to;
+
+pub use examiner::Examiner;
+pub use fault::CheckFault;
+pub use laws::{
+    accepted_reports_name_the_answer, logs_break_one_rule_first, reports_have_one_verdict,
+    tries_have_their_line,
+};
