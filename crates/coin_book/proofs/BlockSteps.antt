@@ -17,9 +17,9 @@ use Rattle.std.specs.declared.snapshot.Snapshot.{Snapshot}
 use Rattle.coin_book.specs.Coins.{Made, confirmed_made, made_by, pending_made, weight_for}
 use Rattle.coin_book.specs.Faults.{fault_behind, fault_of, full_at, points}
 use Rattle.coin_book.specs.History.{Confirmed, History, confirmed_at, confirmed_before, confirmed_in, with_block}
-use Rattle.coin_book.specs.Kept.{HoldsChain, HoldsCoins, IsKept, history_of, points_in, weigher}
+use Rattle.coin_book.specs.Invariant.{HoldsChain, HoldsCoins, IsKept, history_of, points_in, weigher}
 use Rattle.coin_book.specs.Spends.{height_of, spends_below}
-use Rattle.coin_book.specs.Steps.{all_in, shares, spends_in, staying, stays}
+use Rattle.coin_book.specs.Merging.{all_in, shares, spends_in, staying, stays}
 use Rattle.coin_book.specs.declared.coin.Spend.{Spend}
 use Rattle.coin_book.specs.declared.fault.BookFault.{BookFault}
 use Rattle.coin_book.specs.declared.fault.BookFault.TheVariants.{Full}

@@ -13,9 +13,9 @@ use Rattle.tx_codec.specs.Txid.{txid_of}
 use Rattle.coin_book.specs.Coins.{Made, made_by}
 use Rattle.coin_book.specs.Faults.{points, fault_behind}
 use Rattle.coin_book.specs.History.{Confirmed}
-use Rattle.coin_book.specs.Kept.{HoldsChain, HoldsCoins, held_made, is_known, made_at, points_in}
+use Rattle.coin_book.specs.Invariant.{HoldsChain, HoldsCoins, held_made, is_known, made_at, points_in}
 use Rattle.coin_book.specs.Spends.{has_input, height_of, spend_at, spends_below, spends_of}
-use Rattle.coin_book.specs.Steps.{entry_of, held_point, spends_in}
+use Rattle.coin_book.specs.Merging.{entry_of, held_point, spends_in}
 use Rattle.coin_book.specs.declared.coin.Spend.{Spend}
 use Rattle.coin_book.specs.declared.fault.BookFault.{BookFault}
 use Rattle.coin_book.proofs.MapSteps.{fault_among, fault_more}

@@ -8,7 +8,7 @@ use Rattle.tx_codec.specs.Txid.{txid_of}
 use Rattle.coin_book.specs.Coinbase.{is_coinbase_of}
 use Rattle.tx_codec.specs.declared.tx.TxOut.{TxOut}
 use Rattle.coin_book.specs.Coins.{Made, coin_at, coin_of, coins_below}
-use Rattle.coin_book.specs.Kept.{coin_made}
+use Rattle.coin_book.specs.Invariant.{coin_made}
 use Rattle.coin_book.specs.declared.coin.Coin.{Coin}
 
 abbrev coins : List Made → List Coin

@@ -10,7 +10,7 @@ use Rattle.fund_base.specs.declared.outpoint.OutPoint.{OutPoint}
 use Rattle.coin_book.specs.Coins.{Made, confirmed_made, made_of, pending_made}
 use Rattle.coin_book.specs.Faults.{fault_behind, fault_of, full_at, points}
 use Rattle.coin_book.specs.History.{History}
-use Rattle.coin_book.specs.Kept.{HoldsCoins, made_at}
+use Rattle.coin_book.specs.Invariant.{HoldsCoins, made_at}
 use Rattle.coin_book.specs.declared.held.Held.{Held}
 use Rattle.coin_book.specs.declared.fault.BookFault.{BookFault}
 use Rattle.coin_book.specs.declared.fault.BookFault.TheVariants.{Full, RepeatCoin}

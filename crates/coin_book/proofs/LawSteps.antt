@@ -9,7 +9,7 @@ use Rattle.block_feed.specs.Block.{ChainBlock}
 use Rattle.coin_book.specs.Coins.{Made, confirmed_made, is_open, made_in, pending_made, weight_for}
 use Rattle.coin_book.specs.Faults.{fault_behind, fault_of, points}
 use Rattle.coin_book.specs.History.{History, confirmed_in, with_block, with_pending}
-use Rattle.coin_book.specs.Kept.{points_in}
+use Rattle.coin_book.specs.Invariant.{points_in}
 use Rattle.coin_book.specs.declared.fault.BookFault.{BookFault}
 use Rattle.coin_book.proofs.ChainSteps.{points_push}
 use Rattle.coin_book.proofs.FaultSteps.{fault_first, fault_rest, few, no_room_for, room_for}

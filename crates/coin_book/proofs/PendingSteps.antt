@@ -18,7 +18,7 @@ use Rattle.tx_codec.specs.Txid.{txid_of}
 use Rattle.coin_book.specs.Coins.{Made, confirmed_made, is_open, made_in, pending_made, weight_for}
 use Rattle.coin_book.specs.Faults.{fault_behind, fault_of, full_at, points}
 use Rattle.coin_book.specs.History.{Confirmed, History, with_pending}
-use Rattle.coin_book.specs.Kept.{HoldsChain, HoldsCoins, IsKept, made_at, made_waiting, weigher}
+use Rattle.coin_book.specs.Invariant.{HoldsChain, HoldsCoins, IsKept, made_at, made_waiting, weigher}
 use Rattle.coin_book.specs.Spends.{height_of}
 use Rattle.coin_book.specs.declared.fault.BookFault.{BookFault}
 use Rattle.coin_book.specs.declared.fault.BookFault.TheVariants.{Full}

@@ -12,7 +12,7 @@ use Rattle.wallet_text.specs.declared.wallet.Watch.{Watch}
 use Rattle.coin_book.specs.Coins.{Made, confirmed_made, pending_made, weight_for}
 use Rattle.coin_book.specs.Faults.{fault_behind, fault_of, points}
 use Rattle.coin_book.specs.History.{History, confirmed_before, start_of}
-use Rattle.coin_book.specs.Kept.{HoldsChain, IsKept, history_of, made_at, points_in, weigher}
+use Rattle.coin_book.specs.Invariant.{HoldsChain, IsKept, history_of, made_at, points_in, weigher}
 use Rattle.coin_book.specs.declared.fault.BookFault.{BookFault}
 use Rattle.coin_book.specs.declared.held.Held.{Held}
 use Rattle.coin_book.specs.declared.ledger.Ledger.{Ledger}

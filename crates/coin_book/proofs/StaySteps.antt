@@ -19,9 +19,9 @@ use Rattle.coin_book.specs.Coinbase.{is_coinbase_of}
 use Rattle.coin_book.specs.Coins.{Made, coin_at, coin_of, coins_below, is_open, made_in, pending_made, weight_for}
 use Rattle.coin_book.specs.Faults.{points}
 use Rattle.coin_book.specs.History.{History, confirmed_in, with_block}
-use Rattle.coin_book.specs.Kept.{HoldsChain, HoldsCoins, made_at}
+use Rattle.coin_book.specs.Invariant.{HoldsChain, HoldsCoins, made_at}
 use Rattle.coin_book.specs.Spends.{height_of}
-use Rattle.coin_book.specs.Steps.{shares, staying, stays}
+use Rattle.coin_book.specs.Merging.{shares, staying, stays}
 use Rattle.coin_book.specs.declared.held.Held.{Held}
 use Rattle.coin_book.specs.declared.ledger.Ledger.{Ledger}
 use Rattle.coin_book.proofs.FaultSteps.{held_count}

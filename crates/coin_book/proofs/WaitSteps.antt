@@ -20,8 +20,8 @@ use Rattle.coin_book.specs.Faults.{fault_behind, full_at, points}
 use Rattle.coin_book.specs.declared.fault.BookFault.{BookFault}
 use Rattle.coin_book.specs.declared.fault.BookFault.TheVariants.{Full, RepeatCoin}
 use Rattle.coin_book.proofs.FaultSteps.{no_room_for, room_for}
-use Rattle.coin_book.specs.Kept.{HoldsCoins, held_made, made_at, made_waiting}
-use Rattle.coin_book.specs.Steps.{entry_of, held_point}
+use Rattle.coin_book.specs.Invariant.{HoldsCoins, held_made, made_at, made_waiting}
+use Rattle.coin_book.specs.Merging.{entry_of, held_point}
 use Rattle.coin_book.specs.declared.held.Held.{Held}
 use Rattle.coin_book.proofs.ChainSteps.{coins_more}
 use Rattle.coin_book.proofs.MapSteps.{fault_more, fault_one}

@@ -8,7 +8,7 @@ use Rattle.std.proofs.lemmas.Slice.Eq.{bytes_eq-Decides}
 use Rattle.indexmap.specs.IndexMap.{insert_entry}
 use Rattle.wallet_text.specs.declared.wallet.Watch.{Watch}
 use Rattle.coin_book.specs.Coins.{weight_for}
-use Rattle.coin_book.specs.Kept.{weigher}
+use Rattle.coin_book.specs.Invariant.{weigher}
 
 abbrev Weighed : Type 0
 Weighed = List (Vec ℕ Global × ℕ)

@@ -3,8 +3,8 @@ pub mod Coins
 pub mod Events
 pub mod Faults
 pub mod History
-pub mod Kept
+pub mod Invariant
+pub mod Merging
 pub mod Outputs
 pub mod Repeats
 pub mod Spends
-pub mod Steps

@@ -7,9 +7,9 @@ ghost use Rattle.tx_codec.specs.Txid.{txid_of};
 ghost use Rattle.coin_book.specs.Coins.{made_by};
 ghost use Rattle.coin_book.specs.Faults.{points, fault_behind};
 ghost use Rattle.coin_book.specs.History.{Confirmed, confirmed_at};
-ghost use Rattle.coin_book.specs.Kept.{HoldsChain, is_known, points_in, weigher};
+ghost use Rattle.coin_book.specs.Invariant.{HoldsChain, is_known, points_in, weigher};
 ghost use Rattle.coin_book.specs.Spends.{has_input};
-ghost use Rattle.coin_book.specs.Steps.{Meets, spends_in};
+ghost use Rattle.coin_book.specs.Merging.{Meets, spends_in};
 
 use crate::coin::Spend;
 use crate::fault::BookFault;

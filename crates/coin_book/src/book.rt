@@ -55,7 +55,7 @@ pub struct Book {
 
 impl Model for Book {
     ghost use Rattle.coin_book.specs.History.{History};
-    ghost use Rattle.coin_book.specs.Kept.{IsKept, history_of};
+    ghost use Rattle.coin_book.specs.Invariant.{IsKept, history_of};
 
     ghost Value = { History };
 

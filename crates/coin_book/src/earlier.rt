@@ -4,8 +4,8 @@ ghost use Rattle.std.specs.Prelude.{◌≡◌, [], IfOk, map};
 ghost use Rattle.coin_book.specs.Coins.{weight_for};
 ghost use Rattle.coin_book.specs.Faults.{fault_behind};
 ghost use Rattle.coin_book.specs.History.{confirmed_before};
-ghost use Rattle.coin_book.specs.Kept.{HoldsChain, points_in, weigher};
-ghost use Rattle.coin_book.specs.Steps.{Meets};
+ghost use Rattle.coin_book.specs.Invariant.{HoldsChain, points_in, weigher};
+ghost use Rattle.coin_book.specs.Merging.{Meets};
 
 use crate::coin::Spend;
 use crate::fault::BookFault;

@@ -8,7 +8,7 @@ ghost use Rattle.fund_base.specs.Outpoints.{same_outpoint};
 ghost use Rattle.fund_base.specs.declared.outpoint.OutPoint.{OutPoint};
 ghost use Rattle.coin_book.specs.Spends.{has_input};
 ghost use Rattle.coin_book.specs.Faults.{fault_behind};
-ghost use Rattle.coin_book.specs.Steps.{Meets, entry_of, held_point, spends_in};
+ghost use Rattle.coin_book.specs.Merging.{Meets, entry_of, held_point, spends_in};
 ghost use Rattle.coin_book.specs.declared.coin.Spend.{Spend};
 
 use crate::coin::Spend;

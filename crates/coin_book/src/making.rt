@@ -4,7 +4,7 @@ ghost use Rattle.std.specs.Prelude.{◌≡◌, ◌<◌, IfOk, length, map};
 ghost use Rattle.tx_codec.specs.Txid.{txid_of};
 ghost use Rattle.coin_book.specs.Coins.{Made, coin_at, coin_of, coins_below, made_in};
 ghost use Rattle.coin_book.specs.declared.coin.Coin.{Coin};
-ghost use Rattle.coin_book.specs.Kept.{coin_made, held_made, weigher};
+ghost use Rattle.coin_book.specs.Invariant.{coin_made, held_made, weigher};
 
 use crate::coin::Coin;
 use crate::coinbase::is_coinbase;

@@ -6,7 +6,7 @@ ghost use Rattle.std.specs.Map.{keys_of};
 ghost use Rattle.indexmap.specs.IndexMap.{insert_all};
 ghost use Rattle.fund_base.specs.Outpoints.{same_outpoint};
 ghost use Rattle.fund_base.specs.declared.outpoint.OutPoint.{OutPoint};
-ghost use Rattle.coin_book.specs.Steps.{all_in, spends_in};
+ghost use Rattle.coin_book.specs.Merging.{all_in, spends_in};
 ghost use Rattle.coin_book.specs.declared.coin.Spend.{Spend};
 
 use crate::coin::Spend;

@@ -2,7 +2,7 @@
 
 ghost use Rattle.std.specs.Prelude.{◌≡◌, ◌<◌, filter, length, nat_lt, if◌then◌else◌};
 ghost use Rattle.std.specs.Map.{keys_of};
-ghost use Rattle.coin_book.specs.Steps.{shares, staying, stays};
+ghost use Rattle.coin_book.specs.Merging.{shares, staying, stays};
 
 use crate::held::Held;
 use fund_base::{OutPoint, Txid};

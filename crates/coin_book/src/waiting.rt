@@ -5,8 +5,8 @@ ghost use Rattle.std.specs.Map.{keys_of, lookup};
 ghost use Rattle.tx_codec.specs.Txid.{txid_of};
 ghost use Rattle.coin_book.specs.Coins.{made_in};
 ghost use Rattle.coin_book.specs.Faults.{fault_behind, points};
-ghost use Rattle.coin_book.specs.Kept.{HoldsCoins, made_waiting, weigher};
-ghost use Rattle.coin_book.specs.Steps.{Meets};
+ghost use Rattle.coin_book.specs.Invariant.{HoldsCoins, made_waiting, weigher};
+ghost use Rattle.coin_book.specs.Merging.{Meets};
 
 use crate::fault::BookFault;
 use crate::held::Held;

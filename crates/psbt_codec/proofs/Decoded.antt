@@ -18,7 +18,7 @@ use Rattle.tx_codec.specs.Reading.{tx_at, legacy_tx_at, output_in}
 use Rattle.tx_codec.specs.Transaction.{Transaction}
 use Rattle.tx_codec.specs.TransactionText.{bare_text, text_of, output_text, IsTransaction, IsLegacy}
 use Rattle.tx_codec.proofs.Laws.{tx_reads, legacy_tx_reads}
-use Rattle.tx_codec.proofs.LawsOfParts.{FitsBehind, output_reads}
+use Rattle.tx_codec.proofs.PartLaws.{FitsBehind, output_reads}
 use Rattle.psbt_codec.specs.Fault.{unsigned_fault}
 use Rattle.psbt_codec.specs.Psbt.{Pair, HaveOtherKeys, Tells, typed, IsUnsigned, IsParent, IsPaid}
 use Rattle.psbt_codec.specs.Reading.{start, tx_in, paid_in, are_bare, unsigned_in, value_of, fits_input}

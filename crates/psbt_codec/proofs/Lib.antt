@@ -1,13 +1,13 @@
 pub mod Decoded
 pub mod EachLaws
-pub mod Final
-pub mod Inner
-pub mod Longer
+pub mod FinalFaults
 pub mod MapLaws
 pub mod MapMeaning
 pub mod MapReads
+pub mod MoreBytes
+pub mod NestedFaults
 pub mod PairLaws
-pub mod Public
+pub mod PublicClauses
 pub mod Readable
 pub mod TextLaws
 pub mod Written

@@ -1,6 +1,6 @@
-pub mod Ending
 pub mod Fault
 pub mod PartialTransaction
 pub mod Psbt
 pub mod Reading
 pub mod Text
+pub mod Truncation

@@ -1,7 +1,7 @@
 //! What the faults of a PSBT's bytes say of the bytes.
 
 ghost use Rattle.std.specs.Prelude.{◌≡◌, ℕ, List, ◌++◌, Err};
-ghost use Rattle.psbt_codec.specs.Ending.{IsCut, BeginsNone, IsPart, IsCutOff};
+ghost use Rattle.psbt_codec.specs.Truncation.{IsCut, BeginsNone, IsPart, IsCutOff};
 ghost use Rattle.psbt_codec.specs.Reading.{read_of};
 ghost use Rattle.psbt_codec.specs.declared.fault.PsbtFault.{PsbtFault};
 

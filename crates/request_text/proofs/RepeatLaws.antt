@@ -9,7 +9,7 @@ use Rattle.std.proofs.lemmas.Map.Views.{Contains-from_any}
 use Rattle.fund_base.proofs.OutpointLaws.{same_outpoint-Decides}
 use Rattle.fund_base.specs.Outpoints.{same_outpoint}
 use Rattle.fund_base.specs.declared.outpoint.OutPoint.{OutPoint}
-use Rattle.request_text.specs.Rules.{IsFirstRepeat}
+use Rattle.json_fields.specs.Repeats.{IsFirstRepeat}
 use Rattle.request_text.specs.RequestText.{repeat_behind}
 
 abbrev AreDistinct : List OutPoint → Type 0
@@ -40,11 +40,11 @@ some_behind front (c ∷ cs) place h e = by (list_any (same_outpoint c) front) r
         → IsFirstRepeat (front ++ c ∷ cs) place
     by true seen r rest = record {
       front = front;
-      coin = c;
+      again = c;
       back = cs;
       parts = refl;
-      at = cc r;
-      stands = Contains-from_any (λ x y. (same_outpoint-Decides x y).0) c front seen;
+      place_is = sym (cc r);
+      stood = Contains-from_any (λ x y. (same_outpoint-Decides x y).0) c front seen;
       distinct = h;
     }
     by false new r rest = subst (λ (l : List OutPoint). IsFirstRepeat l place) (regrouped front c cs) (rest (pushed front c h new) r)

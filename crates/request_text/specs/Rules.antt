@@ -7,16 +7,6 @@ use Rattle.fund_base.specs.declared.outpoint.OutPoint.{OutPoint}
 use Rattle.request_text.specs.declared.request.Method.{Method}
 use Rattle.request_text.specs.declared.request.Method.TheVariants.{Auto, Changeless, Weight, Draw, Manual}
 
--- the coin at this place stands before it too, and those before it are distinct
-pub record IsFirstRepeat (coins : List OutPoint) (place : ℕ) : Type 0 where
-  pub front : List OutPoint
-  pub coin : OutPoint
-  pub back : List OutPoint
-  pub parts : coins ≡ front ++ coin ∷ back
-  pub at : length front ≡ place
-  pub stands : Contains front coin
-  pub distinct : AllPairs (λ a b. a ≢ b) front
-
 -- the word that names a method
 abbrev pub word_of : Method → List ℕ
 word_of Auto = codes "auto"

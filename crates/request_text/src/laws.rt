@@ -17,7 +17,8 @@ ghost use Rattle.request_text.specs.Entries.{IsToAddress, IsToScript, IsNoScript
 ghost use Rattle.request_text.specs.PlainRequest.{PlainRequest, paid_to};
 ghost use Rattle.request_text.specs.RequestText.{field, index_of, known_in, method_in, recipient_behind, recipients_at, repeat_behind, request_at, required_in, seed_at, rate_at, tries_at};
 ghost use Rattle.request_text.specs.Table.{member_faults, said_by};
-ghost use Rattle.request_text.specs.Rules.{IsFirstRepeat, IsSeedText, word_of};
+ghost use Rattle.json_fields.specs.Repeats.{IsFirstRepeat};
+ghost use Rattle.request_text.specs.Rules.{IsSeedText, word_of};
 ghost use Rattle.request_text.specs.declared.fault.Refusal.{Refusal};
 ghost use Rattle.request_text.specs.declared.fault.Refusal.TheVariants.{Field, Address, Script, AmountRange, Dust, SumRange, NoRecipients, RateRange, TriesRange};
 ghost use Rattle.request_text.specs.declared.request.Method.{Method};

@@ -15,7 +15,7 @@ use Rattle.tx_codec.specs.declared.tx.TxIn.{TxIn}
 use Rattle.tx_codec.specs.Transaction.{Transaction}
 use Rattle.tx_codec.specs.Reading.{are_empty, legacy_at, witnessed_at, segregated_at, is_marked, tx_at, legacy_tx_at}
 use Rattle.tx_codec.specs.TransactionText.{input_text, output_text, stack_text, bare_text, segregated_text, text_of, InputFits, IsTransaction, IsLegacy}
-use Rattle.tx_codec.proofs.LawsOfParts.{number32, bytes, BareFits, InputsFit, inputs_reads, outputs_reads}
+use Rattle.tx_codec.proofs.PartLaws.{number32, bytes, BareFits, InputsFit, inputs_reads, outputs_reads}
 use Rattle.tx_codec.proofs.LawsOfStacks.{strips, IsBare, stacks_take, stacks_again, length-strips, flat_map-strips, fit_with_stacks, fit_without_stacks, stacks_fit, has_stack, not_empty, no_stack, all_bare, bare_fit}
 
 -- ---- after the version, the legacy form

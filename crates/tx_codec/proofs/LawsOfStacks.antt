@@ -14,7 +14,7 @@ use Rattle.tx_codec.specs.declared.tx.TxIn.{TxIn}
 use Rattle.tx_codec.specs.Fault.{cut_fault}
 use Rattle.tx_codec.specs.Reading.{item_at, stack_at, stacks_at, are_empty}
 use Rattle.tx_codec.specs.TransactionText.{input_text, stack_text, InputFits}
-use Rattle.tx_codec.proofs.LawsOfParts.{StringFits, string, BareFits}
+use Rattle.tx_codec.proofs.PartLaws.{StringFits, string, BareFits}
 
 -- a witness whose numbers and bytes fit
 abbrev pub StackFits : List (List ℕ) → Type 0

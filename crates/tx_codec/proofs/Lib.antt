@@ -1,9 +1,9 @@
-pub mod Final
+pub mod FinalFaults
 pub mod Laws
-pub mod LawsOfParts
 pub mod LawsOfStacks
-pub mod Longer
+pub mod MoreBytes
 pub mod Outputs
-pub mod Public
-pub mod Stacks
 pub mod OwnFaults
+pub mod PartLaws
+pub mod PublicClauses
+pub mod Stacks

@@ -1,9 +1,9 @@
-pub mod Ending
 pub mod Fault
 pub mod Reading
 pub mod Signals
 pub mod Stack
 pub mod Transaction
 pub mod TransactionText
+pub mod Truncation
 pub mod Txid
 pub mod Weight

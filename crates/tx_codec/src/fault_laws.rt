@@ -1,7 +1,7 @@
 //! What the faults of a transaction's text say of the text.
 
 ghost use Rattle.std.specs.Prelude.{◌≡◌, ℕ, List, ◌++◌, Err};
-ghost use Rattle.tx_codec.specs.Ending.{IsCut, BeginsNone, IsPart, IsCutOff};
+ghost use Rattle.tx_codec.specs.Truncation.{IsCut, BeginsNone, IsPart, IsCutOff};
 ghost use Rattle.tx_codec.specs.Reading.{tx_at, legacy_tx_at};
 ghost use Rattle.tx_codec.specs.TransactionText.{IsLegacy, IsTransaction};
 ghost use Rattle.tx_codec.specs.declared.fault.TxFault.{TxFault};

@@ -5,7 +5,8 @@ use Rattle.json_fields.specs.declared.fault.FieldFault.TheVariants.{Memory as No
 use Rattle.tx_codec.specs.Transaction.{Transaction}
 use Rattle.wallet_text.specs.Repeats.{IsEarlierRepeat, IsRepeat}
 use Rattle.wallet_text.specs.Told.{refusal_of}
-use Rattle.wallet_text.specs.WalletRules.{AreDistinctEarlier, IsFirstLater, IsFirstRepeat}
+use Rattle.json_fields.specs.Repeats.{IsFirstRepeat}
+use Rattle.wallet_text.specs.WalletRules.{AreDistinctEarlier, IsFirstLater}
 use Rattle.wallet_text.specs.WalletText.{earlier_txids, lists_at, told_index}
 use Rattle.wallet_text.specs.declared.fault.Refusal.{Refusal}
 use Rattle.wallet_text.specs.declared.fault.Refusal.TheVariants.{Field, ParentLater, Repeat}
@@ -18,8 +19,8 @@ use Rattle.wallet_text.proofs.WalletLaws.{later, repeated}
 none_later : (place : ℕ) → IsFirstLater [] place → ⊥
 none_later place h = absurd (omega (arith, ap (λ (ts : List Transaction). length ts) h.parts, length-append h.front (h.tx ∷ h.back)))
 
-none_twice : (place : ℕ) → IsFirstRepeat [] place → ⊥
-none_twice place h = absurd (omega (arith, ap (λ (ts : List (List ℕ)). length ts) h.parts, length-append h.front (h.txid ∷ h.back)))
+none_twice : (place : ℕ) → IsFirstRepeat {X = List ℕ} [] place → ⊥
+none_twice place h = absurd (omega (arith, ap (λ (ts : List (List ℕ)). length ts) h.parts, length-append h.front (h.again ∷ h.back)))
 
 -- none but these two is a fault of whole lists
 refuted : (earlier : List Earlier) (fault : Refusal) → ((list : List ℕ) (told : ℕ) → fault ≢ Repeat list told) → ((told : ℕ) → fault ≢ ParentLater told) → lists_at earlier [] ≡ Err fault → ⊥
@@ -33,7 +34,7 @@ pub is_repeat : (earlier : List Earlier) (fault : WalletFault) → (refusal_of f
 is_repeat earlier told.Memory h = tt
 is_repeat earlier (told.Repeat list index) h = by (repeated earlier [] (string_bytes list) index (h (λ e. cc e)))
   where
-    by : (place : ℕ) × (index ≡ told_index place) × (((string_bytes list ≡ codes "earlier") × IsFirstRepeat (earlier_txids earlier) place) ⊎ ((string_bytes list ≡ codes "pending") × AreDistinctEarlier earlier × IsFirstRepeat [] place)) → IsEarlierRepeat earlier (string_bytes list) index
+    by : (place : ℕ) × (index ≡ told_index place) × (((string_bytes list ≡ codes "earlier") × IsFirstRepeat (earlier_txids earlier) place) ⊎ ((string_bytes list ≡ codes "pending") × AreDistinctEarlier earlier × IsFirstRepeat {X = List ℕ} [] place)) → IsEarlierRepeat earlier (string_bytes list) index
     by (place, is, inl r) = record { name = r.0; place = place; place_is = is; first = r.1 }
     by (place, is, inr r) = absurd (none_twice place r.2)
 is_repeat earlier (told.ParentLater index) h = let r = later earlier [] index (h (λ e. cc e)) in absurd (none_later r.0 r.4)

@@ -1,7 +1,7 @@
 pub mod EarlierLaws
 pub mod EntryLaws
-pub mod Inner
 pub mod ListLaws
+pub mod NestedFaults
 pub mod Orders
 pub mod Rules
 pub mod Strings

@@ -9,7 +9,8 @@ use Rattle.json_fields.specs.Fields.{refuse}
 use Rattle.tx_codec.specs.Transaction.{Transaction}
 use Rattle.tx_codec.specs.Txid.{txid_of}
 use Rattle.tx_codec.specs.declared.tx.TxIn.{TxIn}
-use Rattle.wallet_text.specs.WalletRules.{AreDistinct, AreDistinctEarlier, ParentsComeFirst, IsFirstRepeat, IsFirstLater}
+use Rattle.json_fields.specs.Repeats.{IsFirstRepeat}
+use Rattle.wallet_text.specs.WalletRules.{AreDistinct, AreDistinctEarlier, ParentsComeFirst, IsFirstLater}
 use Rattle.wallet_text.specs.WalletText.{told_index, txids_of, earlier_txids, repeat_from, later_from, lists_at}
 use Rattle.wallet_text.specs.declared.fault.Refusal.{Refusal}
 use Rattle.wallet_text.specs.declared.fault.Refusal.TheVariants.{Repeat, ParentLater}
@@ -23,12 +24,12 @@ never_twice f x xs place distinct is =
     let within = is.stood.1 in
     let long = length-map xs f in
     let parts = ap length is.parts in
-    let joined = length-append is.front (is.txid ∷ is.back) in
+    let joined = length-append is.front (is.again ∷ is.back) in
     let second_within : length is.front < length xs = omega arith in
-    let first : get_or (map f xs) k is.txid ≡ is.txid = ap (λ l. get_or l k is.txid) is.parts ∙ get_or_append_left is.front (is.txid ∷ is.back) is.txid k within ∙ is.stood.2 in
-    let second : get_or (map f xs) (length is.front) is.txid ≡ is.txid = ap (λ l. get_or l (length is.front) is.txid) is.parts ∙ get_or-append_seam is.front is.txid is.back is.txid in
+    let first : get_or (map f xs) k is.again ≡ is.again = ap (λ l. get_or l k is.again) is.parts ∙ get_or_append_left is.front (is.again ∷ is.back) is.again k within ∙ is.stood.2 in
+    let second : get_or (map f xs) (length is.front) is.again ≡ is.again = ap (λ l. get_or l (length is.front) is.again) is.parts ∙ get_or-append_seam is.front is.again is.back is.again in
     distinct k (length is.front) x within second_within
-    (sym (get_or-map f xs k x is.txid (omega arith)) ∙ first ∙ sym second ∙ get_or-map f xs (length is.front) x is.txid second_within)
+    (sym (get_or-map f xs k x is.again (omega arith)) ∙ first ∙ sym second ∙ get_or-map f xs (length is.front) x is.again second_within)
 
 none_repeated : {X : Type 0} (f : X → List ℕ) (xs : List X) → AllPairs (λ a b. f a ≢ f b) xs → repeat_from [] (map f xs) ≡ None
 unfolding repeat_from

@@ -12,7 +12,8 @@ use Rattle.json_fields.specs.Fields.{is_among, refuse}
 use Rattle.tx_codec.specs.Transaction.{Transaction}
 use Rattle.tx_codec.specs.Txid.{txid_of}
 use Rattle.tx_codec.specs.declared.tx.TxIn.{TxIn}
-use Rattle.wallet_text.specs.WalletRules.{IsWatch, SpendsNone, SpendsOneOf, AreDistinct, AreDistinctEarlier, IsFirstRepeat, IsFirstLater}
+use Rattle.json_fields.specs.Repeats.{IsFirstRepeat}
+use Rattle.wallet_text.specs.WalletRules.{IsWatch, SpendsNone, SpendsOneOf, AreDistinct, AreDistinctEarlier, IsFirstLater}
 use Rattle.wallet_text.specs.WalletText.{told_index, has_script_length, judged, txids_of, earlier_txids, repeat_from, spends_one_of, later_from, lists_at}
 use Rattle.wallet_text.specs.declared.fault.Refusal.{Refusal}
 use Rattle.wallet_text.specs.declared.fault.Refusal.TheVariants.{Script, Weight, Repeat, ParentLater}
@@ -114,7 +115,7 @@ repeat_is front [] place kept e = absurd (cc e)
 repeat_is front (x ∷ xs) place kept e = by (is_among front x) refl e (repeat_is (front ++ x ∷ []) xs place)
   where
     by : (b : Bool) → is_among front x ≡ b → cond b (Some (length front)) (repeat_from (front ++ x ∷ []) xs) ≡ Some place → (AllPairs Apart (front ++ x ∷ []) → repeat_from (front ++ x ∷ []) xs ≡ Some place → IsFirstRepeat ((front ++ x ∷ []) ++ xs) place) → IsFirstRepeat (front ++ x ∷ xs) place
-    by true is reads rest = record { front = front; txid = x; back = xs; parts = refl; place_is = sym (cc reads); stood = Contains-is_among front x is; distinct = kept }
+    by true is reads rest = record { front = front; again = x; back = xs; parts = refl; place_is = sym (cc reads); stood = Contains-is_among front x is; distinct = kept }
     by false is reads rest = subst (λ all. IsFirstRepeat all place) (append_assoc front (x ∷ []) xs) (rest (all_pairs_push Apart front x kept (λ k d lt same. true≢false (sym (is_among-Contains front x (k, lt, get_or_default front k x d lt ∙ same)) ∙ is))) reads)
 
 spends_is : (ts : List Transaction) (t : Transaction) → spends_one_of (txids_of ts) t ≡ true → SpendsOneOf ts t

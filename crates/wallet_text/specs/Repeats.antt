@@ -1,6 +1,6 @@
 -- Why earlier transactions are those of no wallet.
 use Rattle.std.specs.Prelude.{ℕ, ◌≡◌, List, codes, string_bytes}
-use Rattle.wallet_text.specs.WalletRules.{IsFirstRepeat}
+use Rattle.json_fields.specs.Repeats.{IsFirstRepeat}
 use Rattle.wallet_text.specs.WalletText.{earlier_txids, told_index}
 use Rattle.wallet_text.specs.declared.fault.WalletFault.{WalletFault}
 use Rattle.wallet_text.specs.declared.fault.WalletFault.TheVariants as told

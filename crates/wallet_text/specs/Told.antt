@@ -1,5 +1,6 @@
 -- How a refusal is reported.
 use Rattle.std.specs.Prelude.{ℕ, ◌≡◌, ◌≢◌, List, Result, Ok, Err, string_bytes}
+use Rattle.fund_base.specs.Parsing.{YieldsAll}
 use Rattle.json_fields.specs.declared.fault.FieldFault.TheVariants as fields
 use Rattle.tx_codec.specs.declared.fault.TxFault.TheVariants.{Memory as NoMemory}
 use Rattle.wallet_text.specs.PlainWallet.{PlainWallet}
@@ -25,6 +26,10 @@ refusal_of told.Memory = Field fields.Memory
 abbrev pub Reads : Result PlainWallet WalletFault → Result PlainWallet Refusal → Type 0
 Reads (Ok w) reading = reading ≡ Ok w
 Reads (Err fault) reading = fault ≢ told.Memory → reading ≡ Err (refusal_of fault)
+
+-- What a part of the reading returned, seen by view, is what reading gives, unless memory ran out.
+abbrev pub Gives : {X Y : Type 0} → (X → Y) → Result X Refusal → Result Y Refusal → Type 0
+Gives view result reading = YieldsAll (Field fields.Memory) view result reading
 
 -- A transaction is refused for a fault of its own, and not for being out of memory.
 abbrev pub HasReason : WalletFault → Type 0

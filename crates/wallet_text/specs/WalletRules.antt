@@ -61,16 +61,6 @@ pub record IsWallet (w : PlainWallet) : Type 0 where
 abbrev pub SpendsOneOf : List Transaction → Transaction → Type 0
 SpendsOneOf ts t = (i : TxIn) × Contains t.inputs i × Contains (map txid_of ts) i.prev.txid
 
--- the first place of a list whose txid stands before it
-pub record IsFirstRepeat (txids : List (List ℕ)) (place : ℕ) : Type 0 where
-  pub front : List (List ℕ)
-  pub txid : List ℕ
-  pub back : List (List ℕ)
-  pub parts : txids ≡ front ++ txid ∷ back
-  pub place_is : place ≡ length front
-  pub stood : Contains front txid
-  pub distinct : AllPairs (λ x y. x ≢ y) front
-
 -- the first place whose transaction spends an output of itself or of one after it
 pub record IsFirstLater (ts : List Transaction) (place : ℕ) : Type 0 where
   pub front : List Transaction

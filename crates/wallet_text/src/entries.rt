@@ -5,8 +5,8 @@ ghost use Rattle.fund_base.specs.Parsing.{YieldsAll};
 ghost use Rattle.json_fields.specs.Fields.{each_from, hash_at, coin_at};
 ghost use Rattle.json_fields.specs.declared.fault.FieldFault.TheVariants.{Memory};
 ghost use Rattle.serde_json.specs.View.{view, items_view};
+ghost use Rattle.wallet_text.specs.Told.{Gives};
 ghost use Rattle.wallet_text.specs.WalletText.{told_index, watch_at, has_script_length, judged, script_in, script_behind, change_at, tx_in, earlier_at, earlier_in, earlier_behind, pending_in, pending_behind};
-ghost use Rattle.wallet_text.specs.declared.fault.Refusal.TheVariants.{Field};
 
 use crate::fault::Refusal;
 use crate::seen::Seen;
@@ -84,7 +84,7 @@ fn next_script(
     seen: &mut Seen,
     value: &Value,
 ) -> Result<Watch, Refusal>
-    ensures gives { YieldsAll (Field Memory) (λ w. w) result (script_in index seen.old (view value.now)) }
+    ensures gives { Gives (λ w. w) result (script_in index seen.old (view value.now)) }
     ensures adds { IfOk result (λ w. seen.new ≡ seen.old ++ w.script ∷ []) }
 {
     let watch = watch_of(alloc, value, "scripts")?;
@@ -94,7 +94,7 @@ fn next_script(
 
 /// The scripts of the wallet, no script twice.
 pub fn scripts_from(alloc: Global, values: &[Value]) -> Result<Vec<Watch>, Refusal>
-    ensures { YieldsAll (Field Memory) (λ v. v.items) result (each_from script_behind [] (items_view values.now)) }
+    ensures { Gives (λ v. v.items) result (each_from script_behind [] (items_view values.now)) }
 {
     let mut watches = Vec::new(alloc);
     let mut seen = Seen::new(alloc);
@@ -108,7 +108,7 @@ pub fn scripts_from(alloc: Global, values: &[Value]) -> Result<Vec<Watch>, Refus
 /// The change entry, whose index is the number of scripts.
 #[tactic(auto, unfolding(crate::specs::WalletText::change_at))]
 pub fn change_of(alloc: Global, count: usize, value: &Value) -> Result<Watch, Refusal>
-    ensures { YieldsAll (Field Memory) (λ w. w) result (change_at count (view value.now)) }
+    ensures { Gives (λ w. w) result (change_at count (view value.now)) }
 {
     let watch = watch_of(alloc, value, "change")?;
     judge(false, count, watch)
@@ -117,7 +117,7 @@ pub fn change_of(alloc: Global, count: usize, value: &Value) -> Result<Watch, Re
 /// The transaction that the bytes are, at this index of a list.
 #[tactic(auto, unfolding(crate::specs::WalletText::tx_in))]
 fn tx_in(alloc: Global, list: &str, index: usize, bytes: &[u8]) -> Result<Tx, Refusal>
-    ensures { YieldsAll (Field Memory) (λ t. t) result (tx_in list.now index bytes.now) }
+    ensures { Gives (λ t. t) result (tx_in list.now index bytes.now) }
 {
     match read_whole_tx(alloc, bytes) {
         Ok(tx) => Ok(tx),
@@ -145,7 +145,7 @@ fn earlier_of(alloc: Global, most: u64, value: &Value) -> Result<(Vec<u8>, u64),
 
 #[tactic(auto, unfolding(crate::specs::WalletText::earlier_in))]
 fn next_earlier(alloc: Global, most: u32, index: usize, value: &Value) -> Result<Earlier, Refusal>
-    ensures { YieldsAll (Field Memory) (λ e. e) result (earlier_in most index (view value.now)) }
+    ensures { Gives (λ e. e) result (earlier_in most index (view value.now)) }
 {
     let (bytes, height) = earlier_of(alloc, most as u64, value)?;
     let tx = tx_in(alloc, "earlier", index, &bytes)?;
@@ -157,7 +157,7 @@ fn next_earlier(alloc: Global, most: u32, index: usize, value: &Value) -> Result
 
 /// The earlier transactions, each with a height of at most `most`.
 pub fn earlier_from(alloc: Global, most: u32, values: &[Value]) -> Result<Vec<Earlier>, Refusal>
-    ensures { YieldsAll (Field Memory) (λ v. v.items) result (each_from (earlier_behind most) [] (items_view values.now)) }
+    ensures { Gives (λ v. v.items) result (each_from (earlier_behind most) [] (items_view values.now)) }
 {
     let mut earlier = Vec::new(alloc);
     for value in values {
@@ -169,7 +169,7 @@ pub fn earlier_from(alloc: Global, most: u32, values: &[Value]) -> Result<Vec<Ea
 
 #[tactic(auto, unfolding(crate::specs::WalletText::pending_in))]
 fn next_pending(alloc: Global, index: usize, value: &Value) -> Result<Tx, Refusal>
-    ensures { YieldsAll (Field Memory) (λ t. t) result (pending_in index (view value.now)) }
+    ensures { Gives (λ t. t) result (pending_in index (view value.now)) }
 {
     let bytes = hex_of(alloc, value, "pending")?;
     tx_in(alloc, "pending", index, &bytes)
@@ -177,7 +177,7 @@ fn next_pending(alloc: Global, index: usize, value: &Value) -> Result<Tx, Refusa
 
 /// The pending transactions.
 pub fn pending_from(alloc: Global, values: &[Value]) -> Result<Vec<Tx>, Refusal>
-    ensures { YieldsAll (Field Memory) (λ v. v.items) result (each_from pending_behind [] (items_view values.now)) }
+    ensures { Gives (λ v. v.items) result (each_from pending_behind [] (items_view values.now)) }
 {
     let mut pending = Vec::new(alloc);
     for value in values {

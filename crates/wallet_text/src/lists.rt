@@ -1,12 +1,10 @@
 //! The rules that are tested over whole lists: no txid twice, and parents first.
 
 ghost use Rattle.std.specs.Prelude.{◌≡◌, [], if◌then◌else◌, IfErr, IfOk, OnOk};
-ghost use Rattle.fund_base.specs.Parsing.{YieldsAll};
-ghost use Rattle.json_fields.specs.declared.fault.FieldFault.TheVariants.{Memory as NoMemory};
 ghost use Rattle.wallet_text.specs.Repeats.{IsRepeat};
+ghost use Rattle.wallet_text.specs.Told.{Gives};
 ghost use Rattle.wallet_text.specs.WalletRules.{AreDistinctEarlier};
 ghost use Rattle.wallet_text.specs.WalletText.{told_index, txids_of, earlier_txids, repeat_from, spends_one_of, later_from, lists_at};
-ghost use Rattle.wallet_text.specs.declared.fault.Refusal.TheVariants.{Field};
 
 use crate::entries::told_index;
 use crate::fault::{Refusal, WalletFault};
@@ -89,7 +87,7 @@ fn first_later(alloc: Global, pending: &[Tx], txids: &[Txid]) -> Result<Option<u
 /// `pending`, a pending transaction before its parent.
 #[tactic(auto, unfolding(crate::specs::WalletText::lists_at))]
 pub fn judge_lists(alloc: Global, earlier: &[Earlier], pending: &[Tx]) -> Result<(), Refusal>
-    ensures { YieldsAll (Field NoMemory) (λ _. tt) result (lists_at earlier.now pending.now) }
+    ensures { Gives (λ _. tt) result (lists_at earlier.now pending.now) }
 {
     if let Some(index) = first_repeat(alloc, &earlier_txids(alloc, earlier)?)? {
         return Err(Refusal::repeat(alloc, "earlier", told_index(index)));

@@ -6,10 +6,9 @@ ghost use Rattle.json_fields.specs.Fields.{optional};
 ghost use Rattle.json_fields.specs.declared.fault.FieldFault.TheVariants.{Memory};
 ghost use Rattle.serde_json.specs.Find.{get};
 ghost use Rattle.serde_json.specs.View.{view};
-ghost use Rattle.wallet_text.specs.Told.{Reads, HasReason};
+ghost use Rattle.wallet_text.specs.Told.{Gives, HasReason, Reads};
 ghost use Rattle.wallet_text.specs.WalletRules.{IsWallet};
 ghost use Rattle.wallet_text.specs.WalletText.{scripts_at, earlier_list_at, pending_list_at, abandoned_list_at, locked_list_at, wallet_at, wallet_of};
-ghost use Rattle.wallet_text.specs.declared.fault.Refusal.TheVariants.{Field};
 
 use crate::entries::{
     abandoned_from, change_of, earlier_from, locked_from, pending_from, scripts_from,
@@ -28,14 +27,14 @@ const MOST_HEIGHT: u64 = 100_000_000;
 
 #[tactic(auto, unfolding(crate::specs::WalletText::scripts_at))]
 fn scripts_of(alloc: Global, value: &Value) -> Result<Vec<Watch>, Refusal>
-    ensures { YieldsAll (Field Memory) (λ v. v.items) result (scripts_at (view value.now)) }
+    ensures { Gives (λ v. v.items) result (scripts_at (view value.now)) }
 {
     scripts_from(alloc, entries_of(alloc, value, "scripts")?)
 }
 
 #[tactic(auto, unfolding(crate::specs::WalletText::earlier_list_at))]
 fn earlier_of(alloc: Global, most: u32, value: &Value) -> Result<Vec<Earlier>, Refusal>
-    ensures { YieldsAll (Field Memory) (λ v. v.items) result (optional [] (earlier_list_at most) (get (codes "earlier") (view value.now))) }
+    ensures { Gives (λ v. v.items) result (optional [] (earlier_list_at most) (get (codes "earlier") (view value.now))) }
 {
     match value.get("earlier") {
         Some(list) => earlier_from(alloc, most, entries_of(alloc, list, "earlier")?),
@@ -45,7 +44,7 @@ fn earlier_of(alloc: Global, most: u32, value: &Value) -> Result<Vec<Earlier>, R
 
 #[tactic(auto, unfolding(crate::specs::WalletText::pending_list_at))]
 fn pending_of(alloc: Global, value: &Value) -> Result<Vec<Tx>, Refusal>
-    ensures { YieldsAll (Field Memory) (λ v. v.items) result (optional [] pending_list_at (get (codes "pending") (view value.now))) }
+    ensures { Gives (λ v. v.items) result (optional [] pending_list_at (get (codes "pending") (view value.now))) }
 {
     match value.get("pending") {
         Some(list) => pending_from(alloc, entries_of(alloc, list, "pending")?),
@@ -75,7 +74,7 @@ fn locked_of(alloc: Global, value: &Value) -> Result<Vec<OutPoint>, FieldFault>
 
 #[tactic(auto, unfolding(crate::specs::WalletText::wallet_at))]
 fn wallet_of(alloc: Global, value: &Value) -> Result<Wallet, Refusal>
-    ensures { YieldsAll (Field Memory) (λ w. w) result (wallet_at (view value.now)) }
+    ensures { Gives (λ w. w) result (wallet_at (view value.now)) }
 {
     let required = ["height", "hash", "scripts", "change"];
     let known = [
@@ -118,7 +117,7 @@ fn wallet_of(alloc: Global, value: &Value) -> Result<Wallet, Refusal>
 /// The wallet that the bytes of a file are.
 #[tactic(auto, unfolding(crate::specs::WalletText::wallet_of))]
 fn read(alloc: Global, bytes: &[u8]) -> Result<Wallet, Refusal>
-    ensures { YieldsAll (Field Memory) (λ w. w) result (wallet_of bytes.now) }
+    ensures { Gives (λ w. w) result (wallet_of bytes.now) }
 {
     let value = parse(alloc, bytes)?;
     wallet_of(alloc, &value)

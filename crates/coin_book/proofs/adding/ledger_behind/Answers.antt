@@ -1,7 +1,7 @@
 use Rattle.std.proofs.Common.{◌≡◌, ◌∙◌, ◌++◌, ◌∷◌, [], ◌+◌, sym, ap, subst, refl, None, List, map, take, drop, arith}
 use Rattle.coin_book.specs.Faults.{fault_behind}
 use Rattle.coin_book.specs.History.{Confirmed, confirmed_at}
-use Rattle.coin_book.specs.Kept.{HoldsChain, points_in, weigher}
+use Rattle.coin_book.specs.Invariant.{HoldsChain, points_in, weigher}
 use Rattle.coin_book.proofs.ChainSteps.{all_of, fault_early, fault_on, next_of, none_behind, ap_all, place_of}
 use Rattle.coin_book.proofs.adding.ledger_behind.Goals as goal
 

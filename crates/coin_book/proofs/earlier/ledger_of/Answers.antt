@@ -1,7 +1,7 @@
 use Rattle.std.proofs.Common.{◌≡◌, ◌∙◌, ◌++◌, ◌∷◌, [], ◌+◌, sym, ap, subst, refl, None, List, map, take, drop, length, arith}
 use Rattle.coin_book.specs.Faults.{fault_behind}
 use Rattle.coin_book.specs.History.{Confirmed, confirmed_before}
-use Rattle.coin_book.specs.Kept.{HoldsChain, points_in, weigher}
+use Rattle.coin_book.specs.Invariant.{HoldsChain, points_in, weigher}
 use Rattle.coin_book.proofs.ChainSteps.{all_of, next_of, no_chain, place_of, fault_early, fault_on}
 use Rattle.coin_book.proofs.earlier.ledger_of.Goals as goal
 

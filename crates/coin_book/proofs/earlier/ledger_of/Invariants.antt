@@ -1,7 +1,7 @@
 use Rattle.std.proofs.Common.{◌≡◌, [], None, map, take}
 use Rattle.coin_book.specs.Faults.{fault_behind}
 use Rattle.coin_book.specs.History.{confirmed_before}
-use Rattle.coin_book.specs.Kept.{HoldsChain, points_in, weigher}
+use Rattle.coin_book.specs.Invariant.{HoldsChain, points_in, weigher}
 use Rattle.coin_book.proofs.earlier.ledger_of.Given as goal
 
 abbrev pub invariant-loop-index : goal.invariant-loop-index

@@ -1,6 +1,6 @@
 use Rattle.std.proofs.Common.{◌≡◌, ℕ, List, take}
 use Rattle.coin_book.specs.Coins.{weight_for}
-use Rattle.coin_book.specs.Kept.{weigher}
+use Rattle.coin_book.specs.Invariant.{weigher}
 use Rattle.coin_book.proofs.earlier.weights_of.Given as goal
 
 abbrev pub invariant-loop-watch : goal.invariant-loop-watch

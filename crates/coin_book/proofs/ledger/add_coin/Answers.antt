@@ -5,7 +5,7 @@ use Rattle.indexmap.proofs.CallerLemmas.{insert_entry-new}
 use Rattle.fund_base.specs.Outpoints.{same_outpoint}
 use Rattle.fund_base.specs.declared.outpoint.OutPoint.{OutPoint}
 use Rattle.coin_book.specs.declared.fault.BookFault.TheVariants.{Full, RepeatCoin}
-use Rattle.coin_book.specs.Steps.{held_point}
+use Rattle.coin_book.specs.Merging.{held_point}
 use Rattle.coin_book.proofs.MapSteps.{absent, fault_two}
 use Rattle.coin_book.proofs.ledger.add_coin.Goals as goal
 

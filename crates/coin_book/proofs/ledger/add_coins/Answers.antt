@@ -5,7 +5,7 @@ use Rattle.coin_book.specs.declared.held.Held.{Held}
 use Rattle.std.proofs.lemmas.List.{append-nil, map-append}
 use Rattle.coin_book.specs.Faults.{fault_behind}
 use Rattle.std.specs.Vec.Iter.{into_iter_items}
-use Rattle.coin_book.specs.Steps.{held_point}
+use Rattle.coin_book.specs.Merging.{held_point}
 use Rattle.coin_book.proofs.MapSteps.{whole_more, fault_among, added_more, fault_next}
 use Rattle.coin_book.proofs.ledger.add_coins.Goals as goal
 

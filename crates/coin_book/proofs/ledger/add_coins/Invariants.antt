@@ -2,7 +2,7 @@ use Rattle.std.proofs.Common.{◌≡◌, ◌++◌, map, None}
 use Rattle.std.specs.Map.{keys_of}
 use Rattle.std.specs.Vec.Iter.{into_iter_items}
 use Rattle.coin_book.specs.Faults.{fault_behind}
-use Rattle.coin_book.specs.Steps.{entry_of, held_point}
+use Rattle.coin_book.specs.Merging.{entry_of, held_point}
 use Rattle.coin_book.proofs.ledger.add_coins.Given as goal
 
 abbrev pub invariant-loop-one : goal.invariant-loop-one

@@ -2,7 +2,7 @@ use Rattle.std.proofs.Common.{◌∙◌, ap, [], ◌∷◌, ◌++◌, cond, List
 use Rattle.fund_base.specs.Outpoints.{same_outpoint}
 use Rattle.fund_base.specs.declared.outpoint.OutPoint.{OutPoint}
 use Rattle.fund_base.proofs.OutpointLaws.{same_outpoint-Decides}
-use Rattle.coin_book.specs.Steps.{spends_in}
+use Rattle.coin_book.specs.Merging.{spends_in}
 use Rattle.coin_book.specs.declared.coin.Spend.{Spend}
 use Rattle.coin_book.proofs.MapSteps.{put_back}
 use Rattle.coin_book.proofs.ledger.add_spend.Goals as goal

@@ -1,7 +1,7 @@
 use Rattle.std.proofs.Common.{◌∙◌, ap, cond, List}
 use Rattle.std.specs.Map.{lookup}
 use Rattle.fund_base.specs.Outpoints.{same_outpoint}
-use Rattle.coin_book.specs.Steps.{spends_in}
+use Rattle.coin_book.specs.Merging.{spends_in}
 use Rattle.coin_book.specs.declared.coin.Spend.{Spend}
 use Rattle.coin_book.proofs.MapSteps.{items_of, put}
 use Rattle.coin_book.proofs.ledger.take_list.Goals as goal

@@ -2,7 +2,7 @@ use Rattle.std.proofs.Common.{◌≡◌, ◌∙◌, ◌++◌, sym, ap, Vec, Glob
 use Rattle.std.specs.Option.{option_to_list}
 use Rattle.std.proofs.lemmas.List.{append-nil}
 use Rattle.coin_book.specs.Coins.{coin_at, coins_below}
-use Rattle.coin_book.specs.Kept.{weigher}
+use Rattle.coin_book.specs.Invariant.{weigher}
 use Rattle.coin_book.specs.declared.coin.Coin.{Coin}
 use Rattle.coin_book.proofs.CoinSteps.{below_more}
 use Rattle.coin_book.proofs.making.coins_in.Goals as goal

@@ -1,6 +1,6 @@
 use Rattle.std.proofs.Common.{◌≡◌, map}
 use Rattle.coin_book.specs.Coins.{Made, coin_at, coins_below}
-use Rattle.coin_book.specs.Kept.{weigher}
+use Rattle.coin_book.specs.Invariant.{weigher}
 use Rattle.coin_book.proofs.making.coins_in.Given as goal
 
 abbrev pub invariant-loop-index : goal.invariant-loop-index

@@ -1,5 +1,5 @@
 use Rattle.std.proofs.Common.{◌≡◌, map}
-use Rattle.coin_book.specs.Kept.{held_made}
+use Rattle.coin_book.specs.Invariant.{held_made}
 use Rattle.coin_book.specs.declared.coin.Coin.{Coin}
 use Rattle.coin_book.proofs.making.held_by.Given as goal
 

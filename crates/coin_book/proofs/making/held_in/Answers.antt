@@ -1,7 +1,7 @@
 use Rattle.std.proofs.Common.{◌∙◌, ap, length, map}
 use Rattle.tx_codec.specs.Transaction.{Transaction}
 use Rattle.coin_book.specs.Coins.{made_in}
-use Rattle.coin_book.specs.Kept.{weigher}
+use Rattle.coin_book.specs.Invariant.{weigher}
 use Rattle.coin_book.proofs.CoinSteps.{by_maker, with_maker}
 use Rattle.coin_book.proofs.making.held_in.Goals as goal
 

@@ -1,6 +1,6 @@
 use Rattle.std.proofs.Common.{◌∙◌, ap, sym, ◌++◌, [], cond, List}
 use Rattle.fund_base.specs.Outpoints.{same_outpoint}
-use Rattle.coin_book.specs.Steps.{spends_in}
+use Rattle.coin_book.specs.Merging.{spends_in}
 use Rattle.coin_book.specs.declared.coin.Spend.{Spend}
 use Rattle.coin_book.proofs.ListSteps.{on_ok, one_list}
 use Rattle.coin_book.proofs.merging.append_entry.Goals as goal

@@ -4,7 +4,7 @@ use Rattle.std.specs.Map.{lookup}
 use Rattle.fund_base.specs.Outpoints.{same_outpoint}
 use Rattle.fund_base.specs.declared.outpoint.OutPoint.{OutPoint}
 use Rattle.fund_base.proofs.OutpointLaws.{same_outpoint-Decides}
-use Rattle.coin_book.specs.Steps.{spends_in}
+use Rattle.coin_book.specs.Merging.{spends_in}
 use Rattle.coin_book.proofs.MapSteps.{items_of, new_list, put, same_list}
 use Rattle.coin_book.proofs.ListSteps.{on_err}
 use Rattle.coin_book.proofs.merging.append_list.Goals as goal

@@ -1,6 +1,6 @@
 use Rattle.std.proofs.Common.{◌≡◌, ◌∙◌, ◌+◌, ◌-◌, ap, sym, take, ◌++◌, arith}
 use Rattle.std.proofs.lemmas.List.{append-nil}
-use Rattle.coin_book.specs.Steps.{all_in, spends_in}
+use Rattle.coin_book.specs.Merging.{all_in, spends_in}
 use Rattle.coin_book.proofs.ListSteps.{cut_one}
 use Rattle.coin_book.proofs.merging.cut_lists.Goals as goal
 

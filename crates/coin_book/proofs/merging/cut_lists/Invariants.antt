@@ -1,6 +1,6 @@
 use Rattle.std.proofs.Common.{◌≡◌, ◌≤◌, ◌++◌, List, length, take}
 use Rattle.fund_base.specs.declared.outpoint.OutPoint.{OutPoint}
-use Rattle.coin_book.specs.Steps.{all_in, spends_in}
+use Rattle.coin_book.specs.Merging.{all_in, spends_in}
 use Rattle.coin_book.specs.declared.coin.Spend.{Spend}
 use Rattle.coin_book.proofs.merging.cut_lists.Given as goal
 

@@ -2,7 +2,7 @@ use Rattle.std.proofs.Common.{rules, ◌∙◌, ap, sym, cond, Bool, length, ari
 use Rattle.std.proofs.lemmas.Bool.{lt-ltb}
 use Rattle.indexmap.proofs.CallerLemmas.{filter-RetainsPairs}
 use Rattle.fund_base.specs.declared.outpoint.OutPoint.{OutPoint}
-use Rattle.coin_book.specs.Steps.{staying, stays}
+use Rattle.coin_book.specs.Merging.{staying, stays}
 use Rattle.coin_book.specs.declared.held.Held.{Held}
 use Rattle.coin_book.proofs.moving.settle.Goals as goal
 

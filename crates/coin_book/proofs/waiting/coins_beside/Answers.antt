@@ -1,7 +1,7 @@
 use Rattle.std.proofs.Common.{◌∙◌, ap, sym, ℕ, List}
 use Rattle.std.specs.Prelude.{bytes_eq, is_some}
 use Rattle.std.specs.Map.{keys_of, lookup}
-use Rattle.coin_book.specs.Kept.{weigher}
+use Rattle.coin_book.specs.Invariant.{weigher}
 use Rattle.coin_book.proofs.WaitSteps.{beside_fault, beside_made, beside_none}
 use Rattle.coin_book.proofs.waiting.coins_beside.Goals as goal
 

@@ -1,4 +1,4 @@
-use Rattle.psbt_codec.proofs.Final.{cut_off, begins_none, final}
+use Rattle.psbt_codec.proofs.FinalFaults.{cut_off, begins_none, final}
 use Rattle.psbt_codec.proofs.fault_laws.faults_are_final.Goals as goal
 
 pub returns-clause-part : goal.returns-clause-part

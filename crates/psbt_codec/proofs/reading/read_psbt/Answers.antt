@@ -1,4 +1,4 @@
-use Rattle.psbt_codec.proofs.Public.{all_found, all_only, all_without_magic, all_unmarked, all_trailing, all_followed, all_without_text}
+use Rattle.psbt_codec.proofs.PublicClauses.{all_found, all_only, all_without_magic, all_unmarked, all_trailing, all_followed, all_without_text}
 use Rattle.psbt_codec.proofs.reading.read_psbt.Goals as goal
 
 pub returns-clause-found : goal.returns-clause-found

@@ -1,7 +1,7 @@
 use Rattle.tx_codec.specs.Reading.{tx_at}
 use Rattle.tx_codec.specs.TransactionText.{IsTransaction}
 use Rattle.tx_codec.proofs.Laws.{tx_reads}
-use Rattle.tx_codec.proofs.Final.{tx_longer, cut_off_by, none_by, final_by}
+use Rattle.tx_codec.proofs.FinalFaults.{tx_longer, cut_off_by, none_by, final_by}
 use Rattle.tx_codec.proofs.fault_laws.faults_are_final.Goals as goal
 
 pub returns-clause-part : goal.returns-clause-part

@@ -1,7 +1,7 @@
 use Rattle.tx_codec.specs.Reading.{legacy_tx_at}
 use Rattle.tx_codec.specs.TransactionText.{IsLegacy}
 use Rattle.tx_codec.proofs.Laws.{legacy_tx_reads}
-use Rattle.tx_codec.proofs.Final.{legacy_tx_longer, cut_off_by, none_by, final_by}
+use Rattle.tx_codec.proofs.FinalFaults.{legacy_tx_longer, cut_off_by, none_by, final_by}
 use Rattle.tx_codec.proofs.fault_laws.legacy_faults_are_final.Goals as goal
 
 pub returns-clause-part : goal.returns-clause-part

@@ -3,7 +3,7 @@ use Rattle.tx_codec.specs.declared.fault.TxFault.TheVariants.{Memory}
 use Rattle.tx_codec.specs.Reading.{tx_at}
 use Rattle.tx_codec.specs.TransactionText.{text_of, IsTransaction}
 use Rattle.tx_codec.proofs.Laws.{tx_reads}
-use Rattle.tx_codec.proofs.Public.{only_memory}
+use Rattle.tx_codec.proofs.PublicClauses.{only_memory}
 use Rattle.tx_codec.proofs.OwnFaults.{tx_untrailed, yields_untrailed}
 use Rattle.tx_codec.proofs.reading.read_tx.Goals as goal
 

@@ -3,7 +3,7 @@ use Rattle.tx_codec.specs.declared.fault.TxFault.TheVariants.{Trailing, Memory}
 use Rattle.tx_codec.specs.Reading.{legacy_tx_at}
 use Rattle.tx_codec.specs.TransactionText.{text_of, IsLegacy}
 use Rattle.tx_codec.proofs.Laws.{legacy_tx_reads}
-use Rattle.tx_codec.proofs.Public.{only_memory, all_trailing, all_followed}
+use Rattle.tx_codec.proofs.PublicClauses.{only_memory, all_trailing, all_followed}
 use Rattle.tx_codec.proofs.OwnFaults.{legacy_tx_untrailed}
 use Rattle.tx_codec.proofs.reading.read_whole_legacy_tx.Goals as goal
 

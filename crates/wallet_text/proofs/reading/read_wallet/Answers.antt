@@ -1,7 +1,7 @@
 use Rattle.std.proofs.Common.{◌≡◌, ◌∙◌, Err, sym, ap}
 use Rattle.tx_codec.specs.declared.fault.TxFault.TheVariants.{Memory}
 use Rattle.wallet_text.specs.declared.fault.Refusal.TheVariants.{Tx}
-use Rattle.wallet_text.proofs.Inner.{file_has}
+use Rattle.wallet_text.proofs.NestedFaults.{file_has}
 use Rattle.wallet_text.proofs.reading.read_wallet.Goals as goal
 
 pub returns-in-Err-clause-inner : goal.returns-in-Err-clause-inner

@@ -4,7 +4,7 @@ use Rattle.std.specs.declared.snapshot.Snapshot.{Snapshot}
 use Rattle.block_feed.specs.Block.{ChainBlock}
 use Rattle.coin_book.specs.Faults.{fault_behind, fault_of}
 use Rattle.coin_book.specs.History.{Confirmed, History, confirmed_at, confirmed_in, with_block}
-use Rattle.coin_book.specs.Kept.{IsKept, history_of, points_in, weigher}
+use Rattle.coin_book.specs.Invariant.{IsKept, history_of, points_in, weigher}
 use Rattle.coin_book.proofs.BlockSteps.{block_back, block_fault, block_full, block_kept, block_next, block_sound, kept_chain, one_block}
 use Rattle.coin_book.proofs.ListSteps.{on_err, only_err}
 use Rattle.coin_book.proofs.book.Book.add_block.Goals as goal

@@ -5,7 +5,7 @@ use Rattle.tx_codec.specs.Transaction.{Transaction}
 use Rattle.tx_codec.specs.Txid.{txid_of}
 use Rattle.coin_book.specs.Faults.{fault_of}
 use Rattle.coin_book.specs.History.{History, with_pending}
-use Rattle.coin_book.specs.Kept.{history_of}
+use Rattle.coin_book.specs.Invariant.{history_of}
 use Rattle.coin_book.proofs.MergeSteps.{told_ok}
 use Rattle.coin_book.proofs.PendingSteps.{one_waiting, pending_fault, pending_full, pending_kept, pending_sound}
 use Rattle.coin_book.proofs.book.Book.add_pending.Goals as goal

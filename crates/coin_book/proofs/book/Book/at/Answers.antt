@@ -2,7 +2,7 @@ use Rattle.std.proofs.Common.{◌∙◌, ◌-◌, ap, arith}
 use Rattle.std.specs.Prelude.{slice_get}
 use Rattle.coin_book.specs.Coins.{coins_of}
 use Rattle.coin_book.specs.History.{History}
-use Rattle.coin_book.proofs.Shown.{at_left, at_right, coins_in}
+use Rattle.coin_book.proofs.ShownCoins.{at_left, at_right, coins_in}
 use Rattle.coin_book.proofs.book.Book.at.Goals as goal
 
 pub returns-then-i-confirmed : goal.returns-then-i-confirmed

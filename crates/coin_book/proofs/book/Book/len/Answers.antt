@@ -2,7 +2,7 @@ use Rattle.std.proofs.Common.{◌∙◌, ap, sym, ◌+◌, length}
 use Rattle.coin_book.specs.Coins.{coins_of}
 use Rattle.coin_book.specs.Faults.{fault_of}
 use Rattle.coin_book.specs.History.{History}
-use Rattle.coin_book.proofs.Shown.{len_shown}
+use Rattle.coin_book.proofs.ShownCoins.{len_shown}
 use Rattle.coin_book.proofs.book.Book.len.Goals as goal
 
 pub returns-clause-count : goal.returns-clause-count

@@ -3,7 +3,7 @@ use Rattle.std.specs.Option.{option_or, option_copied}
 use Rattle.tx_codec.specs.Transaction.{Transaction}
 use Rattle.coin_book.specs.Coins.{parent_of}
 use Rattle.coin_book.specs.History.{History}
-use Rattle.coin_book.proofs.Shown.{maker_in, parent_shown}
+use Rattle.coin_book.proofs.ShownCoins.{maker_in, parent_shown}
 use Rattle.coin_book.proofs.book.Book.parent.Goals as goal
 
 pub returns-in-Some : goal.returns-in-Some

@@ -1,7 +1,7 @@
 use Rattle.std.proofs.Common.{◌∙◌, ap, sym, [], ◌++◌, List, cond, ◌∷◌}
 use Rattle.coin_book.specs.History.{confirmed_at}
-use Rattle.coin_book.specs.Kept.{is_known, weigher}
-use Rattle.coin_book.specs.Steps.{spends_in}
+use Rattle.coin_book.specs.Invariant.{is_known, weigher}
+use Rattle.coin_book.specs.Merging.{spends_in}
 use Rattle.coin_book.specs.Spends.{has_input}
 use Rattle.tx_codec.specs.Transaction.{Transaction}
 use Rattle.tx_codec.specs.declared.tx.TxIn.{TxIn}

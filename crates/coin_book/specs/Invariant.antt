@@ -12,7 +12,7 @@ use Rattle.wallet_text.specs.PlainWallet.{PlainWallet}
 use Rattle.coin_book.specs.Coins.{Made, made_by, made_in, pending_made, weight_for}
 use Rattle.coin_book.specs.Faults.{fault_of, points}
 use Rattle.coin_book.specs.History.{Confirmed, History, confirmed_before, confirmed_in}
-use Rattle.coin_book.specs.Steps.{spends_in}
+use Rattle.coin_book.specs.Merging.{spends_in}
 use Rattle.coin_book.specs.Spends.{height_of, spends_of}
 use Rattle.coin_book.specs.declared.coin.Coin.{Coin}
 use Rattle.coin_book.specs.declared.held.Held.{Held}

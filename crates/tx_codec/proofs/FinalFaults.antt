@@ -11,28 +11,14 @@ use Rattle.tx_codec.specs.declared.fault.TxFault.TheVariants.{Truncated, NoInput
 use Rattle.tx_codec.specs.declared.tx.TxIn.{TxIn}
 use Rattle.tx_codec.specs.declared.tx.TxOut.{TxOut}
 use Rattle.tx_codec.specs.Fault.{cut_fault}
-use Rattle.tx_codec.specs.Ending.{IsCut, BeginsNone, IsPart, IsCutOff}
+use Rattle.tx_codec.specs.Truncation.{IsCut, BeginsNone, IsPart, IsCutOff}
 use Rattle.tx_codec.specs.Reading.{cut, input_at, output_at, output_in, some_at, inputs_at, outputs_at, item_at, stack_at, stacks_at, legacy_at, witnessed_at, segregated_at, is_marked, tx_at, legacy_tx_at}
 use Rattle.tx_codec.specs.Transaction.{Transaction}
 use Rattle.tx_codec.specs.TransactionText.{text_of}
-use Rattle.tx_codec.proofs.Longer.{spot, longer, Carries, then, done, pick, refused, IsShort, take_longer, number_longer, count_longer, string_longer, many_longer}
+use Rattle.tx_codec.proofs.MoreBytes.{spot, longer, Carries, then, done, pick, refused, IsShort, reported, take_longer, number_longer, count_longer, string_longer, many_longer}
 
 told : {X : Type 0} (more : List ℕ) (read again : Result (X × At) CutFault) → Carries IsShort more read again → Carries IsCut more (cut read) (cut again)
-told {X = X} more (Ok x) again h = record {
-  ok = λ y e.
-      let same : x ≡ y = cc in
-      ap (λ (r : Result (X × At) CutFault). cut r) (h.ok x refl) ∙ ap (λ (z : X × At). Ok (z.0, longer more z.1)) same;
-  err = λ e is. absurd cc;
-}
-told {X = X} more (Err d) again h = record {
-  ok = λ y e. absurd cc;
-  err = λ e is.
-      let same : cut_fault d ≡ e = cc in
-      elim (h.err d refl) [
-        | inl short ↦ inl (record { place = short.place; is = sym same ∙ ap (λ (z : CutFault). cut_fault z) short.is })
-        | inr fails ↦ inr (ap (λ (r : Result (X × At) CutFault). cut r) fails ∙ ap (λ (z : TxFault). Err z) same)
-      ];
-}
+told more read again h = reported IsCut cut_fault more read again (λ place. record { place = place; is = refl }) h
 
 input_longer : (more : List ℕ) (at : At) → Carries IsCut more (input_at at) (input_at (longer more at))
 unfolding input_at

@@ -1,5 +1,5 @@
 -- Reading goes on as before where more bytes stand after the text, unless it missed some.
-use Rattle.std.proofs.Common.{◌≡◌, ℕ, zero, suc, ◌+◌, ◌≤◌, Bool, true, false, cond, ltb, List, [], ◌∷◌, ◌++◌, length, take, drop, Result, Ok, Err, refl, ap, subst, ◌∙◌, arith, inl, inr, length-append}
+use Rattle.std.proofs.Common.{◌≡◌, ℕ, zero, suc, ◌+◌, ◌≤◌, Bool, true, false, cond, ltb, List, [], ◌∷◌, ◌++◌, length, take, drop, Result, Ok, Err, refl, sym, ap, subst, ◌∙◌, arith, inl, inr, length-append}
 use Rattle.std.specs.Prelude.{◌⊎◌, slice_index}
 use Rattle.std.specs.Int.{Width, w16, w32, w64, byte_len, from_le_bytes}
 use Rattle.std.proofs.lemmas.Bool.{ltb-false, le-ltb}
@@ -7,7 +7,7 @@ use Rattle.std.proofs.lemmas.List.{take-append-le, drop-append-le, length-drop}
 use Rattle.fund_base.specs.declared.cursor.CutFault.{CutFault}
 use Rattle.fund_base.specs.declared.cursor.CutFault.TheVariants.{Truncated, LongCompact}
 use Rattle.fund_base.specs.Cursor.{At, after, take_at, number_at, wide_at, compact_at}
-use Rattle.fund_base.specs.Parsing.{◌>>=◌, string_at, many_from}
+use Rattle.fund_base.specs.Parsing.{◌>>=◌, fault_as, string_at, many_from}
 use Rattle.fund_base.proofs.Laws.{bind_is}
 
 abbrev pub spot : List ℕ → ℕ → At
@@ -82,6 +82,25 @@ moved n more at le = ap (λ (l : List ℕ). spot l (at.place + n)) (drop-append-
 -- a value that was read, and the place after it
 read_same : {X : Type 0} (more : List ℕ) (x y : X) (next new : At) → y ≡ x → new ≡ longer more next → Carries {X = X} {E = CutFault} IsShort more (Ok (x, next)) (Ok (y, new))
 read_same more x y next new same is = rw (same, is) (done IsShort more x next)
+
+-- the same where the fault is reported as one of another type
+pub reported : {X F : Type 0} (Cut : F → Type 0) (report : CutFault → F) (more : List ℕ) (read again : Result (X × At) CutFault) → ((place : ℕ) → Cut (report (Truncated place)))
+    → Carries IsShort more read again → Carries Cut more (fault_as report read) (fault_as report again)
+reported {X = X} Cut report more (Ok x) again missing h = record {
+  ok = λ y e.
+      let same : x ≡ y = cc in
+      ap (λ (r : Result (X × At) CutFault). fault_as report r) (h.ok x refl) ∙ ap (λ (z : X × At). Ok (z.0, longer more z.1)) same;
+  err = λ e is. absurd cc;
+}
+reported {X = X} {F = F} Cut report more (Err d) again missing h = record {
+  ok = λ y e. absurd cc;
+  err = λ e is.
+      let same : report d ≡ e = cc in
+      elim (h.err d refl) [
+        | inl short ↦ inl (subst (λ (z : F). Cut z) (sym (ap (λ (c : CutFault). report c) short.is) ∙ same) (missing short.place))
+        | inr fails ↦ inr (ap (λ (r : Result (X × At) CutFault). fault_as report r) fails ∙ ap (λ (z : F). Err z) same)
+      ];
+}
 
 pub take_longer : (n : ℕ) (more : List ℕ) (at : At) → Carries IsShort more (take_at n at) (take_at n (longer more at))
 take_longer n more at =

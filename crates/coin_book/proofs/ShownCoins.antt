@@ -13,7 +13,7 @@ use Rattle.tx_codec.specs.Transaction.{Transaction}
 use Rattle.coin_book.specs.Coins.{Made, coins_of, confirmed_made, made_of, parent_of, pending_made}
 use Rattle.coin_book.specs.Faults.{points}
 use Rattle.coin_book.specs.History.{History}
-use Rattle.coin_book.specs.Kept.{HoldsCoins, made_at}
+use Rattle.coin_book.specs.Invariant.{HoldsCoins, made_at}
 use Rattle.coin_book.specs.declared.coin.Coin.{Coin}
 use Rattle.coin_book.specs.declared.held.Held.{Held}
 

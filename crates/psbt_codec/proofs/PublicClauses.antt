@@ -12,7 +12,7 @@ use Rattle.psbt_codec.specs.declared.fault.PsbtFault.TheVariants.{Magic, Truncat
 use Rattle.psbt_codec.specs.PartialTransaction.{PartialTransaction}
 use Rattle.psbt_codec.specs.Psbt.{magic, IsReadable, IsFollowed}
 use Rattle.psbt_codec.specs.Reading.{start, psbt_at, read_of}
-use Rattle.psbt_codec.proofs.Inner.{is_outer, maps_inner}
+use Rattle.psbt_codec.proofs.NestedFaults.{is_outer, maps_inner}
 use Rattle.psbt_codec.proofs.Readable.{psbt_takes, psbt_again, read_takes, read_again}
 
 -- a fault is out of memory where it can't be another

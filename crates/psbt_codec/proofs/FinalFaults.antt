@@ -5,18 +5,18 @@ use Rattle.std.proofs.Math.Seq.{take-append-add}
 use Rattle.std.proofs.lemmas.Bool.{cases_Bool, both_ways, eqb-true, eqb-false, ne_eqb, ltb-true, ltb-false}
 use Rattle.std.proofs.lemmas.List.{nil_from_length, take-append-le, drop-append-le, length-take}
 use Rattle.std.proofs.lemmas.Slice.Eq.{bytes_eq-Decides}
-use Rattle.tx_codec.proofs.Final.{apart, no_more}
+use Rattle.tx_codec.proofs.FinalFaults.{apart, no_more}
 use Rattle.fund_base.specs.Cursor.{At, after}
 use Rattle.fund_base.specs.Parsing.{whole_of}
 use Rattle.fund_base.proofs.Laws.{guard_met, ok_is}
-use Rattle.tx_codec.proofs.Longer.{spot, longer, Carries, then}
+use Rattle.tx_codec.proofs.MoreBytes.{spot, longer, Carries, then}
 use Rattle.psbt_codec.specs.declared.fault.PsbtFault.{PsbtFault}
 use Rattle.psbt_codec.specs.declared.fault.PsbtFault.TheVariants.{Magic, Trailing}
-use Rattle.psbt_codec.specs.Ending.{IsTruncated, IsCut, IsPart, BeginsNone, IsCutOff}
+use Rattle.psbt_codec.specs.Truncation.{IsTruncated, IsCut, IsPart, BeginsNone, IsCutOff}
 use Rattle.psbt_codec.specs.PartialTransaction.{PartialTransaction}
 use Rattle.psbt_codec.specs.Psbt.{magic}
 use Rattle.psbt_codec.specs.Reading.{start, magic_at, psbt_at, read_of}
-use Rattle.psbt_codec.proofs.Longer.{maps_longer}
+use Rattle.psbt_codec.proofs.MoreBytes.{maps_longer}
 use Rattle.psbt_codec.proofs.Readable.{read_again}
 
 -- ---- the magic

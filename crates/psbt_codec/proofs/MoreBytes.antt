@@ -6,33 +6,19 @@ use Rattle.fund_base.specs.Cursor.{At}
 use Rattle.fund_base.specs.Parsing.{◌>>=◌}
 use Rattle.tx_codec.specs.declared.tx.TxIn.{TxIn}
 use Rattle.tx_codec.specs.declared.tx.TxOut.{TxOut}
-use Rattle.tx_codec.proofs.Longer.{longer, Carries, then, done, pick, refused, IsShort, take_longer, count_longer, string_longer}
+use Rattle.tx_codec.proofs.MoreBytes.{longer, Carries, then, done, pick, refused, IsShort, reported, take_longer, count_longer, string_longer}
 use Rattle.psbt_codec.specs.declared.fault.PsbtFault.{PsbtFault}
 use Rattle.psbt_codec.specs.declared.fault.PsbtFault.TheVariants.{RepeatKey, WrongParent}
 use Rattle.psbt_codec.specs.declared.pairs.Part.{Part}
 use Rattle.psbt_codec.specs.declared.pairs.Part.TheVariants.{Global, Input, Output}
 use Rattle.psbt_codec.specs.declared.psbt.Spent.{Spent}
-use Rattle.psbt_codec.specs.Ending.{IsTruncated}
+use Rattle.psbt_codec.specs.Truncation.{IsTruncated}
 use Rattle.psbt_codec.specs.Fault.{cut_fault}
 use Rattle.psbt_codec.specs.Psbt.{Pair}
 use Rattle.psbt_codec.specs.Reading.{cut, kind_in, value_fits, keyed_at, pair_at, ends_or, pairs_within, map_at, value_of, unsigned_of, global_at, input_at, each_at, next_input_at, next_output_at, maps_at}
 
 told : {X : Type 0} (more : List ℕ) (read again : Result (X × At) CutFault) → Carries IsShort more read again → Carries IsTruncated more (cut read) (cut again)
-told {X = X} more (Ok x) again h = record {
-  ok = λ y e.
-      let same : x ≡ y = cc in
-      ap (λ (r : Result (X × At) CutFault). cut r) (h.ok x refl) ∙ ap (λ (z : X × At). Ok (z.0, longer more z.1)) same;
-  err = λ e is. absurd cc;
-}
-told {X = X} more (Err d) again h = record {
-  ok = λ y e. absurd cc;
-  err = λ e is.
-      let same : cut_fault d ≡ e = cc in
-      elim (h.err d refl) [
-        | inl short ↦ inl (record { place = short.place; is = sym same ∙ ap (λ (z : CutFault). cut_fault z) short.is })
-        | inr fails ↦ inr (ap (λ (r : Result (X × At) CutFault). cut r) fails ∙ ap (λ (z : PsbtFault). Err z) same)
-      ];
-}
+told more read again h = reported IsTruncated cut_fault more read again (λ place. record { place = place; is = refl }) h
 
 -- a step that no bytes after it can change
 settled : {A X : Type 0} (more : List ℕ) (read : Result A PsbtFault) (f g : A → Result (X × At) PsbtFault) → ((x : A) → Carries IsTruncated more (f x) (g x)) → Carries IsTruncated more (read >>= f) (read >>= g)
