@@ -10,8 +10,8 @@ use Rattle.tx_codec.specs.declared.tx.TxIn.{TxIn}
 use Rattle.coin_book.specs.Spends.{has_input}
 use Rattle.payment_states.specs.Graph.{below}
 use Rattle.payment_states.specs.Least.{least_by}
-use Rattle.payment_states.specs.Steps.{place_if, replacer_by}
-use Rattle.payment_states.specs.World.{no_tx, shares}
+use Rattle.payment_states.specs.ByPlace.{place_if, replacer_by}
+use Rattle.payment_states.specs.PendingView.{no_tx, shares}
 use Rattle.payment_states.proofs.FirstSteps.{find_agree, find_any, find_more}
 
 -- the first place from p on whose transaction passes the test and spends the outpoint

@@ -17,16 +17,16 @@ use Rattle.coin_book.specs.History.{Confirmed, History}
 use Rattle.coin_book.specs.Spends.{IsSpendOf, has_input, height_of, spend_at}
 use Rattle.coin_book.specs.declared.coin.Spend.{Spend}
 use Rattle.coin_book.proofs.SpendSteps.{at_place, has_one, spends_by_one, told_at}
-use Rattle.payment_states.specs.Causes.{Conflicts, HasCause, HasNoConflict, HasNoReplacer, IsAlive, IsConfirmedAt, IsConflictedBy, IsGivenUp, IsKin, IsReplacedBy, Replaces, SpendAlike, Spends}
+use Rattle.payment_states.specs.Causes.{Conflicts, HasCause, HasNoConflict, HasNoReplacer, IsAlive, IsConfirmedAt, IsConflictedBy, IsAbandoned, IsKin, IsReplacedBy, Replaces, SpendAlike, Spends}
 use Rattle.payment_states.specs.Graph.{below, within}
-use Rattle.payment_states.specs.Payments.{clashes, conflict, first_of, given_up, is_alive, payment_at, payments_in, payments_of, replaced, replacer, state_at, txid_at, txid_in}
-use Rattle.payment_states.specs.World.{World, family, graph, is_listed, shares, tx_at, world_of}
+use Rattle.payment_states.specs.Payments.{conflicts_at, conflict, first_of, is_abandoned, is_alive, payment_at, payments_in, payments_of, replaced, replacer, state_at, txid_at, txid_in}
+use Rattle.payment_states.specs.PendingView.{PendingView, kin_of, graph, is_listed, shares, tx_at, view_of}
 use Rattle.payment_states.specs.declared.state.Payment.{Payment}
 use Rattle.payment_states.specs.declared.state.State.{State}
 use Rattle.payment_states.specs.declared.state.State.TheVariants as state
 use Rattle.payment_states.proofs.Below.{get_or-map_below}
 use Rattle.payment_states.proofs.FactSteps.{payments_count}
-use Rattle.payment_states.proofs.KinSteps.{count, family_has, family_only, find_filter, find_there, first_below, found_at, kin_stands, no_height, none_below, tested, tests, unconfirmed}
+use Rattle.payment_states.proofs.KinSteps.{count, kin_has, kin_only, find_filter, find_there, first_below, found_at, kin_stands, no_height, none_below, tested, tests, unconfirmed}
 use Rattle.payment_states.proofs.Paths.{any_has}
 
 -- ---- confirmed
@@ -75,10 +75,10 @@ alike_back a b h =
     any_has (λ (i : TxIn). has_input i.prev b.inputs) a.inputs h.1.1 (h.1.0, h.1.2, h.1.3)
     (ap (λ (o : OutPoint). has_input o b.inputs) h.1.4 ∙ has_one h.0 b.inputs h.2)
 
--- ---- one confirmed transaction that clashes
+-- ---- one confirmed transaction with a conflict
 
-clash_told : (chain : List Confirmed) (t : Transaction) (place : ℕ) → clashes chain t place ≡ true → (o : OutPoint) × (s : Spend) × Spends o t × IsSpendOf chain o s × (s.place ≡ place)
-clash_told chain t place e = by (spend_at chain f.0.prev place) refl f.2
+conflicts_at_found : (chain : List Confirmed) (t : Transaction) (place : ℕ) → conflicts_at chain t place ≡ true → (o : OutPoint) × (s : Spend) × Spends o t × IsSpendOf chain o s × (s.place ≡ place)
+conflicts_at_found chain t place e = by (spend_at chain f.0.prev place) refl f.2
   where
     f : (x : TxIn) × Contains t.inputs x × (is_some (spend_at chain x.prev place) ≡ true)
     f = any_found (λ (x : TxIn). is_some (spend_at chain x.prev place)) t.inputs e
@@ -87,8 +87,8 @@ clash_told chain t place e = by (spend_at chain f.0.prev place) refl f.2
     by None is t = absurd (true≢false (sym t))
     by (Some s) is t = let a = at_place chain f.0.prev place s is in (f.0.prev, s, (f.1.0, f.0, f.1.1, f.1.2, refl), a.0, a.1)
 
-clash_back : (chain : List Confirmed) (t : Transaction) (o : OutPoint) (s : Spend) → Spends o t → IsSpendOf chain o s → clashes chain t s.place ≡ true
-clash_back chain t o s a h =
+conflicts_at_back : (chain : List Confirmed) (t : Transaction) (o : OutPoint) (s : Spend) → Spends o t → IsSpendOf chain o s → conflicts_at chain t s.place ≡ true
+conflicts_at_back chain t o s a h =
     any_has (λ (x : TxIn). is_some (spend_at chain x.prev s.place)) t.inputs a.1 (a.0, a.2, a.3)
     (ap (λ (p : OutPoint). is_some (spend_at chain p s.place)) a.4 ∙ ap (λ (r : Option Spend). is_some r) (told_at chain o s h))
 
@@ -108,28 +108,28 @@ is_no_value : {X : Type 0} (o : Option X) → is_none o ≡ true → o ≡ None
 is_no_value None e = refl
 is_no_value (Some x) e = absurd (true≢false (sym e))
 
-module _ (w : World) (apart : AreDistinct w.pending) (rule : ParentsComeFirst w.pending) where
+module _ (w : PendingView) (apart : AreDistinct w.pending) (rule : ParentsComeFirst w.pending) where
   -- ---- one of its kin passes a test
 
-  some_kin : (p : ℕ → Bool) (i : ℕ) → i < length w.pending → list_any p (family w i) ≡ true → (j : ℕ) × IsKin w i j × (p j ≡ true)
-  some_kin p i lt e = let f = any_found p (family w i) e in (f.0, family_only w apart rule i f.0 lt f.1, f.2)
+  some_kin : (p : ℕ → Bool) (i : ℕ) → i < length w.pending → list_any p (kin_of w i) ≡ true → (j : ℕ) × IsKin w i j × (p j ≡ true)
+  some_kin p i lt e = let f = any_found p (kin_of w i) e in (f.0, kin_only w apart rule i f.0 lt f.1, f.2)
 
-  kin_some : (p : ℕ → Bool) (i j : ℕ) → i < length w.pending → IsKin w i j → p j ≡ true → list_any p (family w i) ≡ true
-  kin_some p i j lt k e = any_has p (family w i) j (family_has w apart rule i j lt k) e
+  kin_some : (p : ℕ → Bool) (i j : ℕ) → i < length w.pending → IsKin w i j → p j ≡ true → list_any p (kin_of w i) ≡ true
+  kin_some p i j lt k e = any_has p (kin_of w i) j (kin_has w apart rule i j lt k) e
 
   -- ---- conflicted
 
   abbrev meets : ℕ → ℕ → Bool
-  meets i place = list_any (λ j. clashes w.chain (tx_at w j) place) (family w i)
+  meets i place = list_any (λ j. conflicts_at w.chain (tx_at w j) place) (kin_of w i)
 
   met : (i place : ℕ) → i < length w.pending → meets i place ≡ true → (s : Spend) × Conflicts w i s × (s.place ≡ place)
   met i place lt e =
-      let f = some_kin (λ j. clashes w.chain (tx_at w j) place) i lt e in
-      let c = clash_told w.chain (tx_at w f.0) place f.2 in
+      let f = some_kin (λ j. conflicts_at w.chain (tx_at w j) place) i lt e in
+      let c = conflicts_at_found w.chain (tx_at w f.0) place f.2 in
       (c.1, (f.0, c.0, f.1, c.2, c.3), c.4)
 
   meet : (i : ℕ) (s : Spend) → i < length w.pending → Conflicts w i s → meets i s.place ≡ true
-  meet i s lt c = kin_some (λ j. clashes w.chain (tx_at w j) s.place) i c.0 lt c.2 (clash_back w.chain (tx_at w c.0) c.1 s c.3 c.4)
+  meet i s lt c = kin_some (λ j. conflicts_at w.chain (tx_at w j) s.place) i c.0 lt c.2 (conflicts_at_back w.chain (tx_at w c.0) c.1 s c.3 c.4)
 
   in_chain : (i : ℕ) (s : Spend) → Conflicts w i s → s.place < length w.chain
   in_chain i s c = let h = c.4 in slice_get_within w.chain s.place h.by h.stands
@@ -193,43 +193,43 @@ module _ (w : World) (apart : AreDistinct w.pending) (rule : ParentsComeFirst w.
       at (inl h) = h.0
       at (inr h) = absurd (none h.2.0 h.2.1)
 
-  -- ---- given up
+  -- ---- abandoned
 
-  given : (i : ℕ) → i < length w.pending → given_up w i ≡ true → IsGivenUp w i
-  unfolding given_up
-  given i lt e =
+  abandoned : (i : ℕ) → i < length w.pending → is_abandoned w i ≡ true → IsAbandoned w i
+  unfolding is_abandoned
+  abandoned i lt e =
       let f = some_kin (λ j. is_listed w.abandoned (txid_of (tx_at w j))) i lt e in
       (f.0, f.1, listed w.abandoned (txid_of (tx_at w f.0)) f.2)
 
-  given_back : (i : ℕ) → i < length w.pending → IsGivenUp w i → given_up w i ≡ true
-  unfolding given_up
-  given_back i lt h = kin_some (λ j. is_listed w.abandoned (txid_of (tx_at w j))) i h.0 lt h.1 (listed_back w.abandoned (txid_of (tx_at w h.0)) h.2)
+  abandoned_back : (i : ℕ) → i < length w.pending → IsAbandoned w i → is_abandoned w i ≡ true
+  unfolding is_abandoned
+  abandoned_back i lt h = kin_some (λ j. is_listed w.abandoned (txid_of (tx_at w j))) i h.0 lt h.1 (listed_back w.abandoned (txid_of (tx_at w h.0)) h.2)
 
-  not_given : (i : ℕ) → i < length w.pending → (IsGivenUp w i → ⊥) → given_up w i ≡ false
-  not_given i lt none = false_from_ne_true (given_up w i) (λ e. none (given i lt e))
+  not_abandoned : (i : ℕ) → i < length w.pending → (IsAbandoned w i → ⊥) → is_abandoned w i ≡ false
+  not_abandoned i lt none = false_from_ne_true (is_abandoned w i) (λ e. none (abandoned i lt e))
 
-  kept : (i : ℕ) → i < length w.pending → given_up w i ≡ false → IsGivenUp w i → ⊥
-  kept i lt e h = true≢false (sym (given_back i lt h) ∙ e)
+  kept : (i : ℕ) → i < length w.pending → is_abandoned w i ≡ false → IsAbandoned w i → ⊥
+  kept i lt e h = true≢false (sym (abandoned_back i lt h) ∙ e)
 
   -- ---- alive
 
   alive : (i : ℕ) → i < length w.pending → is_alive w i ≡ true → IsAlive w i
   unfolding is_alive
   alive i lt e =
-      let a = and_parts (is_none (height_of w.chain (txid_of (tx_at w i)))) (is_none (conflict w i) && not (given_up w i)) e in
-      let b = and_parts (is_none (conflict w i)) (not (given_up w i)) a.1 in
+      let a = and_parts (is_none (height_of w.chain (txid_of (tx_at w i)))) (is_none (conflict w i) && not (is_abandoned w i)) e in
+      let b = and_parts (is_none (conflict w i)) (not (is_abandoned w i)) a.1 in
       record {
         unconfirmed = unconfirmed w.chain (txid_of (tx_at w i)) (is_no_value (height_of w.chain (txid_of (tx_at w i))) a.0);
         unconflicted = unconflicted i lt (ap (option_and_then (txid_in w.chain)) (is_no_value (conflict w i) b.0));
-        kept = kept i lt (not-true (given_up w i) b.1);
+        kept = kept i lt (not-true (is_abandoned w i) b.1);
       }
 
   alive_back : (i : ℕ) → i < length w.pending → IsAlive w i → is_alive w i ≡ true
   unfolding is_alive
   alive_back i lt h =
-      ap (λ (o : Option ℕ). is_none o && (is_none (conflict w i) && not (given_up w i))) (no_height w.chain (txid_of (tx_at w i)) h.unconfirmed)
-      ∙ ap (λ (o : Option ℕ). is_none o && not (given_up w i)) (no_conflict i lt h.unconflicted)
-      ∙ ap not (not_given i lt h.kept)
+      ap (λ (o : Option ℕ). is_none o && (is_none (conflict w i) && not (is_abandoned w i))) (no_height w.chain (txid_of (tx_at w i)) h.unconfirmed)
+      ∙ ap (λ (o : Option ℕ). is_none o && not (is_abandoned w i)) (no_conflict i lt h.unconflicted)
+      ∙ ap not (not_abandoned i lt h.kept)
 
   -- ---- replaced
 
@@ -280,7 +280,7 @@ module _ (w : World) (apart : AreDistinct w.pending) (rule : ParentsComeFirst w.
   -- there is none, or the first has its txid
   replaced_cases : (i : ℕ) → i < length w.pending → ((over_by i ≡ None) × HasNoReplacer w i) ⊎ ((by : List ℕ) × (over_by i ≡ Some by) × IsReplacedBy w i by)
   unfolding replaced
-  replaced_cases i lt = by (find (λ j. is_some (replacer w j)) (family w i)) (sym (find_filter (within (graph w) (length (graph w)) i) (λ j. is_some (replacer w j)) (below (length (graph w)))))
+  replaced_cases i lt = by (find (λ j. is_some (replacer w j)) (kin_of w i)) (sym (find_filter (within (graph w) (length (graph w)) i) (λ j. is_some (replacer w j)) (below (length (graph w)))))
     where
       n : length (graph w) ≡ length w.pending
       n = count w apart rule
@@ -346,12 +346,12 @@ module _ (w : World) (apart : AreDistinct w.pending) (rule : ParentsComeFirst w.
 
   pub cause_is : (i : ℕ) → i < length w.pending → HasCause w i (state_at w i)
   unfolding state_at
-  cause_is i lt = by (height_of w.chain (txid_of (tx_at w i))) (named i) (given_up w i) (over_by i) refl refl refl refl
+  cause_is i lt = by (height_of w.chain (txid_of (tx_at w i))) (named i) (is_abandoned w i) (over_by i) refl refl refl refl
     where
-      by : (h : Option ℕ) (c : Option (List ℕ)) (g : Bool) (r : Option (List ℕ)) → height_of w.chain (txid_of (tx_at w i)) ≡ h → named i ≡ c → given_up w i ≡ g → over_by i ≡ r → HasCause w i (first_of h c g r)
+      by : (h : Option ℕ) (c : Option (List ℕ)) (g : Bool) (r : Option (List ℕ)) → height_of w.chain (txid_of (tx_at w i)) ≡ h → named i ≡ c → is_abandoned w i ≡ g → over_by i ≡ r → HasCause w i (first_of h c g r)
       by (Some height) c g r a b d e = confirmed_there w.chain (txid_of (tx_at w i)) height a
       by None (Some t) g r a b d e = (unconfirmed w.chain (txid_of (tx_at w i)) a, conflict_there i t lt b)
-      by None None true r a b d e = (unconfirmed w.chain (txid_of (tx_at w i)) a, unconflicted i lt b, given i lt d)
+      by None None true r a b d e = (unconfirmed w.chain (txid_of (tx_at w i)) a, unconflicted i lt b, abandoned i lt d)
       by None None false (Some t) a b d e = (record { unconfirmed = unconfirmed w.chain (txid_of (tx_at w i)) a; unconflicted = unconflicted i lt b; kept = kept i lt d }, replaced_there i t lt e)
       by None None false None a b d e = (record { unconfirmed = unconfirmed w.chain (txid_of (tx_at w i)) a; unconflicted = unconflicted i lt b; kept = kept i lt d }, unreplaced i lt e)
 
@@ -361,35 +361,35 @@ module _ (w : World) (apart : AreDistinct w.pending) (rule : ParentsComeFirst w.
 
   pub is_cause : (i : ℕ) (s : State) → i < length w.pending → HasCause w i s → state_at w i ≡ s
   unfolding state_at
-  is_cause i (state.Confirmed height) lt h = ap (λ (a : Option ℕ). first_of a (named i) (given_up w i) (over_by i)) (confirmed_back w.chain (txid_of (tx_at w i)) height h)
+  is_cause i (state.Confirmed height) lt h = ap (λ (a : Option ℕ). first_of a (named i) (is_abandoned w i) (over_by i)) (confirmed_back w.chain (txid_of (tx_at w i)) height h)
   is_cause i (state.Conflicted by) lt h =
-      ap (λ (a : Option ℕ). first_of a (named i) (given_up w i) (over_by i)) (no_height w.chain (txid_of (tx_at w i)) h.0)
-      ∙ ap (λ (a : Option (List ℕ)). first_of None a (given_up w i) (over_by i)) (conflict_back i by lt h.1)
+      ap (λ (a : Option ℕ). first_of a (named i) (is_abandoned w i) (over_by i)) (no_height w.chain (txid_of (tx_at w i)) h.0)
+      ∙ ap (λ (a : Option (List ℕ)). first_of None a (is_abandoned w i) (over_by i)) (conflict_back i by lt h.1)
   is_cause i state.Abandoned lt h =
-      ap (λ (a : Option ℕ). first_of a (named i) (given_up w i) (over_by i)) (no_height w.chain (txid_of (tx_at w i)) h.0)
-      ∙ ap (λ (a : Option (List ℕ)). first_of None a (given_up w i) (over_by i)) (unnamed i lt h.1)
-      ∙ ap (λ (a : Bool). first_of None None a (over_by i)) (given_back i lt h.2)
+      ap (λ (a : Option ℕ). first_of a (named i) (is_abandoned w i) (over_by i)) (no_height w.chain (txid_of (tx_at w i)) h.0)
+      ∙ ap (λ (a : Option (List ℕ)). first_of None a (is_abandoned w i) (over_by i)) (unnamed i lt h.1)
+      ∙ ap (λ (a : Bool). first_of None None a (over_by i)) (abandoned_back i lt h.2)
   is_cause i (state.Replaced by) lt h = lives i lt h.0 ∙ ap (λ (a : Option (List ℕ)). first_of None None false a) (replaced_back i by lt h.1)
     where
-      lives : (i : ℕ) → i < length w.pending → IsAlive w i → first_of (height_of w.chain (txid_of (tx_at w i))) (named i) (given_up w i) (over_by i) ≡ first_of None None false (over_by i)
+      lives : (i : ℕ) → i < length w.pending → IsAlive w i → first_of (height_of w.chain (txid_of (tx_at w i))) (named i) (is_abandoned w i) (over_by i) ≡ first_of None None false (over_by i)
       lives i lt a =
-          ap (λ (b : Option ℕ). first_of b (named i) (given_up w i) (over_by i)) (no_height w.chain (txid_of (tx_at w i)) a.unconfirmed)
-          ∙ ap (λ (b : Option (List ℕ)). first_of None b (given_up w i) (over_by i)) (unnamed i lt a.unconflicted)
-          ∙ ap (λ (b : Bool). first_of None None b (over_by i)) (not_given i lt a.kept)
+          ap (λ (b : Option ℕ). first_of b (named i) (is_abandoned w i) (over_by i)) (no_height w.chain (txid_of (tx_at w i)) a.unconfirmed)
+          ∙ ap (λ (b : Option (List ℕ)). first_of None b (is_abandoned w i) (over_by i)) (unnamed i lt a.unconflicted)
+          ∙ ap (λ (b : Bool). first_of None None b (over_by i)) (not_abandoned i lt a.kept)
   is_cause i state.Pending lt h =
-      ap (λ (b : Option ℕ). first_of b (named i) (given_up w i) (over_by i)) (no_height w.chain (txid_of (tx_at w i)) h.0.unconfirmed)
-      ∙ ap (λ (b : Option (List ℕ)). first_of None b (given_up w i) (over_by i)) (unnamed i lt h.0.unconflicted)
-      ∙ ap (λ (b : Bool). first_of None None b (over_by i)) (not_given i lt h.0.kept)
+      ap (λ (b : Option ℕ). first_of b (named i) (is_abandoned w i) (over_by i)) (no_height w.chain (txid_of (tx_at w i)) h.0.unconfirmed)
+      ∙ ap (λ (b : Option (List ℕ)). first_of None b (is_abandoned w i) (over_by i)) (unnamed i lt h.0.unconflicted)
+      ∙ ap (λ (b : Bool). first_of None None b (over_by i)) (not_abandoned i lt h.0.kept)
       ∙ ap (λ (b : Option (List ℕ)). first_of None None false b) (not_replaced i lt h.1)
 
 -- ---- the payments
 
 pub payments_long : (w : PlainWallet) (h : History) → length (payments_of w h) ≡ length w.pending
 unfolding payments_of
-payments_long w h = payments_count (world_of w h)
+payments_long w h = payments_count (view_of w h)
 
 -- the one at a place
-payment_there : (w : World) (i : ℕ) → i < length w.pending → slice_get (payments_in w) i ≡ Some (payment_at w i)
+payment_there : (w : PendingView) (i : ℕ) → i < length w.pending → slice_get (payments_in w) i ≡ Some (payment_at w i)
 payment_there w i lt =
     let n = payments_count w in
     slice_get-get_or (payments_in w) i (payment_at w i) (omega arith) ∙ ap (λ (p : Payment). Some p) (get_or-map_below (payment_at w) (length w.pending) i (payment_at w i) lt)
@@ -398,14 +398,14 @@ abbrev told : List ℕ → State → Payment
 told txid s = record { txid = txid; state = s }
 
 pub payment_is : (w : PlainWallet) (h : History) (i : ℕ) (s : State) → AreDistinct w.pending → ParentsComeFirst w.pending → i < length w.pending
-    → (slice_get (payments_of w h) i ≡ Some (told (txid_of (tx_at (world_of w h) i)) s)) ↔ HasCause (world_of w h) i s
+    → (slice_get (payments_of w h) i ≡ Some (told (txid_of (tx_at (view_of w h) i)) s)) ↔ HasCause (view_of w h) i s
 unfolding payments_of
 payment_is w h i s apart rule lt = (there, back)
   where
-    there : slice_get (payments_in (world_of w h)) i ≡ Some (told (txid_of (tx_at (world_of w h) i)) s) → HasCause (world_of w h) i s
+    there : slice_get (payments_in (view_of w h)) i ≡ Some (told (txid_of (tx_at (view_of w h) i)) s) → HasCause (view_of w h) i s
     there e =
-        let same = same_Some (payment_at (world_of w h) i) (told (txid_of (tx_at (world_of w h) i)) s) (sym (payment_there (world_of w h) i lt) ∙ e) in
-        subst (HasCause (world_of w h) i) (ap (λ (p : Payment). p.state) same) (cause_is (world_of w h) apart rule i lt)
+        let same = same_Some (payment_at (view_of w h) i) (told (txid_of (tx_at (view_of w h) i)) s) (sym (payment_there (view_of w h) i lt) ∙ e) in
+        subst (HasCause (view_of w h) i) (ap (λ (p : Payment). p.state) same) (cause_is (view_of w h) apart rule i lt)
 
-    back : HasCause (world_of w h) i s → slice_get (payments_in (world_of w h)) i ≡ Some (told (txid_of (tx_at (world_of w h) i)) s)
-    back c = payment_there (world_of w h) i lt ∙ ap (λ (t : State). Some (told (txid_of (tx_at (world_of w h) i)) t)) (is_cause (world_of w h) apart rule i s lt c)
+    back : HasCause (view_of w h) i s → slice_get (payments_in (view_of w h)) i ≡ Some (told (txid_of (tx_at (view_of w h) i)) s)
+    back c = payment_there (view_of w h) i lt ∙ ap (λ (t : State). Some (told (txid_of (tx_at (view_of w h) i)) t)) (is_cause (view_of w h) apart rule i s lt c)

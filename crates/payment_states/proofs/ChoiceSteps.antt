@@ -14,8 +14,8 @@ use Rattle.coin_book.specs.declared.coin.Coin.{Coin}
 use Rattle.payment_states.specs.Candidates.{ancestors, candidate_at, candidate_of, candidates_of, comes_from_mine, descendants, is_candidate, is_claimed, is_deep, is_locked, is_pending, is_safe, is_spent}
 use Rattle.payment_states.specs.Graph.{below}
 use Rattle.payment_states.specs.Payments.{payments_in}
-use Rattle.payment_states.specs.Steps.{candidate_by, chosen_at, flag_at, place_among, standing_by}
-use Rattle.payment_states.specs.World.{World, no_tx, place_in, tx_at, world_of}
+use Rattle.payment_states.specs.ByPlace.{candidate_by, chosen_at, flag_at, place_among, standing_by}
+use Rattle.payment_states.specs.PendingView.{PendingView, no_tx, place_in, tx_at, view_of}
 use Rattle.payment_states.specs.declared.state.Payment.{Payment}
 use Rattle.payment_states.proofs.Below.{below_within, get_or-map_below}
 use Rattle.payment_states.proofs.FactSteps.{place_is}
@@ -43,25 +43,25 @@ filter_map_if {X = X} {Y = Y} p f (x ∷ xs) = by (p x) (filter_map_if p f xs)
 
 -- what is known of the pending list is right
 pub record Knows (w : PlainWallet) (h : History) (pending safe : List Bool) (up down : List ℕ) : Type 0 where
-  pub pending_is : pending ≡ map (is_pending (world_of w h)) (below (length w.pending))
-  pub safe_is : safe ≡ map (is_safe (world_of w h) (coins_of h)) (below (length w.pending))
-  pub up_is : (i : ℕ) → i < length w.pending → is_pending (world_of w h) i ≡ true → slice_index_or up i 0 ≡ ancestors (world_of w h) i
-  pub down_is : (i : ℕ) → slice_index_or down i 0 ≡ descendants (world_of w h) i
+  pub pending_is : pending ≡ map (is_pending (view_of w h)) (below (length w.pending))
+  pub safe_is : safe ≡ map (is_safe (view_of w h) (coins_of h)) (below (length w.pending))
+  pub up_is : (i : ℕ) → i < length w.pending → is_pending (view_of w h) i ≡ true → slice_index_or up i 0 ≡ ancestors (view_of w h) i
+  pub down_is : (i : ℕ) → slice_index_or down i 0 ≡ descendants (view_of w h) i
 
 module _ (w : PlainWallet) (h : History) (tip : ℕ) (pending safe : List Bool) (up down : List ℕ) (k : Knows w h pending safe up down) where
   -- a coin, by how it stands
   described_is : (c : Coin) (height place : Option ℕ) (rest : Bool) → ((i : ℕ) → place ≡ Some i → i < length w.pending)
       → cond ((is_some height || flag_at pending place) && rest) (Some (candidate_by h c (standing_by tip safe up down height place))) None
-      ≡ cond ((is_some height || option_map_or (is_pending (world_of w h)) place false) && rest) (Some (candidate_at w h tip c height place)) None
+      ≡ cond ((is_some height || option_map_or (is_pending (view_of w h)) place false) && rest) (Some (candidate_at w h tip c height place)) None
   described_is c (Some height) place rest within = refl
   described_is c None None rest within = refl
-  described_is c None (Some i) rest within = by (is_pending (world_of w h) i) refl
+  described_is c None (Some i) rest within = by (is_pending (view_of w h) i) refl
     where
-      flag : slice_index_or pending i false ≡ is_pending (world_of w h) i
-      flag = ap (λ (l : List Bool). slice_index_or l i false) k.pending_is ∙ get_or-map_below (is_pending (world_of w h)) (length w.pending) i false (within i refl)
+      flag : slice_index_or pending i false ≡ is_pending (view_of w h) i
+      flag = ap (λ (l : List Bool). slice_index_or l i false) k.pending_is ∙ get_or-map_below (is_pending (view_of w h)) (length w.pending) i false (within i refl)
 
-      safely : slice_index_or safe i false ≡ is_safe (world_of w h) (coins_of h) i
-      safely = ap (λ (l : List Bool). slice_index_or l i false) k.safe_is ∙ get_or-map_below (is_safe (world_of w h) (coins_of h)) (length w.pending) i false (within i refl)
+      safely : slice_index_or safe i false ≡ is_safe (view_of w h) (coins_of h) i
+      safely = ap (λ (l : List Bool). slice_index_or l i false) k.safe_is ∙ get_or-map_below (is_safe (view_of w h) (coins_of h)) (length w.pending) i false (within i refl)
 
       stood : Bool → Bool → ℕ → ℕ → Option Candidate
       stood b s a d = cond (b && rest) (Some (record {
@@ -80,21 +80,21 @@ module _ (w : PlainWallet) (h : History) (tip : ℕ) (pending safe : List Bool) 
       none true s t a d e f off = absurd (let x : true ≡ false = off in cc)
       none false s t a d e f off = refl
 
-      by : (b : Bool) → is_pending (world_of w h) i ≡ b
+      by : (b : Bool) → is_pending (view_of w h) i ≡ b
           → stood (slice_index_or pending i false) (slice_index_or safe i false) (slice_index_or up i 0) (slice_index_or down i 0)
-          ≡ stood (is_pending (world_of w h) i) (is_safe (world_of w h) (coins_of h) i) (ancestors (world_of w h) i) (descendants (world_of w h) i)
+          ≡ stood (is_pending (view_of w h) i) (is_safe (view_of w h) (coins_of h) i) (ancestors (view_of w h) i) (descendants (view_of w h) i)
       by true e = λ j. stood (flag j) (safely j) (k.up_is i (within i refl) e j) (k.down_is i j)
-      by false e = ap (λ b. stood b (slice_index_or safe i false) (slice_index_or up i 0) (slice_index_or down i 0)) flag ∙ none (is_pending (world_of w h) i) (slice_index_or safe i false) (is_safe (world_of w h) (coins_of h) i) (slice_index_or up i 0) (slice_index_or down i 0) (ancestors (world_of w h) i) (descendants (world_of w h) i) e
+      by false e = ap (λ b. stood b (slice_index_or safe i false) (slice_index_or up i 0) (slice_index_or down i 0)) flag ∙ none (is_pending (view_of w h) i) (slice_index_or safe i false) (is_safe (view_of w h) (coins_of h) i) (slice_index_or up i 0) (slice_index_or down i 0) (ancestors (view_of w h) i) (descendants (view_of w h) i) e
 
   -- the coin, if it may be spent
-  pub chosen_is : (claimed locked : OutPoint → Bool) (payments : List Payment) → payments ≡ payments_in (world_of w h) → ((o : OutPoint) → claimed o ≡ is_claimed (world_of w h) o) → ((o : OutPoint) → locked o ≡ is_locked w o)
+  pub chosen_is : (claimed locked : OutPoint → Bool) (payments : List Payment) → payments ≡ payments_in (view_of w h) → ((o : OutPoint) → claimed o ≡ is_claimed (view_of w h) o) → ((o : OutPoint) → locked o ≡ is_locked w o)
       → (c : Coin) → chosen_at h tip pending safe up down (claimed c.coin) (locked c.coin) c (place_among payments c.coin.txid) ≡ cond (is_candidate w h tip c) (Some (candidate_of w h tip c)) None
   unfolding is_candidate
   chosen_is claimed locked payments payments_are claimed_is locked_is c =
-      (λ j. chosen_at h tip pending safe up down (claimed_is c.coin j) (locked_is c.coin j) c ((ap (λ (ps : List Payment). place_among ps c.coin.txid) payments_are ∙ place_is (world_of w h) c.coin.txid) j))
-      ∙ described_is c c.height (place_in w.pending c.coin.txid) (not (is_spent h c.coin) && (not (is_claimed (world_of w h) c.coin) && (not (is_locked w c.coin) && is_deep tip c))) (λ i e. (found_place w.pending c.coin.txid i e).0)
+      (λ j. chosen_at h tip pending safe up down (claimed_is c.coin j) (locked_is c.coin j) c ((ap (λ (ps : List Payment). place_among ps c.coin.txid) payments_are ∙ place_is (view_of w h) c.coin.txid) j))
+      ∙ described_is c c.height (place_in w.pending c.coin.txid) (not (is_spent h c.coin) && (not (is_claimed (view_of w h) c.coin) && (not (is_locked w c.coin) && is_deep tip c))) (λ i e. (found_place w.pending c.coin.txid i e).0)
 
-  pub all_are : (claimed locked : OutPoint → Bool) (payments : List Payment) → payments ≡ payments_in (world_of w h) → ((o : OutPoint) → claimed o ≡ is_claimed (world_of w h) o) → ((o : OutPoint) → locked o ≡ is_locked w o)
+  pub all_are : (claimed locked : OutPoint → Bool) (payments : List Payment) → payments ≡ payments_in (view_of w h) → ((o : OutPoint) → claimed o ≡ is_claimed (view_of w h) o) → ((o : OutPoint) → locked o ≡ is_locked w o)
       → filter_map (λ (c : Coin). chosen_at h tip pending safe up down (claimed c.coin) (locked c.coin) c (place_among payments c.coin.txid)) (coins_of h) ≡ candidates_of w h tip
   unfolding candidates_of
   all_are claimed locked payments payments_are claimed_is locked_is =
@@ -103,7 +103,7 @@ module _ (w : PlainWallet) (h : History) (tip : ℕ) (pending safe : List Bool) 
       ∙ filter_map_if (is_candidate w h tip) (candidate_of w h tip) (coins_of h)
 
 -- what Pending transactions spend
-pub claimed_are : (w : World) (flags : List Bool) (o : OutPoint) → flags ≡ map (is_pending w) (below (length w.pending))
+pub claimed_are : (w : PendingView) (flags : List Bool) (o : OutPoint) → flags ≡ map (is_pending w) (below (length w.pending))
     → list_any (λ i. slice_index_or flags i false && has_input o (slice_index_or w.pending i no_tx).inputs) (below (length w.pending)) ≡ is_claimed w o
 claimed_are w flags o flags_are =
     any_agree (λ i. slice_index_or flags i false && has_input o (slice_index_or w.pending i no_tx).inputs) (λ i. is_pending w i && has_input o (tx_at w i).inputs) (below (length w.pending))

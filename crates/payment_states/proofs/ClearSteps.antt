@@ -19,10 +19,10 @@ use Rattle.coin_book.specs.Spends.{has_input, height_of, spend_at, spends_of}
 use Rattle.coin_book.specs.declared.coin.Spend.{Spend}
 use Rattle.payment_states.specs.Candidates.{is_pending, is_pending_state}
 use Rattle.payment_states.specs.Graph.{IsInOrder, below, kin, steps, within}
-use Rattle.payment_states.specs.Payments.{clashes, conflict, first_of, given_up, is_alive, replaced, replacer, state_at, txid_at, txid_in}
-use Rattle.payment_states.specs.World.{World, family, graph, is_listed, parents, shares, tx_at}
+use Rattle.payment_states.specs.Payments.{conflicts_at, conflict, first_of, is_abandoned, is_alive, replaced, replacer, state_at, txid_at, txid_in}
+use Rattle.payment_states.specs.PendingView.{PendingView, kin_of, graph, is_listed, parents, shares, tx_at}
 use Rattle.payment_states.proofs.Below.{get_or-below, length-below}
-use Rattle.payment_states.proofs.ClashSteps.{first_place_is}
+use Rattle.payment_states.proofs.ConflictSteps.{first_place_is}
 use Rattle.payment_states.proofs.FirstSteps.{find_below}
 use Rattle.payment_states.proofs.FitSteps.{some_find}
 use Rattle.payment_states.proofs.Order.{order_from_rule}
@@ -119,10 +119,10 @@ both_spend o xs ys a b =
 
 -- ---- a Pending payment
 
-pub record IsClear (w : World) (i : ℕ) : Type 0 where
+pub record IsClear (w : PendingView) (i : ℕ) : Type 0 where
   pub height : height_of w.chain (txid_of (tx_at w i)) ≡ None
   pub conflict : conflict w i ≡ None
-  pub given : given_up w i ≡ false
+  pub abandoned : is_abandoned w i ≡ false
   pub replaced : replaced w i ≡ None
 
 named : (chain : List Confirmed) (p : ℕ) → p < length chain → txid_in chain p ≢ None
@@ -132,70 +132,70 @@ named chain p lt = λ e. by (slice_get chain p) (inside chain p lt) e
     by None h e = true≢false (sym h)
     by (Some c) h e = none-some (txid_of c.tx) (sym e)
 
-placed : (w : World) (i : ℕ) → option_and_then (txid_in w.chain) (conflict w i) ≡ None → conflict w i ≡ None
+placed : (w : PendingView) (i : ℕ) → option_and_then (txid_in w.chain) (conflict w i) ≡ None → conflict w i ≡ None
 unfolding conflict
 placed w i e = by (conflict w i) refl e
   where
     by : (o : Option ℕ) → conflict w i ≡ o → option_and_then (txid_in w.chain) o ≡ None → o ≡ None
     by None h e = refl
-    by (Some p) h e = absurd (named w.chain p (find_below (λ place. list_any (λ j. clashes w.chain (tx_at w j) place) (family w i)) (length w.chain) p h) e)
+    by (Some p) h e = absurd (named w.chain p (find_below (λ place. list_any (λ j. conflicts_at w.chain (tx_at w j) place) (kin_of w i)) (length w.chain) p h) e)
 
-unnamed : (w : World) (o : Option ℕ) → option_map (txid_at w.pending) o ≡ None → o ≡ None
+unnamed : (w : PendingView) (o : Option ℕ) → option_map (txid_at w.pending) o ≡ None → o ≡ None
 unnamed w None e = refl
 unnamed w (Some k) e = absurd (none-some (txid_at w.pending k) (sym e))
 
-pub clear : (w : World) (i : ℕ) → is_pending w i ≡ true → IsClear w i
+pub clear : (w : PendingView) (i : ℕ) → is_pending w i ≡ true → IsClear w i
 unfolding state_at
-clear w i is = by (height_of w.chain (txid_of (tx_at w i))) (option_and_then (txid_in w.chain) (conflict w i)) (given_up w i) (option_map (txid_at w.pending) (replaced w i)) refl refl refl refl is
+clear w i is = by (height_of w.chain (txid_of (tx_at w i))) (option_and_then (txid_in w.chain) (conflict w i)) (is_abandoned w i) (option_map (txid_at w.pending) (replaced w i)) refl refl refl refl is
   where
-    by : (h : Option ℕ) (c : Option (List ℕ)) (g : Bool) (r : Option (List ℕ)) → height_of w.chain (txid_of (tx_at w i)) ≡ h → option_and_then (txid_in w.chain) (conflict w i) ≡ c → given_up w i ≡ g → option_map (txid_at w.pending) (replaced w i) ≡ r
+    by : (h : Option ℕ) (c : Option (List ℕ)) (g : Bool) (r : Option (List ℕ)) → height_of w.chain (txid_of (tx_at w i)) ≡ h → option_and_then (txid_in w.chain) (conflict w i) ≡ c → is_abandoned w i ≡ g → option_map (txid_at w.pending) (replaced w i) ≡ r
         → is_pending_state (first_of h c g r) ≡ true → IsClear w i
     by (Some x) c g r a b d e t = absurd (true≢false (sym t))
     by None (Some x) g r a b d e t = absurd (true≢false (sym t))
     by None None true r a b d e t = absurd (true≢false (sym t))
     by None None false (Some x) a b d e t = absurd (true≢false (sym t))
-    by None None false None a b d e t = record { height = a; conflict = placed w i b; given = d; replaced = unnamed w (replaced w i) e }
+    by None None false None a b d e t = record { height = a; conflict = placed w i b; abandoned = d; replaced = unnamed w (replaced w i) e }
 
-pub pending_is : (w : World) (i : ℕ) → IsClear w i → is_pending w i ≡ true
+pub pending_is : (w : PendingView) (i : ℕ) → IsClear w i → is_pending w i ≡ true
 unfolding state_at
 pending_is w i h =
-    ap (λ (a : Option ℕ). is_pending_state (first_of a (option_and_then (txid_in w.chain) (conflict w i)) (given_up w i) (option_map (txid_at w.pending) (replaced w i)))) h.height
-    ∙ ap (λ (a : Option ℕ). is_pending_state (first_of None (option_and_then (txid_in w.chain) a) (given_up w i) (option_map (txid_at w.pending) (replaced w i)))) h.conflict
-    ∙ ap (λ (a : Bool). is_pending_state (first_of None None a (option_map (txid_at w.pending) (replaced w i)))) h.given
+    ap (λ (a : Option ℕ). is_pending_state (first_of a (option_and_then (txid_in w.chain) (conflict w i)) (is_abandoned w i) (option_map (txid_at w.pending) (replaced w i)))) h.height
+    ∙ ap (λ (a : Option ℕ). is_pending_state (first_of None (option_and_then (txid_in w.chain) a) (is_abandoned w i) (option_map (txid_at w.pending) (replaced w i)))) h.conflict
+    ∙ ap (λ (a : Bool). is_pending_state (first_of None None a (option_map (txid_at w.pending) (replaced w i)))) h.abandoned
     ∙ ap (λ (a : Option ℕ). is_pending_state (first_of None None false (option_map (txid_at w.pending) a))) h.replaced
 
 -- no one of its kin has a replacer
-none_replaced : (w : World) (i : ℕ) → replaced w i ≡ None → list_any (λ j. is_some (replacer w j)) (family w i) ≡ false
+none_replaced : (w : PendingView) (i : ℕ) → replaced w i ≡ None → list_any (λ j. is_some (replacer w j)) (kin_of w i) ≡ false
 unfolding replaced
-none_replaced w i e = by (find (λ j. is_some (replacer w j)) (family w i)) refl e
+none_replaced w i e = by (find (λ j. is_some (replacer w j)) (kin_of w i)) refl e
   where
     has : (m : ℕ) (o : Option ℕ) → is_some o ≡ true → o ≡ None → ⊥
     has m None t e = true≢false (sym t)
     has m (Some k) t e = none-some k (sym e)
 
-    by : (o : Option ℕ) → find (λ j. is_some (replacer w j)) (family w i) ≡ o → option_and_then (replacer w) o ≡ None → list_any (λ j. is_some (replacer w j)) (family w i) ≡ false
-    by None f e = none_found (λ j. is_some (replacer w j)) (family w i) f
-    by (Some m) f e = absurd (has m (replacer w m) (found_passes (λ j. is_some (replacer w j)) (family w i) m f) e)
+    by : (o : Option ℕ) → find (λ j. is_some (replacer w j)) (kin_of w i) ≡ o → option_and_then (replacer w) o ≡ None → list_any (λ j. is_some (replacer w j)) (kin_of w i) ≡ false
+    by None f e = none_found (λ j. is_some (replacer w j)) (kin_of w i) f
+    by (Some m) f e = absurd (has m (replacer w m) (found_passes (λ j. is_some (replacer w j)) (kin_of w i) m f) e)
 
-then_none : (w : World) (i : ℕ) → list_any (λ j. is_some (replacer w j)) (family w i) ≡ false → replaced w i ≡ None
+then_none : (w : PendingView) (i : ℕ) → list_any (λ j. is_some (replacer w j)) (kin_of w i) ≡ false → replaced w i ≡ None
 unfolding replaced
-then_none w i e = ap (option_and_then (replacer w)) (not_found (λ j. is_some (replacer w j)) (family w i) e)
+then_none w i e = ap (option_and_then (replacer w)) (not_found (λ j. is_some (replacer w j)) (kin_of w i) e)
 
 -- ---- its parents
 
-parent_clear : (w : World) (i p : ℕ) → IsInOrder (graph w) → i < length (graph w) → Contains (steps (graph w) i) p → height_of w.chain (txid_of (tx_at w p)) ≡ None → IsClear w i → IsClear w p
-unfolding conflict given_up
+parent_clear : (w : PendingView) (i p : ℕ) → IsInOrder (graph w) → i < length (graph w) → Contains (steps (graph w) i) p → height_of w.chain (txid_of (tx_at w p)) ≡ None → IsClear w i → IsClear w p
+unfolding conflict is_abandoned
 parent_clear w i p order lt c none h = record {
   height = none;
-  conflict = not_found (λ place. list_any (λ j. clashes w.chain (tx_at w j) place) (family w p)) (below (length w.chain))
-      (at_none (λ place. list_any (λ j. clashes w.chain (tx_at w j) place) (family w p)) (length w.chain)
-      (λ place in_list. parent_quiet (graph w) i p (λ j. clashes w.chain (tx_at w j) place) order lt c
-      (none_at (λ place. list_any (λ j. clashes w.chain (tx_at w j) place) (family w i)) (length w.chain) place (none_found (λ place. list_any (λ j. clashes w.chain (tx_at w j) place) (family w i)) (below (length w.chain)) h.conflict) in_list)));
-  given = parent_quiet (graph w) i p (λ j. is_listed w.abandoned (txid_of (tx_at w j))) order lt c h.given;
+  conflict = not_found (λ place. list_any (λ j. conflicts_at w.chain (tx_at w j) place) (kin_of w p)) (below (length w.chain))
+      (at_none (λ place. list_any (λ j. conflicts_at w.chain (tx_at w j) place) (kin_of w p)) (length w.chain)
+      (λ place in_list. parent_quiet (graph w) i p (λ j. conflicts_at w.chain (tx_at w j) place) order lt c
+      (none_at (λ place. list_any (λ j. conflicts_at w.chain (tx_at w j) place) (kin_of w i)) (length w.chain) place (none_found (λ place. list_any (λ j. conflicts_at w.chain (tx_at w j) place) (kin_of w i)) (below (length w.chain)) h.conflict) in_list)));
+  abandoned = parent_quiet (graph w) i p (λ j. is_listed w.abandoned (txid_of (tx_at w j))) order lt c h.abandoned;
   replaced = then_none w p (parent_quiet (graph w) i p (λ j. is_some (replacer w j)) order lt c (none_replaced w i h.replaced));
 }
 
-pub parents_pending : (w : World) (i : ℕ) → AreDistinct w.pending → ParentsComeFirst w.pending → i < length w.pending → is_pending w i ≡ true → (p : ℕ) → Contains (steps (graph w) i) p → is_pending w p ≡ true
+pub parents_pending : (w : PendingView) (i : ℕ) → AreDistinct w.pending → ParentsComeFirst w.pending → i < length w.pending → is_pending w i ≡ true → (p : ℕ) → Contains (steps (graph w) i) p → is_pending w p ≡ true
 parents_pending w i apart first lt is p c =
     let n = length-map w.pending (parents w.chain w.pending) in
     pending_is w p (parent_clear w i p (order_from_rule w.chain w.pending first) (omega arith) c ((parents_is w i p apart lt).0 c).1 (clear w i is))
@@ -209,7 +209,7 @@ unspent chain o e = by (spends_of chain o) (first_place_is chain o ∙ not_found
     by [] h = refl
     by (s ∷ ss) h = absurd (none-some s.place (sym h))
 
-pub inputs_unspent : (w : World) (i : ℕ) → ParentsComeFirst w.pending → i < length w.pending → is_pending w i ≡ true → All (λ (x : TxIn). spends_of w.chain x.prev ≡ []) (tx_at w i).inputs
+pub inputs_unspent : (w : PendingView) (i : ℕ) → ParentsComeFirst w.pending → i < length w.pending → is_pending w i ≡ true → All (λ (x : TxIn). spends_of w.chain x.prev ≡ []) (tx_at w i).inputs
 unfolding conflict
 inputs_unspent w i first lt is = λ k d in_list.
     let n = length-map w.pending (parents w.chain w.pending) in
@@ -219,20 +219,20 @@ inputs_unspent w i first lt is = λ k d in_list.
     (λ place inside.
     false_from_ne_true (is_some (spend_at w.chain x.prev place))
     (λ t. true≢false (sym (list_any_at (λ (y : TxIn). is_some (spend_at w.chain y.prev place)) (tx_at w i).inputs k d in_list t)
-    ∙ itself_in (graph w) i (λ j. clashes w.chain (tx_at w j) place) (order_from_rule w.chain w.pending first) (omega arith)
-    (none_at (λ place. list_any (λ j. clashes w.chain (tx_at w j) place) (family w i)) (length w.chain) place (none_found (λ place. list_any (λ j. clashes w.chain (tx_at w j) place) (family w i)) (below (length w.chain)) (clear w i is).conflict) inside)))))
+    ∙ itself_in (graph w) i (λ j. conflicts_at w.chain (tx_at w j) place) (order_from_rule w.chain w.pending first) (omega arith)
+    (none_at (λ place. list_any (λ j. conflicts_at w.chain (tx_at w j) place) (kin_of w i)) (length w.chain) place (none_found (λ place. list_any (λ j. conflicts_at w.chain (tx_at w j) place) (kin_of w i)) (below (length w.chain)) (clear w i is).conflict) inside)))))
 
 -- ---- two of them
 
-alive : (w : World) (k : ℕ) → IsClear w k → is_alive w k ≡ true
+alive : (w : PendingView) (k : ℕ) → IsClear w k → is_alive w k ≡ true
 unfolding is_alive
 alive w k h =
-    ap (λ (a : Option ℕ). is_none a && (is_none (conflict w k) && not (given_up w k))) h.height
-    ∙ ap (λ (a : Option ℕ). is_none a && not (given_up w k)) h.conflict
-    ∙ ap not h.given
+    ap (λ (a : Option ℕ). is_none a && (is_none (conflict w k) && not (is_abandoned w k))) h.height
+    ∙ ap (λ (a : Option ℕ). is_none a && not (is_abandoned w k)) h.conflict
+    ∙ ap not h.abandoned
 
 -- a later one that is alive and spends an outpoint of it replaces it
-later : (w : World) (o : OutPoint) (i k : ℕ) → ParentsComeFirst w.pending → i < k → k < length w.pending → IsClear w i → IsClear w k → has_input o (tx_at w i).inputs ≡ true → has_input o (tx_at w k).inputs ≡ true → ⊥
+later : (w : PendingView) (o : OutPoint) (i k : ℕ) → ParentsComeFirst w.pending → i < k → k < length w.pending → IsClear w i → IsClear w k → has_input o (tx_at w i).inputs ≡ true → has_input o (tx_at w k).inputs ≡ true → ⊥
 unfolding replacer
 later w o i k first lt in_range hi hk a b =
     let n = length-map w.pending (parents w.chain w.pending) in
@@ -243,7 +243,7 @@ later w o i k first lt in_range hi hk a b =
     both : (a b c : Bool) → a ≡ true → b ≡ true → c ≡ true → (a && (b && c)) ≡ true
     both a b c p q r = ap (λ (x : Bool). x && (b && c)) p ∙ ap (λ (x : Bool). x && c) q ∙ r
 
-pub one_spender : (w : World) (o : OutPoint) (i k : ℕ) → ParentsComeFirst w.pending → i < length w.pending → k < length w.pending → is_pending w i ≡ true → is_pending w k ≡ true → has_input o (tx_at w i).inputs ≡ true → has_input o (tx_at w k).inputs ≡ true → i ≡ k
+pub one_spender : (w : PendingView) (o : OutPoint) (i k : ℕ) → ParentsComeFirst w.pending → i < length w.pending → k < length w.pending → is_pending w i ≡ true → is_pending w k ≡ true → has_input o (tx_at w i).inputs ≡ true → has_input o (tx_at w k).inputs ≡ true → i ≡ k
 one_spender w o i k first in_i in_k is_i is_k a b = by (cases_order i k)
   where
     by : (i ≡ k) ⊎ ((i < k) ⊎ (k < i)) → i ≡ k

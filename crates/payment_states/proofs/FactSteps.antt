@@ -16,14 +16,14 @@ use Rattle.payment_states.specs.Counts.{downs, is_counted, ups}
 use Rattle.payment_states.specs.Graph.{IsInOrder, below, kin, within}
 use Rattle.payment_states.specs.Least.{least_by, lesser, value_at}
 use Rattle.payment_states.specs.Payments.{payment_at, payments_in, payments_of}
-use Rattle.payment_states.specs.Steps.{place_among, place_if}
-use Rattle.payment_states.specs.World.{World, family, graph, no_tx, open_place, parents, place_in, tx_at, world_of}
+use Rattle.payment_states.specs.ByPlace.{place_among, place_if}
+use Rattle.payment_states.specs.PendingView.{PendingView, kin_of, graph, no_tx, open_place, parents, place_in, tx_at, view_of}
 use Rattle.payment_states.specs.declared.state.Payment.{Payment}
 use Rattle.payment_states.proofs.Below.{below_within, get_or-map_below, get_or_map, length-map_below, map_below_same, map_same}
 use Rattle.payment_states.proofs.CountSteps.{count_agree}
-use Rattle.payment_states.proofs.GivenSteps.{kin_within}
-use Rattle.payment_states.proofs.Joined.{names_are}
-use Rattle.payment_states.proofs.Order.{all_filtered, all_given, found_place, place_open}
+use Rattle.payment_states.proofs.AbandonedSteps.{kin_within}
+use Rattle.payment_states.proofs.StateSteps.{names_are}
+use Rattle.payment_states.proofs.Order.{all_filtered, all_abandoned, found_place, place_open}
 use Rattle.payment_states.proofs.Positions.{position-map}
 
 -- fewer parents stand in order too
@@ -56,7 +56,7 @@ none_if : (b : Bool) → is_none (place_if (not b) 0) ≡ b
 none_if true = refl
 none_if false = refl
 
-module _ (w : World) where
+module _ (w : PendingView) where
   -- ---- which are Pending
 
   pub pending_are : map (λ (p : Payment). is_pending_state p.state) (payments_in w) ≡ map (is_pending w) (below (length w.pending))
@@ -71,7 +71,7 @@ module _ (w : World) where
   -- ---- which are safe
 
   parents_within : (t : Transaction) → All (λ p. p < length w.pending) (parents w.chain w.pending t)
-  parents_within t = all_given (λ p. p < length w.pending) (λ (x : TxIn). open_place w.chain w.pending x.prev.txid) t.inputs (λ x c p e. (found_place w.pending x.prev.txid p (place_open w.chain w.pending x.prev.txid p e)).0)
+  parents_within t = all_abandoned (λ p. p < length w.pending) (λ (x : TxIn). open_place w.chain w.pending x.prev.txid) t.inputs (λ x c p e. (found_place w.pending x.prev.txid p (place_open w.chain w.pending x.prev.txid p e)).0)
 
   pub kept_is : (g : List (List ℕ)) (flags : List Bool) → g ≡ graph w → flags ≡ map (is_pending w) (below (length w.pending)) → map (filter (λ j. slice_index_or flags j false)) g ≡ pending_graph w
   kept_is g flags g_is flags_are =
@@ -126,7 +126,7 @@ module _ (w : World) where
   pub ancestors_are : (g : List (List ℕ)) (flags : List Bool) → g ≡ graph w → flags ≡ map (is_pending w) (below (length w.pending)) → (i : ℕ) → min 4294967295 (ups g flags i) ≡ ancestors w i
   ancestors_are g flags g_is flags_are i =
       ap (λ (l : List (List ℕ)). min 4294967295 (ups l flags i)) g_is
-      ∙ ap (λ n. min 4294967295 n) (count_agree (is_counted flags) (is_pending w) (family w i) (λ j c. let n = graph_count in let lt = kin_within (graph w) i j c in flag_is flags flags_are j (omega arith)))
+      ∙ ap (λ n. min 4294967295 n) (count_agree (is_counted flags) (is_pending w) (kin_of w i) (λ j c. let n = graph_count in let lt = kin_within (graph w) i j c in flag_is flags flags_are j (omega arith)))
 
   pub descendants_are : (g : List (List ℕ)) (flags : List Bool) → g ≡ graph w → flags ≡ map (is_pending w) (below (length w.pending)) → (i : ℕ) → min 4294967295 (downs g flags i) ≡ descendants w i
   descendants_are g flags g_is flags_are i =
@@ -135,7 +135,7 @@ module _ (w : World) where
       ∙ ap (λ n. min 4294967295 n) (count_agree (λ j. is_counted flags j && within (graph w) (length (graph w)) j i) (λ j. is_pending w j && within (graph w) (length (graph w)) j i) (below (length w.pending))
       (λ j c. ap (λ b. b && within (graph w) (length (graph w)) j i) (flag_is flags flags_are j (below_within (length w.pending) j c))))
 
--- the payments are those of the world
-pub opened : (w : PlainWallet) (h : History) (ps : List Payment) → ps ≡ payments_of w h → ps ≡ payments_in (world_of w h)
+-- the payments are those of the view
+pub opened : (w : PlainWallet) (h : History) (ps : List Payment) → ps ≡ payments_of w h → ps ≡ payments_in (view_of w h)
 unfolding payments_of
 opened w h ps e = e

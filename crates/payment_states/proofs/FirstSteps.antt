@@ -8,7 +8,7 @@ use Rattle.std.proofs.lemmas.Option.{none-some, same_Some}
 use Rattle.std.proofs.lemmas.List.Elements.{filter-append}
 use Rattle.payment_states.specs.Graph.{below}
 use Rattle.payment_states.specs.Least.{least_by, lesser}
-use Rattle.payment_states.specs.Steps.{place_if}
+use Rattle.payment_states.specs.ByPlace.{place_if}
 use Rattle.payment_states.proofs.LeastSteps.{least_append, lesser_either, lesser_none}
 
 -- one number more

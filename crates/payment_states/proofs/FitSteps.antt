@@ -35,7 +35,7 @@ use Rattle.coin_book.specs.declared.fault.BookFault.{BookFault}
 use Rattle.coin_book.specs.declared.fault.BookFault.TheVariants.{Full, RepeatCoin}
 use Rattle.payment_states.specs.BookOf.{IsBookOf}
 use Rattle.payment_states.specs.Candidates.{candidate_at, candidate_of, candidates_of, is_candidate}
-use Rattle.payment_states.specs.World.{place_in}
+use Rattle.payment_states.specs.PendingView.{place_in}
 use Rattle.std.proofs.lemmas.Simd.{map-map}
 use Rattle.fund_base.proofs.Lists.{filter_le}
 use Rattle.payment_states.proofs.Below.{get_or_map}

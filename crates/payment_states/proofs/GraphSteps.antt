@@ -14,8 +14,8 @@ use Rattle.tx_codec.specs.declared.tx.TxIn.{TxIn}
 use Rattle.wallet_text.specs.WalletRules.{AreDistinct}
 use Rattle.coin_book.specs.History.{Confirmed}
 use Rattle.coin_book.specs.Spends.{height_of}
-use Rattle.payment_states.specs.Steps.{parents_by, place_by}
-use Rattle.payment_states.specs.World.{open_place, parents, no_tx}
+use Rattle.payment_states.specs.ByPlace.{parents_by, place_by}
+use Rattle.payment_states.specs.PendingView.{open_place, parents, no_tx}
 use Rattle.payment_states.proofs.Below.{get_or_map}
 use Rattle.payment_states.proofs.Positions.{position-map}
 

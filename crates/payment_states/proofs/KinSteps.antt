@@ -19,8 +19,8 @@ use Rattle.payment_states.specs.Causes.{IsKin, IsUnconfirmed}
 use Rattle.payment_states.specs.Causes.IsKin.{itself as own, above}
 use Rattle.payment_states.specs.Graph.{IsInOrder, Reaches, below, within}
 use Rattle.payment_states.specs.Graph.Reaches.{itself, through}
-use Rattle.payment_states.specs.Steps.{place_if}
-use Rattle.payment_states.specs.World.{World, family, graph, parents, tx_at}
+use Rattle.payment_states.specs.ByPlace.{place_if}
+use Rattle.payment_states.specs.PendingView.{PendingView, kin_of, graph, parents, tx_at}
 use Rattle.payment_states.proofs.Below.{get_or-below, length-below}
 use Rattle.payment_states.proofs.ClearSteps.{any_filter}
 use Rattle.payment_states.proofs.FirstSteps.{find_more}
@@ -119,7 +119,7 @@ no_height chain txid h = none_is (height_of chain txid) (not_known chain txid h)
 
 -- ---- ancestors
 
-module _ (w : World) (apart : AreDistinct w.pending) (first : ParentsComeFirst w.pending) where
+module _ (w : PendingView) (apart : AreDistinct w.pending) (first : ParentsComeFirst w.pending) where
   pub count : length (graph w) ≡ length w.pending
   count = length-map w.pending (parents w.chain w.pending)
 
@@ -148,14 +148,14 @@ module _ (w : World) (apart : AreDistinct w.pending) (first : ParentsComeFirst w
   pub tests : (i j : ℕ) → i < length w.pending → IsKin w i j → within (graph w) (length (graph w)) i j ≡ true
   tests i j lt k = let n = count in (decides (graph w) i j order (omega arith)).1 (kin_way k lt)
 
-  pub family_has : (i j : ℕ) → i < length w.pending → IsKin w i j → Contains (family w i) j
-  family_has i j lt k =
+  pub kin_has : (i j : ℕ) → i < length w.pending → IsKin w i j → Contains (kin_of w i) j
+  kin_has i j lt k =
       let n = count in
       let in_list = kin_stands k lt in
       filter_has (within (graph w) (length (graph w)) i) (below (length (graph w))) j (below_has (length (graph w)) j (omega arith)) (tests i j lt k)
 
-  pub family_only : (i j : ℕ) → i < length w.pending → Contains (family w i) j → IsKin w i j
-  family_only i j lt c = tested i j lt (filter_only (within (graph w) (length (graph w)) i) (below (length (graph w))) j c)
+  pub kin_only : (i j : ℕ) → i < length w.pending → Contains (kin_of w i) j → IsKin w i j
+  kin_only i j lt c = tested i j lt (filter_only (within (graph w) (length (graph w)) i) (below (length (graph w))) j c)
 
-  pub family_rises : (i : ℕ) → AllPairs (λ (a b : ℕ). a < b) (family w i)
-  family_rises i = AllPairs-filter (λ (a b : ℕ). a < b) (within (graph w) (length (graph w)) i) (below (length (graph w))) (below_rises (length (graph w)))
+  pub kin_rises : (i : ℕ) → AllPairs (λ (a b : ℕ). a < b) (kin_of w i)
+  kin_rises i = AllPairs-filter (λ (a b : ℕ). a < b) (within (graph w) (length (graph w)) i) (below (length (graph w))) (below_rises (length (graph w)))

@@ -12,12 +12,12 @@ use Rattle.tx_codec.specs.Transaction.{Transaction}
 use Rattle.tx_codec.specs.Txid.{txid_of}
 use Rattle.wallet_text.specs.WalletRules.{AreDistinct}
 use Rattle.payment_states.specs.Payments.{payment_at, payments_in, state_at, state_of}
-use Rattle.payment_states.specs.World.{World, no_tx, tx_at}
+use Rattle.payment_states.specs.PendingView.{PendingView, no_tx, tx_at}
 use Rattle.payment_states.specs.declared.state.Payment.{Payment}
 use Rattle.payment_states.specs.declared.state.State.{State}
 use Rattle.payment_states.proofs.Below.{get_or-map_below, length-map_below}
 use Rattle.payment_states.proofs.FactSteps.{any_map}
-use Rattle.payment_states.proofs.Joined.{names_are}
+use Rattle.payment_states.proofs.StateSteps.{names_are}
 use Rattle.payment_states.proofs.Paths.{any_has}
 
 -- the first that passes, where one alone does
@@ -30,11 +30,11 @@ only_one {X = X} p f (x ∷ xs) y h some = by (p x) refl some (λ s. only_one p 
     by false e s r = r s
 
 -- a payment has the txid exactly where a transaction has
-named : (w : World) (txid : List ℕ) → list_any (λ (p : Payment). bytes_eq txid p.txid) (payments_in w) ≡ list_any (λ (t : Transaction). bytes_eq txid (txid_of t)) w.pending
+named : (w : PendingView) (txid : List ℕ) → list_any (λ (p : Payment). bytes_eq txid p.txid) (payments_in w) ≡ list_any (λ (t : Transaction). bytes_eq txid (txid_of t)) w.pending
 named w txid = sym (any_map (bytes_eq txid) (λ (p : Payment). p.txid) (payments_in w)) ∙ ap (list_any (bytes_eq txid)) (names_are w) ∙ any_map (bytes_eq txid) txid_of w.pending
 
 -- the places of transactions of one txid are one
-pub one_place : (w : World) (i j : ℕ) → AreDistinct w.pending → i < length w.pending → j < length w.pending → txid_of (tx_at w i) ≡ txid_of (tx_at w j) → j ≡ i
+pub one_place : (w : PendingView) (i j : ℕ) → AreDistinct w.pending → i < length w.pending → j < length w.pending → txid_of (tx_at w i) ≡ txid_of (tx_at w j) → j ≡ i
 one_place w i j apart lt in' e = by (cases_order i j)
   where
     by : (i ≡ j) ⊎ ((i < j) ⊎ (j < i)) → j ≡ i
@@ -42,7 +42,7 @@ one_place w i j apart lt in' e = by (cases_order i j)
     by (inr (inl b)) = absurd (apart i j no_tx b in' e)
     by (inr (inr b)) = absurd (apart j i no_tx b lt (sym e))
 
-pub own_is : (w : World) (i : ℕ) → AreDistinct w.pending → i < length w.pending → state_of (payments_in w) (txid_of (tx_at w i)) ≡ Some (state_at w i)
+pub own_is : (w : PendingView) (i : ℕ) → AreDistinct w.pending → i < length w.pending → state_of (payments_in w) (txid_of (tx_at w i)) ≡ Some (state_at w i)
 own_is w i apart lt =
     only_one (λ (p : Payment). bytes_eq (txid_of (tx_at w i)) p.txid) (λ (p : Payment). p.state) (payments_in w) (state_at w i) own
     (named w (txid_of (tx_at w i)) ∙ any_has (λ (t : Transaction). bytes_eq (txid_of (tx_at w i)) (txid_of t)) w.pending (tx_at w i) (i, lt, get_or_default w.pending i (tx_at w i) no_tx lt) ((bytes_eq-Decides (txid_of (tx_at w i)) (txid_of (tx_at w i))).1 refl))
@@ -56,7 +56,7 @@ own_is w i apart lt =
         let name : txid_of (tx_at w i) ≡ txid_of (tx_at w c.0) = (bytes_eq-Decides (txid_of (tx_at w i)) p.txid).0 same ∙ ap (λ (q : Payment). q.txid) is in
         ap (λ (q : Payment). q.state) is ∙ ap (state_at w) (one_place w i c.0 apart lt k_in name)
 
-pub none_is : (w : World) (txid : List ℕ) → (state_of (payments_in w) txid ≡ None → All (λ (t : Transaction). txid_of t ≢ txid) w.pending) × (All (λ (t : Transaction). txid_of t ≢ txid) w.pending → state_of (payments_in w) txid ≡ None)
+pub none_is : (w : PendingView) (txid : List ℕ) → (state_of (payments_in w) txid ≡ None → All (λ (t : Transaction). txid_of t ≢ txid) w.pending) × (All (λ (t : Transaction). txid_of t ≢ txid) w.pending → state_of (payments_in w) txid ≡ None)
 none_is w txid = (there, gone)
   where
     some_is : is_some (state_of (payments_in w) txid) ≡ list_any (λ (t : Transaction). bytes_eq txid (txid_of t)) w.pending

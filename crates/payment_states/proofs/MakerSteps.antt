@@ -22,7 +22,7 @@ use Rattle.coin_book.specs.declared.coin.Coin.{Coin}
 use Rattle.payment_states.specs.BookOf.{IsBookOf}
 use Rattle.payment_states.specs.Candidates.{candidate_at, candidate_of, candidates_of, is_candidate}
 use Rattle.payment_states.specs.Makers.{HasMaker, Makes, output_of}
-use Rattle.payment_states.specs.World.{place_in}
+use Rattle.payment_states.specs.PendingView.{place_in}
 use Rattle.payment_states.proofs.Below.{get_or_map}
 use Rattle.payment_states.proofs.FitSteps.{all_flat, all_kept, coins_apart, some_find}
 use Rattle.payment_states.proofs.Paths.{any_has}

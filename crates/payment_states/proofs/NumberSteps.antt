@@ -11,12 +11,12 @@ use Rattle.payment_states.specs.Candidates.{ancestors, descendants, is_pending, 
 use Rattle.payment_states.specs.Causes.{HasCause, IsKin}
 use Rattle.payment_states.specs.Graph.{below, within}
 use Rattle.payment_states.specs.Payments.{state_at}
-use Rattle.payment_states.specs.World.{World, family, graph}
+use Rattle.payment_states.specs.PendingView.{PendingView, kin_of, graph}
 use Rattle.payment_states.specs.declared.state.State.{State}
 use Rattle.payment_states.specs.declared.state.State.TheVariants as state
 use Rattle.payment_states.proofs.Below.{below_within}
 use Rattle.payment_states.proofs.CauseSteps.{cause_is, is_cause}
-use Rattle.payment_states.proofs.KinSteps.{below_has, below_rises, family_has, family_only, family_rises, filter_has, filter_only, kin_stands, tested, tests}
+use Rattle.payment_states.proofs.KinSteps.{below_has, below_rises, kin_has, kin_only, kin_rises, filter_has, filter_only, kin_stands, tested, tests}
 
 abbrev Rises : List ℕ → Type 0
 Rises xs = AllPairs (λ (a b : ℕ). a < b) xs
@@ -88,7 +88,7 @@ pending_state (state.Conflicted by) e = absurd (true≢false (sym e))
 pending_state state.Abandoned e = absurd (true≢false (sym e))
 pending_state (state.Replaced by) e = absurd (true≢false (sym e))
 
-module _ (w : World) (apart : AreDistinct w.pending) (rule : ParentsComeFirst w.pending) where
+module _ (w : PendingView) (apart : AreDistinct w.pending) (rule : ParentsComeFirst w.pending) where
   pub waits : (j : ℕ) → j < length w.pending → is_pending w j ≡ true → HasCause w j state.Pending
   waits j lt e = subst (HasCause w j) (pending_state (state_at w j) e) (cause_is w apart rule j lt)
 
@@ -97,9 +97,9 @@ module _ (w : World) (apart : AreDistinct w.pending) (rule : ParentsComeFirst w.
 
   pub ancestors_are : (i : ℕ) (places : List ℕ) → i < length w.pending → Rises places → ((j : ℕ) → Contains places j ↔ (IsKin w i j × HasCause w j state.Pending)) → ancestors w i ≡ min 4294967295 (length places)
   ancestors_are i places lt rises is =
-      ap (λ n. min 4294967295 n) (counted (is_pending w) (family w i) places (family_rises w apart rule i) rises (λ j. (
-        (λ c. let h = (is j).0 c in (family_has w apart rule i j lt h.0, waits_back j (kin_stands w apart rule h.0 lt) h.1)),
-        (λ h. let k = family_only w apart rule i j lt h.0 in (is j).1 (k, waits j (kin_stands w apart rule k lt) h.1)),
+      ap (λ n. min 4294967295 n) (counted (is_pending w) (kin_of w i) places (kin_rises w apart rule i) rises (λ j. (
+        (λ c. let h = (is j).0 c in (kin_has w apart rule i j lt h.0, waits_back j (kin_stands w apart rule h.0 lt) h.1)),
+        (λ h. let k = kin_only w apart rule i j lt h.0 in (is j).1 (k, waits j (kin_stands w apart rule k lt) h.1)),
       )))
 
   pub descendants_are : (i : ℕ) (places : List ℕ) → i < length w.pending → Rises places → ((j : ℕ) → Contains places j ↔ ((j < length w.pending) × IsKin w j i × HasCause w j state.Pending)) → descendants w i ≡ min 4294967295 (length places)

@@ -15,13 +15,13 @@ use Rattle.wallet_text.specs.WalletRules.{ParentsComeFirst}
 use Rattle.coin_book.specs.History.{Confirmed}
 use Rattle.coin_book.specs.Spends.{height_of}
 use Rattle.payment_states.specs.Graph.{IsInOrder}
-use Rattle.payment_states.specs.World.{open_place, parents, place_in, no_tx}
+use Rattle.payment_states.specs.PendingView.{open_place, parents, place_in, no_tx}
 use Rattle.payment_states.proofs.Below.{get_or_map}
 
 -- what holds of all that a test gives
-pub all_given : {X Y : Type 0} (P : Y → Type 0) (f : X → Option Y) (xs : List X) → ((x : X) → Contains xs x → (y : Y) → f x ≡ Some y → P y) → All P (filter_map f xs)
-all_given P f [] h = All-nil P
-all_given {X = X} {Y = Y} P f (x ∷ xs) h = by (f x) refl (all_given P f xs (λ z c. h z (suc c.0, omega arith, c.2)))
+pub all_abandoned : {X Y : Type 0} (P : Y → Type 0) (f : X → Option Y) (xs : List X) → ((x : X) → Contains xs x → (y : Y) → f x ≡ Some y → P y) → All P (filter_map f xs)
+all_abandoned P f [] h = All-nil P
+all_abandoned {X = X} {Y = Y} P f (x ∷ xs) h = by (f x) refl (all_abandoned P f xs (λ z c. h z (suc c.0, omega arith, c.2)))
   where
     by : (o : Option Y) → f x ≡ o → All P (filter_map f xs) → All P (cons_option o (filter_map f xs))
     by None e rest = rest
@@ -47,7 +47,7 @@ order_from_rule chain pending rule i lt =
     let n = length-map pending (parents chain pending) in
     let i_in : i < length pending = omega arith in
     subst (λ (ps : List ℕ). All (λ p. p < i) ps) (sym (get_or_map (parents chain pending) pending i [] no_tx i_in))
-    (all_given (λ p. p < i) (λ (x : TxIn). open_place chain pending x.prev.txid) (get_or pending i no_tx).inputs (λ x c p e.
+    (all_abandoned (λ p. p < i) (λ (x : TxIn). open_place chain pending x.prev.txid) (get_or pending i no_tx).inputs (λ x c p e.
     by x c p (found_place pending x.prev.txid p (place_open chain pending x.prev.txid p e)) (cases_lt p i)))
   where
     by : (x : TxIn) → Contains (get_or pending i no_tx).inputs x → (p : ℕ) → (p < length pending) × (x.prev.txid ≡ txid_of (get_or pending p no_tx)) → (p < i) ⊎ (i ≤ p) → p < i

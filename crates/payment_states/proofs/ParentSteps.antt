@@ -13,7 +13,7 @@ use Rattle.wallet_text.specs.WalletRules.{AreDistinct}
 use Rattle.coin_book.specs.History.{Confirmed}
 use Rattle.coin_book.specs.Spends.{height_of}
 use Rattle.payment_states.specs.Graph.{steps}
-use Rattle.payment_states.specs.World.{World, graph, no_tx, open_place, parents, place_in, tx_at}
+use Rattle.payment_states.specs.PendingView.{PendingView, graph, no_tx, open_place, parents, place_in, tx_at}
 use Rattle.payment_states.proofs.Below.{get_or_map}
 use Rattle.payment_states.proofs.FitSteps.{some_find}
 use Rattle.payment_states.proofs.LookSteps.{one_place}
@@ -22,9 +22,9 @@ use Rattle.payment_states.proofs.Paths.{any_has}
 use Rattle.payment_states.proofs.Positions.{find_by_place}
 
 -- what is given comes of some element, and what an element gives is there
-given_by : {X Y : Type 0} (f : X → Option Y) (xs : List X) (y : Y) → Contains (filter_map f xs) y → (x : X) × Contains xs x × (f x ≡ Some y)
-given_by f [] y c = absurd (let l = c.1 in omega arith)
-given_by {X = X} {Y = Y} f (x ∷ xs) y c = by (f x) refl (λ d. given_by f xs y d) c
+abandoned_by : {X Y : Type 0} (f : X → Option Y) (xs : List X) (y : Y) → Contains (filter_map f xs) y → (x : X) × Contains xs x × (f x ≡ Some y)
+abandoned_by f [] y c = absurd (let l = c.1 in omega arith)
+abandoned_by {X = X} {Y = Y} f (x ∷ xs) y c = by (f x) refl (λ d. abandoned_by f xs y d) c
   where
     later : (z : X) × Contains xs z × (f z ≡ Some y) → (z : X) × Contains (x ∷ xs) z × (f z ≡ Some y)
     later r = (r.0, (suc r.1.0, (let l = r.1.1 in omega arith), r.1.2), r.2)
@@ -59,7 +59,7 @@ unfolding open_place
 is_open_place chain pending txid p h e = ap (λ (r : Option ℕ). cond (is_some r) None (place_in pending txid)) h ∙ e
 
 -- a transaction is found at its place
-pub own_place : (w : World) (p : ℕ) (txid : List ℕ) → AreDistinct w.pending → p < length w.pending → txid ≡ txid_of (tx_at w p) → place_in w.pending txid ≡ Some p
+pub own_place : (w : PendingView) (p : ℕ) (txid : List ℕ) → AreDistinct w.pending → p < length w.pending → txid ≡ txid_of (tx_at w p) → place_in w.pending txid ≡ Some p
 own_place w p txid apart lt e = by (place_in w.pending txid) refl
   where
     there : list_any (λ (t : Transaction). bytes_eq txid (txid_of t)) w.pending ≡ true
@@ -70,10 +70,10 @@ own_place w p txid apart lt e = by (place_in w.pending txid) refl
         ∙ ap (λ (o : Option Transaction). is_some o) (sym (find_by_place (λ (t : Transaction). bytes_eq txid (txid_of t)) w.pending) ∙ ap (λ (o : Option ℕ). option_and_then (slice_get w.pending) o) h)))
     by (Some q) h = let f = found_place w.pending txid q h in ap Some (one_place w p q apart lt f.0 (sym e ∙ f.1))
 
-pub parents_is : (w : World) (i p : ℕ) → AreDistinct w.pending → i < length w.pending
+pub parents_is : (w : PendingView) (i p : ℕ) → AreDistinct w.pending → i < length w.pending
     → (Contains (steps (graph w) i) p → (p < length w.pending) × (height_of w.chain (txid_of (tx_at w p)) ≡ None) × Any (λ (x : TxIn). x.prev.txid ≡ txid_of (tx_at w p)) (tx_at w i).inputs)
     × ((p < length w.pending) × (height_of w.chain (txid_of (tx_at w p)) ≡ None) × Any (λ (x : TxIn). x.prev.txid ≡ txid_of (tx_at w p)) (tx_at w i).inputs → Contains (steps (graph w) i) p)
-parents_is w i p apart lt = (λ c. there (given_by look (tx_at w i).inputs p (subst (λ (ps : List ℕ). Contains ps p) here c)), λ h. back h.0 h.1 h.2)
+parents_is w i p apart lt = (λ c. there (abandoned_by look (tx_at w i).inputs p (subst (λ (ps : List ℕ). Contains ps p) here c)), λ h. back h.0 h.1 h.2)
   where
     look : TxIn → Option ℕ
     look x = open_place w.chain w.pending x.prev.txid

@@ -10,7 +10,7 @@ use Rattle.wallet_text.specs.WalletRules.{ParentsComeFirst}
 use Rattle.coin_book.specs.declared.coin.Coin.{Coin}
 use Rattle.payment_states.specs.Candidates.{is_mine, is_own, is_pending, is_safe, pending_graph, replaces}
 use Rattle.payment_states.specs.Graph.{IsInOrder, below, kin, steps, within}
-use Rattle.payment_states.specs.World.{World, parents, tx_at}
+use Rattle.payment_states.specs.PendingView.{PendingView, parents, tx_at}
 use Rattle.payment_states.proofs.Below.{filter_one}
 use Rattle.payment_states.proofs.FactSteps.{order_filter}
 use Rattle.payment_states.proofs.LeastSteps.{filter_agree}
@@ -56,7 +56,7 @@ all_step g f i order lt =
     one true = refl
     one false = refl
 
-pub safe_step : (w : World) (coins : List Coin) (i : ℕ) → ParentsComeFirst w.pending → i < length w.pending
+pub safe_step : (w : PendingView) (coins : List Coin) (i : ℕ) → ParentsComeFirst w.pending → i < length w.pending
     → is_safe w coins i ≡ ((is_mine coins (tx_at w i) && not (replaces w (txid_of (tx_at w i)))) && list_all (is_safe w coins) (steps (pending_graph w) i))
 unfolding is_safe is_own
 safe_step w coins i rule lt =

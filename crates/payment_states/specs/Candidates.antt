@@ -15,7 +15,7 @@ use Rattle.coin_book.specs.Spends.{has_input, spends_of}
 use Rattle.coin_book.specs.declared.coin.Coin.{Coin}
 use Rattle.payment_states.specs.Graph.{within, below, kin}
 use Rattle.payment_states.specs.Payments.{state_at}
-use Rattle.payment_states.specs.World.{World, world_of, tx_at, parents, graph, family, place_in}
+use Rattle.payment_states.specs.PendingView.{PendingView, view_of, tx_at, parents, graph, kin_of, place_in}
 use Rattle.payment_states.specs.declared.state.State.{State}
 use Rattle.payment_states.specs.declared.state.State.TheVariants as state
 use Rattle.std.specs.Prelude.{bytes_eq}
@@ -25,7 +25,7 @@ is_pending_state state.Pending = true
 is_pending_state _ = false
 
 -- the transaction at this place is Pending
-abbrev pub is_pending : World → ℕ → Bool
+abbrev pub is_pending : PendingView → ℕ → Bool
 is_pending w i = is_pending_state (state_at w i)
 
 abbrev pub is_replaced_by : List ℕ → State → Bool
@@ -33,7 +33,7 @@ is_replaced_by txid (state.Replaced by) = bytes_eq by txid
 is_replaced_by txid _ = false
 
 -- a transaction is Replaced by the one of this txid
-abbrev pub replaces : World → List ℕ → Bool
+abbrev pub replaces : PendingView → List ℕ → Bool
 replaces w txid = list_any (λ j. is_replaced_by txid (state_at w j)) (below (length w.pending))
 
 -- the outpoint is that of a coin
@@ -45,15 +45,15 @@ abbrev pub is_mine : List Coin → Transaction → Bool
 is_mine coins t = list_all (λ (i : TxIn). is_coin coins i.prev) t.inputs
 
 -- at each place the parents that are Pending
-abbrev pub pending_graph : World → List (List ℕ)
+abbrev pub pending_graph : PendingView → List (List ℕ)
 pending_graph w = map (λ (t : Transaction). filter (is_pending w) (parents w.chain w.pending t)) w.pending
 
 -- the transaction at this place is mine and replaces none
-unfoldable pub is_own : World → List Coin → ℕ → Bool
+unfoldable pub is_own : PendingView → List Coin → ℕ → Bool
 is_own w coins j = is_mine coins (tx_at w j) && not (replaces w (txid_of (tx_at w j)))
 
 -- so are it and all that it reaches through Pending parents alone
-unfoldable pub is_safe : World → List Coin → ℕ → Bool
+unfoldable pub is_safe : PendingView → List Coin → ℕ → Bool
 is_safe w coins i = list_all (is_own w coins) (kin (pending_graph w) i)
 
 -- the greatest number that is given
@@ -61,11 +61,11 @@ abbrev pub most : ℕ
 most = 4_294_967_295
 
 -- the number of Pending ones among it and its ancestors
-abbrev pub ancestors : World → ℕ → ℕ
-ancestors w i = min most (count_by (is_pending w) (family w i))
+abbrev pub ancestors : PendingView → ℕ → ℕ
+ancestors w i = min most (count_by (is_pending w) (kin_of w i))
 
 -- the number of Pending ones among it and its descendants
-abbrev pub descendants : World → ℕ → ℕ
+abbrev pub descendants : PendingView → ℕ → ℕ
 descendants w i = min most (count_by (λ j. is_pending w j && within (graph w) (length (graph w)) j i) (below (length w.pending)))
 
 -- how many blocks deep a transaction of this height is; 0 if it has none
@@ -97,9 +97,9 @@ candidate_at w h tip c None place = record {
   script = c.script;
   depth = 0;
   mine = comes_from_mine h c;
-  safe = option_map_or (is_safe (world_of w h) (coins_of h)) place false;
-  ancestors = option_map_or (ancestors (world_of w h)) place 0;
-  descendants = option_map_or (descendants (world_of w h)) place 0;
+  safe = option_map_or (is_safe (view_of w h) (coins_of h)) place false;
+  ancestors = option_map_or (ancestors (view_of w h)) place 0;
+  descendants = option_map_or (descendants (view_of w h)) place 0;
 }
 
 abbrev pub candidate_of : PlainWallet → History → ℕ → Coin → Candidate
@@ -107,14 +107,14 @@ candidate_of w h tip c = candidate_at w h tip c c.height (place_in w.pending c.c
 
 -- the coin's transaction is Confirmed or Pending
 abbrev pub is_live : PlainWallet → History → Coin → Bool
-is_live w h c = is_some c.height || option_map_or (is_pending (world_of w h)) (place_in w.pending c.coin.txid) false
+is_live w h c = is_some c.height || option_map_or (is_pending (view_of w h)) (place_in w.pending c.coin.txid) false
 
 -- a confirmed transaction spends the outpoint
 abbrev pub is_spent : History → OutPoint → Bool
 is_spent h o = not (length (spends_of h.confirmed o) == 0)
 
 -- a Pending transaction spends the outpoint
-abbrev pub is_claimed : World → OutPoint → Bool
+abbrev pub is_claimed : PendingView → OutPoint → Bool
 is_claimed w o = list_any (λ i. is_pending w i && has_input o (tx_at w i).inputs) (below (length w.pending))
 
 -- the outpoint is locked
@@ -128,7 +128,7 @@ is_deep tip c = not c.coinbase || nat_le 101 (depth tip c.height)
 -- The coin may be spent.
 unfoldable pub is_candidate : PlainWallet → History → ℕ → Coin → Bool
 is_candidate w h tip c =
-    is_live w h c && (not (is_spent h c.coin) && (not (is_claimed (world_of w h) c.coin) && (not (is_locked w c.coin) && is_deep tip c)))
+    is_live w h c && (not (is_spent h c.coin) && (not (is_claimed (view_of w h) c.coin) && (not (is_locked w c.coin) && is_deep tip c)))
 
 -- the coins that may be spent in order of creation
 unfoldable pub candidates_of : PlainWallet → History → ℕ → List Candidate

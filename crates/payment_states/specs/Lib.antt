@@ -1,4 +1,5 @@
 pub mod BookOf
+pub mod ByPlace
 pub mod Candidates
 pub mod Causes
 pub mod Counts
@@ -7,5 +8,4 @@ pub mod Least
 pub mod Makers
 pub mod Offered
 pub mod Payments
-pub mod Steps
-pub mod World
+pub mod PendingView

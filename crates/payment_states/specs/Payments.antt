@@ -8,35 +8,35 @@ use Rattle.wallet_text.specs.PlainWallet.{PlainWallet}
 use Rattle.coin_book.specs.History.{Confirmed, History}
 use Rattle.coin_book.specs.Spends.{height_of, spend_at}
 use Rattle.payment_states.specs.Graph.{below}
-use Rattle.payment_states.specs.World.{World, world_of, tx_at, no_tx, family, shares, is_listed}
+use Rattle.payment_states.specs.PendingView.{PendingView, view_of, tx_at, no_tx, kin_of, shares, is_listed}
 use Rattle.payment_states.specs.declared.state.Payment.{Payment}
 use Rattle.payment_states.specs.declared.state.State.{State}
 use Rattle.payment_states.specs.declared.state.State.TheVariants as state
 
 -- the confirmed transaction at this place of the chain spends an outpoint that t spends
-abbrev pub clashes : List Confirmed → Transaction → ℕ → Bool
-clashes chain t place = list_any (λ (i : TxIn). is_some (spend_at chain i.prev place)) t.inputs
+abbrev pub conflicts_at : List Confirmed → Transaction → ℕ → Bool
+conflicts_at chain t place = list_any (λ (i : TxIn). is_some (spend_at chain i.prev place)) t.inputs
 
 -- the place in chain order of the first confirmed transaction that spends an outpoint which it or an ancestor spends
-unfoldable pub conflict : World → ℕ → Option ℕ
-conflict w i = find (λ place. list_any (λ j. clashes w.chain (tx_at w j) place) (family w i)) (below (length w.chain))
+unfoldable pub conflict : PendingView → ℕ → Option ℕ
+conflict w i = find (λ place. list_any (λ j. conflicts_at w.chain (tx_at w j) place) (kin_of w i)) (below (length w.chain))
 
 -- it or an ancestor is listed as abandoned
-unfoldable pub given_up : World → ℕ → Bool
-given_up w i = list_any (λ j. is_listed w.abandoned (txid_of (tx_at w j))) (family w i)
+unfoldable pub is_abandoned : PendingView → ℕ → Bool
+is_abandoned w i = list_any (λ j. is_listed w.abandoned (txid_of (tx_at w j))) (kin_of w i)
 
 -- it is neither confirmed nor conflicted nor abandoned
-unfoldable pub is_alive : World → ℕ → Bool
-is_alive w i = is_none (height_of w.chain (txid_of (tx_at w i))) && (is_none (conflict w i) && not (given_up w i))
+unfoldable pub is_alive : PendingView → ℕ → Bool
+is_alive w i = is_none (height_of w.chain (txid_of (tx_at w i))) && (is_none (conflict w i) && not (is_abandoned w i))
 
 -- the place of the first later transaction of the pending list that spends an outpoint of the one at place j and is
 -- alive
-unfoldable pub replacer : World → ℕ → Option ℕ
+unfoldable pub replacer : PendingView → ℕ → Option ℕ
 replacer w j = find (λ k. nat_lt j k && (shares (tx_at w j) (tx_at w k) && is_alive w k)) (below (length w.pending))
 
 -- of it and its ancestors the first in list order that has a replacer counts
-unfoldable pub replaced : World → ℕ → Option ℕ
-replaced w i = option_and_then (replacer w) (find (λ j. is_some (replacer w j)) (family w i))
+unfoldable pub replaced : PendingView → ℕ → Option ℕ
+replaced w i = option_and_then (replacer w) (find (λ j. is_some (replacer w j)) (kin_of w i))
 
 -- the txid of the pending transaction at a place
 abbrev pub txid_at : List Transaction → ℕ → List ℕ
@@ -48,31 +48,31 @@ txid_in chain place = option_map (λ (c : Confirmed). txid_of c.tx) (slice_get c
 
 -- the first state that applies
 abbrev pub first_of : Option ℕ → Option (List ℕ) → Bool → Option (List ℕ) → State
-first_of (Some height) conflicted given_up replaced = state.Confirmed height
-first_of None (Some by) given_up replaced = state.Conflicted by
+first_of (Some height) conflicted abandoned replaced = state.Confirmed height
+first_of None (Some by) abandoned replaced = state.Conflicted by
 first_of None None true replaced = state.Abandoned
 first_of None None false (Some by) = state.Replaced by
 first_of None None false None = state.Pending
 
 -- the state of the pending transaction at a place
-unfoldable pub state_at : World → ℕ → State
+unfoldable pub state_at : PendingView → ℕ → State
 state_at w i = first_of
     (height_of w.chain (txid_of (tx_at w i)))
     (option_and_then (txid_in w.chain) (conflict w i))
-    (given_up w i)
+    (is_abandoned w i)
     (option_map (txid_at w.pending) (replaced w i))
 
 -- its txid and its state
-abbrev pub payment_at : World → ℕ → Payment
+abbrev pub payment_at : PendingView → ℕ → Payment
 payment_at w i = record { txid = txid_of (tx_at w i); state = state_at w i }
 
 -- the transactions of the pending list in order, each with its state
-abbrev pub payments_in : World → List Payment
+abbrev pub payments_in : PendingView → List Payment
 payments_in w = map (payment_at w) (below (length w.pending))
 
 -- those of a wallet and its book
 unfoldable pub payments_of : PlainWallet → History → List Payment
-payments_of w h = payments_in (world_of w h)
+payments_of w h = payments_in (view_of w h)
 
 -- the state of the first payment of this txid
 abbrev pub state_of : List Payment → List ℕ → Option State

@@ -5,7 +5,7 @@ ghost use Rattle.std.specs.List.{list_any};
 ghost use Rattle.payment_states.specs.Counts.{downs, is_counted, ups};
 ghost use Rattle.payment_states.specs.Graph.{IsInOrder, below, steps, within};
 
-use crate::kin::Parents;
+use crate::ancestry::Parents;
 use fund_base::Memory;
 use std::alloc::Global;
 

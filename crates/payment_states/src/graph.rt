@@ -3,10 +3,10 @@
 ghost use Rattle.std.specs.Prelude.{◌≡◌, IfOk, map, vec_len, length};
 ghost use Rattle.tx_codec.specs.Txid.{txid_of};
 ghost use Rattle.wallet_text.specs.WalletRules.{AreDistinct};
-ghost use Rattle.payment_states.specs.Steps.{parents_by, place_by};
-ghost use Rattle.payment_states.specs.World.{parents};
+ghost use Rattle.payment_states.specs.ByPlace.{parents_by, place_by};
+ghost use Rattle.payment_states.specs.PendingView.{parents};
 
-use crate::kin::Parents;
+use crate::ancestry::Parents;
 use coin_book::Book;
 use fund_base::{Memory, Txid};
 use indexmap::IndexSet;

@@ -19,7 +19,7 @@ ghost use Rattle.payment_states.specs.Graph.{IsInOrder, Reaches, steps, within};
 ghost use Rattle.payment_states.specs.Makers.{HasMaker};
 ghost use Rattle.payment_states.specs.Offered.{MayBeSpent};
 ghost use Rattle.payment_states.specs.Payments.{payments_in, payments_of, state_at, state_of};
-ghost use Rattle.payment_states.specs.World.{World, graph, tx_at, world_of};
+ghost use Rattle.payment_states.specs.PendingView.{PendingView, graph, tx_at, view_of};
 ghost use Rattle.payment_states.specs.declared.state.State.{State};
 
 /// The law of ancestry: where parents stand before their children, as many steps as there are transactions reach all
@@ -30,42 +30,42 @@ pub fn reaches_by_steps()
 
 /// The law of looking states up: each transaction of the pending list has its own, and no other txid has one.
 pub fn finds_states()
-    ensures own { (w : World) (i : ℕ) → AreDistinct w.pending → i < length w.pending → state_of (payments_in w) (txid_of (tx_at w i)) ≡ Some (state_at w i) }
-    ensures none { (w : World) (txid : List ℕ) → (state_of (payments_in w) txid ≡ None) ↔ All (λ (t : Transaction). txid_of t ≢ txid) w.pending }
+    ensures own { (w : PendingView) (i : ℕ) → AreDistinct w.pending → i < length w.pending → state_of (payments_in w) (txid_of (tx_at w i)) ≡ Some (state_at w i) }
+    ensures none { (w : PendingView) (txid : List ℕ) → (state_of (payments_in w) txid ≡ None) ↔ All (λ (t : Transaction). txid_of t ≢ txid) w.pending }
 {}
 
 /// The law of parents: they are the transactions of the pending list that no confirmed one has the txid of, and an
 /// output of which some input spends.
 pub fn parents_by_inputs()
-    ensures { (w : World) (i p : ℕ) → AreDistinct w.pending → i < length w.pending → Contains (steps (graph w) i) p ↔ ((p < length w.pending) × (height_of w.chain (txid_of (tx_at w p)) ≡ None) × Any (λ (x : TxIn). x.prev.txid ≡ txid_of (tx_at w p)) (tx_at w i).inputs) }
+    ensures { (w : PendingView) (i p : ℕ) → AreDistinct w.pending → i < length w.pending → Contains (steps (graph w) i) p ↔ ((p < length w.pending) × (height_of w.chain (txid_of (tx_at w p)) ≡ None) × Any (λ (x : TxIn). x.prev.txid ≡ txid_of (tx_at w p)) (tx_at w i).inputs) }
 {}
 
 /// The law of safety: a transaction of the pending list is safe exactly where every input spends a coin of the book, no
 /// payment is replaced by it, and each parent that is Pending is safe.
 pub fn safe_by_parents()
-    ensures { (w : World) (coins : List Coin) (i : ℕ) → ParentsComeFirst w.pending → i < length w.pending → is_safe w coins i ≡ ((is_mine coins (tx_at w i) && not (replaces w (txid_of (tx_at w i)))) && list_all (is_safe w coins) (steps (pending_graph w) i)) }
+    ensures { (w : PendingView) (coins : List Coin) (i : ℕ) → ParentsComeFirst w.pending → i < length w.pending → is_safe w coins i ≡ ((is_mine coins (tx_at w i) && not (replaces w (txid_of (tx_at w i)))) && list_all (is_safe w coins) (steps (pending_graph w) i)) }
 {}
 
 /// The law of Pending payments: no confirmed transaction spends an outpoint that one spends, each of its parents is
 /// Pending too, and no other Pending payment spends an outpoint that it spends.
 pub fn pending_stands_clear()
-    ensures inputs { (w : World) (i : ℕ) → ParentsComeFirst w.pending → i < length w.pending → is_pending w i ≡ true → All (λ (x : TxIn). spends_of w.chain x.prev ≡ []) (tx_at w i).inputs }
-    ensures parents { (w : World) (i : ℕ) → AreDistinct w.pending → ParentsComeFirst w.pending → i < length w.pending → is_pending w i ≡ true → (p : ℕ) → Contains (steps (graph w) i) p → is_pending w p ≡ true }
-    ensures apart { (w : World) (o : OutPoint) (i k : ℕ) → ParentsComeFirst w.pending → i < length w.pending → k < length w.pending → is_pending w i ≡ true → is_pending w k ≡ true → has_input o (tx_at w i).inputs ≡ true → has_input o (tx_at w k).inputs ≡ true → i ≡ k }
+    ensures inputs { (w : PendingView) (i : ℕ) → ParentsComeFirst w.pending → i < length w.pending → is_pending w i ≡ true → All (λ (x : TxIn). spends_of w.chain x.prev ≡ []) (tx_at w i).inputs }
+    ensures parents { (w : PendingView) (i : ℕ) → AreDistinct w.pending → ParentsComeFirst w.pending → i < length w.pending → is_pending w i ≡ true → (p : ℕ) → Contains (steps (graph w) i) p → is_pending w p ≡ true }
+    ensures apart { (w : PendingView) (o : OutPoint) (i k : ℕ) → ParentsComeFirst w.pending → i < length w.pending → k < length w.pending → is_pending w i ≡ true → is_pending w k ≡ true → has_input o (tx_at w i).inputs ≡ true → has_input o (tx_at w k).inputs ≡ true → i ≡ k }
 {}
 
 /// The law of states: there is a payment for each transaction of the pending list, and it has a state exactly where
 /// that state's cause is there. The causes speak of inputs, of the chain and of ways from child to parent.
 pub fn states_by_causes()
     ensures count { (w : PlainWallet) (h : History) → length (payments_of w h) ≡ length w.pending }
-    ensures exact { (w : PlainWallet) (h : History) (i : ℕ) (s : State) → AreDistinct w.pending → ParentsComeFirst w.pending → i < length w.pending → (slice_get (payments_of w h) i ≡ Some (record { txid = txid_of (tx_at (world_of w h) i); state = s })) ↔ HasCause (world_of w h) i s }
+    ensures exact { (w : PlainWallet) (h : History) (i : ℕ) (s : State) → AreDistinct w.pending → ParentsComeFirst w.pending → i < length w.pending → (slice_get (payments_of w h) i ≡ Some (record { txid = txid_of (tx_at (view_of w h) i); state = s })) ↔ HasCause (view_of w h) i s }
 {}
 
 /// The law of the numbers: they are those of the Pending ones among a payment and its ancestors, and among those of
 /// which it is one, each counted once.
 pub fn counts_by_ways()
-    ensures ancestors { (w : World) (i : ℕ) (places : List ℕ) → AreDistinct w.pending → ParentsComeFirst w.pending → i < length w.pending → AllPairs (λ (a b : ℕ). a < b) places → ((j : ℕ) → Contains places j ↔ (IsKin w i j × HasCause w j State.Pending)) → ancestors w i ≡ min 4294967295 (length places) }
-    ensures descendants { (w : World) (i : ℕ) (places : List ℕ) → AreDistinct w.pending → ParentsComeFirst w.pending → i < length w.pending → AllPairs (λ (a b : ℕ). a < b) places → ((j : ℕ) → Contains places j ↔ ((j < length w.pending) × IsKin w j i × HasCause w j State.Pending)) → descendants w i ≡ min 4294967295 (length places) }
+    ensures ancestors { (w : PendingView) (i : ℕ) (places : List ℕ) → AreDistinct w.pending → ParentsComeFirst w.pending → i < length w.pending → AllPairs (λ (a b : ℕ). a < b) places → ((j : ℕ) → Contains places j ↔ (IsKin w i j × HasCause w j State.Pending)) → ancestors w i ≡ min 4294967295 (length places) }
+    ensures descendants { (w : PendingView) (i : ℕ) (places : List ℕ) → AreDistinct w.pending → ParentsComeFirst w.pending → i < length w.pending → AllPairs (λ (a b : ℕ). a < b) places → ((j : ℕ) → Contains places j ↔ ((j < length w.pending) × IsKin w j i × HasCause w j State.Pending)) → descendants w i ≡ min 4294967295 (length places) }
 {}
 
 /// The law of candidates: a coin may be spent exactly where each of the rules holds.

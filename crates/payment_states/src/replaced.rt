@@ -8,10 +8,10 @@ ghost use Rattle.tx_codec.specs.declared.tx.TxIn.{TxIn};
 ghost use Rattle.coin_book.specs.Spends.{has_input};
 ghost use Rattle.payment_states.specs.Graph.{below};
 ghost use Rattle.payment_states.specs.Least.{least_by, value_at};
-ghost use Rattle.payment_states.specs.Steps.{place_if, replacer_by};
+ghost use Rattle.payment_states.specs.ByPlace.{place_if, replacer_by};
 
-use crate::alive::place_if;
-use crate::kin::lesser;
+use crate::abandoned::place_if;
+use crate::ancestry::lesser;
 use fund_base::{Memory, OutPoint};
 use indexmap::IndexMap;
 use std::alloc::Global;

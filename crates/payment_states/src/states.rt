@@ -7,13 +7,13 @@ ghost use Rattle.payment_states.specs.BookOf.{IsBookOf};
 ghost use Rattle.payment_states.specs.Payments.{first_of, payments_in, payments_of, state_of};
 ghost use Rattle.payment_states.specs.Graph.{below};
 ghost use Rattle.payment_states.specs.Least.{value_at};
-ghost use Rattle.payment_states.specs.Steps.{payment_by, place_among, world};
+ghost use Rattle.payment_states.specs.ByPlace.{payment_by, place_among, view_by};
 ghost use Rattle.payment_states.specs.declared.state.Payment.{Payment};
 
-use crate::alive::{alive_of, given_up, heights_of};
-use crate::clash::conflicts;
+use crate::abandoned::{abandoned_of, alive_of, heights_of};
+use crate::ancestry::least_of_kin;
+use crate::conflicts::conflicts_of;
 use crate::graph::{graph_of, set_of, txids_of};
-use crate::kin::least_of_kin;
 use crate::replaced::{places_with, replacers};
 use crate::state::{Payment, State};
 use coin_book::Book;
@@ -113,12 +113,12 @@ fn name_at(txids: &[Txid], place: Option<u64>) -> Option<Txid>
 fn first_of(
     height: Option<u32>,
     conflict: Option<Txid>,
-    given_up: bool,
+    abandoned: bool,
     replaced: Option<Txid>,
 ) -> State
-    ensures { result ≡ first_of height conflict given_up replaced }
+    ensures { result ≡ first_of height conflict abandoned replaced }
 {
-    match (height, conflict, given_up, replaced) {
+    match (height, conflict, abandoned, replaced) {
         (Some(height), _, _, _) => State::Confirmed(height),
         (None, Some(by), _, _) => State::Conflicted(by),
         (None, None, true, _) => State::Abandoned,
@@ -133,20 +133,20 @@ fn payments(
     txids: &[Txid],
     heights: &[Option<u32>],
     conflicts: &[Option<Txid>],
-    given: &[bool],
+    abandoned: &[bool],
     found: &[Option<u64>],
     firsts: &[Option<u64>],
 ) -> Result<Vec<Payment>, Memory>
     requires heights { length heights.now ≡ length txids.now }
     requires conflicts { length conflicts.now ≡ length txids.now }
-    requires given { length given.now ≡ length txids.now }
+    requires abandoned { length abandoned.now ≡ length txids.now }
     requires firsts { length firsts.now ≡ length txids.now }
-    ensures { IfOk result (λ v. v.items ≡ map (payment_by txids.now heights.now conflicts.now given.now found.now firsts.now) (below (length txids.now))) }
+    ensures { IfOk result (λ v. v.items ≡ map (payment_by txids.now heights.now conflicts.now abandoned.now found.now firsts.now) (below (length txids.now))) }
 {
     let mut payments = Vec::new(alloc);
     for place in 0..txids.len() {
         let by = name_at(txids, value_of(found, firsts[place]));
-        let state = first_of(heights[place], conflicts[place], given[place], by);
+        let state = first_of(heights[place], conflicts[place], abandoned[place], by);
         payments.push(Payment {
             txid: txids[place],
             state,
@@ -167,17 +167,25 @@ fn payments_of(
     requires parents { ParentsComeFirst pending.now }
     requires set { set.now.keys ≡ map txid_of pending.now }
     requires txids { txids.now ≡ map txid_of pending.now }
-    ensures { IfOk result (λ v. v.items ≡ payments_in (world book.now.confirmed pending.now abandoned.now)) }
+    ensures { IfOk result (λ v. v.items ≡ payments_in (view_by book.now.confirmed pending.now abandoned.now)) }
 {
     let parents = graph_of(alloc, book, set, pending)?;
     let heights = heights_of(alloc, book, txids)?;
-    let conflicted = conflicts(alloc, book, &parents, pending)?;
-    let given = given_up(alloc, &parents, txids, abandoned)?;
-    let alive = alive_of(alloc, &heights, &conflicted, &given)?;
+    let conflicted = conflicts_of(alloc, book, &parents, pending)?;
+    let abandoned_at = abandoned_of(alloc, &parents, txids, abandoned)?;
+    let alive = alive_of(alloc, &heights, &conflicted, &abandoned_at)?;
     let found = replacers(alloc, pending, &alive)?;
     let own = places_with(alloc, &found)?;
     let firsts = least_of_kin(alloc, &parents, &own)?;
-    let list = payments(alloc, txids, &heights, &conflicted, &given, &found, &firsts)?;
+    let list = payments(
+        alloc,
+        txids,
+        &heights,
+        &conflicted,
+        &abandoned_at,
+        &found,
+        &firsts,
+    )?;
     Ok(list)
 }
 
@@ -190,7 +198,7 @@ fn states_of(
 ) -> Result<States, Memory>
     requires distinct { AreDistinct pending.now }
     requires parents { ParentsComeFirst pending.now }
-    ensures { IfOk result (λ s. s ≡ payments_in (world book.now.confirmed pending.now abandoned.now)) }
+    ensures { IfOk result (λ s. s ≡ payments_in (view_by book.now.confirmed pending.now abandoned.now)) }
 {
     let names = txids_of(alloc, pending)?;
     let txids = set_of(alloc, pending, &names)?;

@@ -1,7 +1,7 @@
 use Rattle.std.proofs.Common.{◌≡◌, ◌∙◌, ℕ, ◌-◌, ◌<◌, ◌==◌, ◌||◌, Bool, true, false, length, set, get_or, refl, arith}
 use Rattle.std.proofs.lemmas.Bool.{ne_eqb}
 use Rattle.payment_states.proofs.CountSteps.{set_mark}
-use Rattle.payment_states.proofs.Known.{known_end, known_start, known_step}
+use Rattle.payment_states.proofs.MarkSteps.{known_end, known_start, known_step}
 use Rattle.payment_states.proofs.counts.mark_kin.Goals as goal
 
 or_false : (b : Bool) (c : Bool) → c ≡ false → (b || c) ≡ b

@@ -1,6 +1,6 @@
 use Rattle.std.proofs.Common.{◌≡◌, ◌<◌, ◌≤◌, ◌+◌, ℕ, false}
 use Rattle.std.specs.Prelude.{slice_index_or}
-use Rattle.payment_states.proofs.Known.{AreMarks}
+use Rattle.payment_states.proofs.MarkSteps.{AreMarks}
 use Rattle.payment_states.proofs.counts.mark_kin.Given as goal
 
 abbrev pub invariant-loop-low : goal.invariant-loop-low

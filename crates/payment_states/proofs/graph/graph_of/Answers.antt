@@ -1,8 +1,8 @@
 use Rattle.std.proofs.Common.{◌≡◌, ◌∙◌, [], ◌∷◌, ◌++◌, get_or, sym, ap, arith}
 use Rattle.std.proofs.lemmas.List.{map_more}
 use Rattle.tx_codec.specs.Transaction.{Transaction}
-use Rattle.payment_states.specs.Steps.{parents_by}
-use Rattle.payment_states.specs.World.{parents}
+use Rattle.payment_states.specs.ByPlace.{parents_by}
+use Rattle.payment_states.specs.PendingView.{parents}
 use Rattle.payment_states.proofs.GraphSteps.{parents_are}
 use Rattle.payment_states.proofs.graph.graph_of.Goals as goal
 

@@ -1,5 +1,5 @@
 use Rattle.std.proofs.Common.{◌≡◌, map, take, vec_len}
-use Rattle.payment_states.specs.World.{parents}
+use Rattle.payment_states.specs.PendingView.{parents}
 use Rattle.payment_states.proofs.graph.graph_of.Given as goal
 
 abbrev pub invariant-loop-tx : goal.invariant-loop-tx

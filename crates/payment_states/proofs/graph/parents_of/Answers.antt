@@ -2,7 +2,7 @@ use Rattle.std.proofs.Common.{◌≡◌, ◌∙◌, ℕ, ◌++◌, Option, Vec, 
 use Rattle.std.specs.Option.{option_to_list}
 use Rattle.std.proofs.lemmas.List.{append-nil}
 use Rattle.tx_codec.specs.declared.tx.TxIn.{TxIn}
-use Rattle.payment_states.specs.Steps.{place_by}
+use Rattle.payment_states.specs.ByPlace.{place_by}
 use Rattle.payment_states.proofs.GraphSteps.{filter_map_more}
 use Rattle.payment_states.proofs.graph.parents_of.Goals as goal
 use Rattle.payment_states.proofs.graph.parents_of.Goals.{in-Some+in_ok-push-in-Some, in-None}

@@ -1,5 +1,5 @@
 use Rattle.std.proofs.Common.{◌≡◌, take}
-use Rattle.payment_states.specs.Steps.{parents_by}
+use Rattle.payment_states.specs.ByPlace.{parents_by}
 use Rattle.payment_states.proofs.graph.parents_of.Given as goal
 
 abbrev pub invariant-loop-input : goal.invariant-loop-input

@@ -2,7 +2,7 @@ use Rattle.std.proofs.Common.{◌∙◌, ℕ, [], ◌∷◌, ◌++◌, Option, s
 use Rattle.std.specs.Prelude.{is_some}
 use Rattle.payment_states.specs.Graph.{below}
 use Rattle.payment_states.specs.Least.{value_at}
-use Rattle.payment_states.specs.Steps.{place_if}
+use Rattle.payment_states.specs.ByPlace.{place_if}
 use Rattle.payment_states.proofs.Below.{map_below_more}
 use Rattle.payment_states.proofs.replaced.places_with.Goals as goal
 

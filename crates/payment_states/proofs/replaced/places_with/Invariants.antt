@@ -2,7 +2,7 @@ use Rattle.std.proofs.Common.{◌≡◌, map, vec_len}
 use Rattle.std.specs.Prelude.{is_some}
 use Rattle.payment_states.specs.Graph.{below}
 use Rattle.payment_states.specs.Least.{value_at}
-use Rattle.payment_states.specs.Steps.{place_if}
+use Rattle.payment_states.specs.ByPlace.{place_if}
 use Rattle.payment_states.proofs.replaced.places_with.Given as goal
 
 abbrev pub invariant-loop-place : goal.invariant-loop-place

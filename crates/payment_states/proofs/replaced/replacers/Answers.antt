@@ -9,8 +9,8 @@ use Rattle.tx_codec.specs.declared.tx.TxIn.{TxIn}
 use Rattle.coin_book.specs.Spends.{has_input}
 use Rattle.payment_states.specs.Graph.{below}
 use Rattle.payment_states.specs.Least.{least_by}
-use Rattle.payment_states.specs.Steps.{replacer_by}
-use Rattle.payment_states.specs.World.{no_tx}
+use Rattle.payment_states.specs.ByPlace.{replacer_by}
+use Rattle.payment_states.specs.PendingView.{no_tx}
 use Rattle.payment_states.proofs.Below.{get_or-map_below, length-map_below}
 use Rattle.payment_states.proofs.BackSteps.{replacer_found, spender, spender_none, spender_step}
 use Rattle.payment_states.proofs.LeastSteps.{least_agree}

@@ -2,7 +2,7 @@ use Rattle.std.proofs.Common.{◌≡◌, ◌<◌, ◌≤◌, ℕ, None, length, 
 use Rattle.std.specs.Map.{lookup}
 use Rattle.fund_base.specs.Outpoints.{same_outpoint}
 use Rattle.fund_base.specs.declared.outpoint.OutPoint.{OutPoint}
-use Rattle.payment_states.specs.Steps.{replacer_by}
+use Rattle.payment_states.specs.ByPlace.{replacer_by}
 use Rattle.payment_states.proofs.BackSteps.{spender}
 use Rattle.payment_states.proofs.replaced.replacers.Given as goal
 

@@ -1,6 +1,6 @@
 use Rattle.std.proofs.Common.{◌∙◌, ℕ, List, ap}
 use Rattle.std.specs.Prelude.{bytes_eq, position}
-use Rattle.payment_states.specs.Steps.{place_among}
+use Rattle.payment_states.specs.ByPlace.{place_among}
 use Rattle.payment_states.specs.declared.state.Payment.{Payment}
 use Rattle.payment_states.proofs.Positions.{position-map}
 use Rattle.payment_states.proofs.states.States.place.Goals as goal

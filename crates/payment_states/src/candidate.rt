@@ -1,0 +1,61 @@
+//! What is known of a coin.
+
+ghost use Rattle.std.specs.Prelude.{◌≡◌, ◌<◌, IfOk};
+ghost use Rattle.payment_states.specs.ByPlace.{candidate_by, standing_by};
+
+use crate::own_coins::{Standing, comes_from_mine, flag_at, number_at};
+use coin_book::{Book, Coin};
+use fund_base::{Candidate, Memory};
+use std::alloc::Global;
+
+/// How a coin stands whose transaction has this height, or waits at this place of the pending list.
+pub fn standing(
+    tip: u32,
+    safe: &[bool],
+    ancestors: &[u32],
+    descendants: &[u32],
+    height: Option<u32>,
+    place: Option<usize>,
+) -> Standing
+    requires { tip < 4294967295 }
+    ensures { result ≡ standing_by tip safe.now ancestors.now descendants.now height place }
+{
+    match height {
+        Some(height) => Standing {
+            depth: (tip + 1).saturating_sub(height),
+            safe: true,
+            ancestors: 0,
+            descendants: 0,
+        },
+        None => Standing {
+            depth: 0,
+            safe: flag_at(safe, place),
+            ancestors: number_at(ancestors, place),
+            descendants: number_at(descendants, place),
+        },
+    }
+}
+
+/// The coin, with how it stands.
+pub fn described(
+    alloc: Global,
+    book: &Book,
+    coin: &Coin,
+    standing: Standing,
+) -> Result<Candidate, Memory>
+    ensures { IfOk result (λ c. c ≡ candidate_by book.now coin.now standing) }
+{
+    let script = coin.script.copy(alloc)?;
+    let mine = comes_from_mine(book, coin);
+    Ok(Candidate {
+        coin: coin.coin,
+        value: coin.value,
+        weight: coin.weight,
+        script,
+        depth: standing.depth,
+        mine,
+        safe: standing.safe,
+        ancestors: standing.ancestors,
+        descendants: standing.descendants,
+    })
+}

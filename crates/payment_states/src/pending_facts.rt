@@ -1,0 +1,77 @@
+//! What is known of the pending list, before its coins are looked at.
+
+ghost use Rattle.std.specs.Prelude.{◌≡◌, ◌<◌, ℕ, IfOk, true, false, length, map, vec_len, slice_index_or};
+ghost use Rattle.coin_book.specs.Coins.{coins_of};
+ghost use Rattle.payment_states.specs.BookOf.{IsBookOf};
+ghost use Rattle.payment_states.specs.Candidates.{ancestors, descendants, is_pending, is_safe};
+ghost use Rattle.payment_states.specs.Graph.{below};
+ghost use Rattle.payment_states.specs.Payments.{payments_of};
+ghost use Rattle.payment_states.specs.PendingView.{graph, view_of};
+
+use crate::abandoned::which_not;
+use crate::ancestry::{Parents, least_of_kin};
+use crate::claims::{doubts_of, kept_graph, pending_of, replacers_of};
+use crate::counts::numbers;
+use crate::graph::graph_of;
+use crate::states::States;
+use coin_book::Book;
+use fund_base::Memory;
+use std::alloc::Global;
+use wallet_text::Wallet;
+
+/// At each place of the pending list: whether its transaction is Pending and safe, and how many Pending ancestors and
+/// descendants it has, itself included.
+#[derive(Drop)]
+pub struct Facts {
+    pub pending: Vec<bool>,
+    pub safe: Vec<bool>,
+    pub ancestors: Vec<u32>,
+    pub descendants: Vec<u32>,
+}
+
+/// Whether each transaction of the pending list is safe.
+fn safe_of(
+    alloc: Global,
+    book: &Book,
+    wallet: &Wallet,
+    states: &States,
+    parents: &[Parents],
+    pending: &[bool],
+) -> Result<Vec<bool>, Memory>
+    requires states { states.now ≡ payments_of wallet.now book.now }
+    requires parents { parents.now ≡ graph (view_of wallet.now book.now) }
+    requires pending { pending.now ≡ map (is_pending (view_of wallet.now book.now)) (below (length wallet.now.pending)) }
+    ensures { IfOk result (λ v. v.items ≡ map (is_safe (view_of wallet.now book.now) (coins_of book.now)) (below (length wallet.now.pending))) }
+{
+    let replacers = replacers_of(alloc, states.payments())?;
+    let doubts = doubts_of(alloc, book, &wallet.pending, states.payments(), &replacers)?;
+    let graph = kept_graph(alloc, parents, pending)?;
+    let least = least_of_kin(alloc, &graph, &doubts)?;
+    let safe = which_not(alloc, &least)?;
+    Ok(safe)
+}
+
+/// What is known of the pending list.
+pub fn facts_of(
+    alloc: Global,
+    book: &Book,
+    wallet: &Wallet,
+    states: &States,
+) -> Result<Facts, Memory>
+    requires states { states.now ≡ payments_of wallet.now book.now }
+    ensures pending { IfOk result (λ f. f.pending.items ≡ map (is_pending (view_of wallet.now book.now)) (below (length wallet.now.pending))) }
+    ensures safe { IfOk result (λ f. f.safe.items ≡ map (is_safe (view_of wallet.now book.now) (coins_of book.now)) (below (length wallet.now.pending))) }
+    ensures ancestors { (i : ℕ) → i < length wallet.now.pending → is_pending (view_of wallet.now book.now) i ≡ true → IfOk result (λ f. slice_index_or f.ancestors.items i 0 ≡ ancestors (view_of wallet.now book.now) i) }
+    ensures descendants { (i : ℕ) → IfOk result (λ f. slice_index_or f.descendants.items i 0 ≡ descendants (view_of wallet.now book.now) i) }
+{
+    let parents = graph_of(alloc, book, states.txids(), &wallet.pending)?;
+    let pending = pending_of(alloc, states.payments())?;
+    let safe = safe_of(alloc, book, wallet, states, &parents, &pending)?;
+    let counts = numbers(alloc, &parents, &pending)?;
+    Ok(Facts {
+        pending,
+        safe,
+        ancestors: counts.ancestors,
+        descendants: counts.descendants,
+    })
+}
