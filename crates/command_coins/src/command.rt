@@ -1,12 +1,13 @@
 //! The command.
 
-ghost use Rattle.std.specs.Prelude.{◌≡◌, IfErr, IfOk, string_bytes};
-ghost use Rattle.fund_base.specs.Causes.{CountsNeverFall, OnlyReads};
-ghost use Rattle.fund_files.specs.FileStops.{StopsChain};
+ghost use Rattle.std.specs.Prelude.{◌≡◌, [], ◌∷◌, true, IfErr, IfOk, string_bytes};
+ghost use Rattle.fund_base.specs.Causes.{Asks, CountsNeverFall, OnlyReads};
+ghost use Rattle.fund_files.specs.Cause.{FileCause};
+ghost use Rattle.fund_files.specs.FileStops.{IsWalletCause, StopsChain, is_of_wallet};
 ghost use Rattle.command_end.specs.Names.{plain_sources};
 ghost use Rattle.command_coins.specs.Answer.{IsStopped};
 ghost use Rattle.command_coins.specs.Due.{name_of};
-ghost use Rattle.command_coins.specs.Statuses.{Ends, IsListed};
+ghost use Rattle.command_coins.specs.Statuses.{AsksToUnread, Ends, IsListed};
 
 use crate::listing::listing_text;
 use command_end::{Sources, Status, put_report, refuse_file, refuse_read, want_of_memory};
@@ -19,6 +20,9 @@ fn listed<H: Shelf>(alloc: Global, sources: &Sources, shelf: &mut H) -> Result<S
     ensures lists { IfOk result (λ text. IsListed H.tells (H.view shelf.old).files (plain_sources sources.now) (string_bytes text)) }
     ensures frame { OnlyReads H.tells (H.view shelf.old) (H.view shelf.new) }
     ensures stop { IfErr result (StopsChain H.tells sources.now.wallet.now sources.now.blocks.now (H.view shelf.old) (H.view shelf.new)) }
+    ensures asked { H.tells → Asks (sources.now.wallet.now ∷ sources.now.blocks.now ∷ []) (H.view shelf.old).asked (H.view shelf.new).asked }
+    ensures wallet_alone { H.tells → IfErr result (λ stop. is_of_wallet stop ≡ true → Asks (sources.now.wallet.now ∷ []) (H.view shelf.old).asked (H.view shelf.new).asked) }
+    ensures refused_alone { H.tells → (cause : FileCause) → IsWalletCause ((H.view shelf.old).files sources.now.wallet.now) cause → Asks (sources.now.wallet.now ∷ []) (H.view shelf.old).asked (H.view shelf.new).asked }
 {
     let held = read_chain(alloc, sources.wallet, sources.blocks, shelf)?;
     match listing_text(alloc, &held) {
@@ -64,6 +68,12 @@ pub fn coins<H: Shelf, O: Sink>(
     ensures ends { Ends H.tells O.tells (plain_sources sources.now) (H.view shelf.old) (H.view shelf.new) (O.view out.old) (O.view out.new) result }
     // Nothing is written.
     ensures frame { OnlyReads H.tells (H.view shelf.old) (H.view shelf.new) }
+
+    // It asks for the wallet file, and then for the block file; for none after one that wasn't read, and for none after a
+    // wallet file that is refused.
+    ensures asked { H.tells → Asks (sources.now.wallet.now ∷ sources.now.blocks.now ∷ []) (H.view shelf.old).asked (H.view shelf.new).asked }
+    ensures unread_last { H.tells → result ≡ Status.ReadFault → AsksToUnread (plain_sources sources.now) (H.view shelf.old) (H.view shelf.new) }
+    ensures refused_alone { H.tells → (cause : FileCause) → IsWalletCause ((H.view shelf.old).files sources.now.wallet.now) cause → Asks (sources.now.wallet.now ∷ []) (H.view shelf.old).asked (H.view shelf.new).asked }
     ensures counts { CountsNeverFall (O.view out.old) (O.view out.new) }
 {
     match listed(alloc, sources, shelf) {

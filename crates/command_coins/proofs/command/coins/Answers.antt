@@ -1,5 +1,6 @@
 use Rattle.std.proofs.Common.{string_bytes}
 use Rattle.command_end.specs.Names.{plain_sources}
+use Rattle.command_coins.proofs.AskingLaws.{printed_read, stopped_asks}
 use Rattle.command_coins.proofs.ListingLaws.{listing_ends}
 use Rattle.command_coins.proofs.command.coins.Goals as goal
 
@@ -7,3 +8,11 @@ pub returns-in-Ok-clause-ends : goal.returns-in-Ok-clause-ends
 returns-in-Ok-clause-ends g c =
     listing_ends _ _ (plain_sources c.args.sources.now) (string_bytes c.in-Ok.text) (g.H.Shelf.view c.args.shelf.now) (g.H.Shelf.view c.listed.new.shelf) (g.O.Sink.view c.args.out.now) (g.O.Sink.view c.put_report.new.out) c.put_report.result c.in-Ok.ensures.lists
     (rw c.as_bytes.ensures.value at c.put_report.ensures.ends)
+
+pub returns-in-Ok-clause-unread_last : goal.returns-in-Ok-clause-unread_last
+returns-in-Ok-clause-unread_last g c = λ t is. absurd (printed_read _ _ (g.O.Sink.view c.args.out.now) (g.O.Sink.view c.put_report.new.out) c.put_report.result c.put_report.ensures.ends is)
+
+pub returns-in-Err-clause-unread_last : goal.returns-in-Err-clause-unread_last
+returns-in-Err-clause-unread_last g c = λ t is.
+    stopped_asks _ _ (plain_sources c.args.sources.now) c.in-Err.stop (g.H.Shelf.view c.args.shelf.now) (g.H.Shelf.view c.listed.new.shelf) (g.O.Sink.view c.args.out.now) (g.O.Sink.view c.answer.new.out) c.answer.result c.in-Err.ensures.stop c.answer.ensures.line
+    (c.in-Err.ensures.asked t) (c.in-Err.ensures.wallet_alone t) is
