@@ -1,5 +1,5 @@
 #!/usr/bin/env bash
-# Times draws among 1,000 and 10,000 items by crates/bench_draw, beside a plain shuffle and fold in Rust (bench/peers/draw.rs),
+# Times draws among 1,000 and 10,000 items by crates/bench_all, beside a plain shuffle and fold in Rust (bench/peers/draw.rs),
 # under a limit that all items meet, half of them, a twentieth, and none. Prints the best of five processor times of a draw
 # each, in microseconds. A step that fails ends it with a non-zero status; a time never does.
 #
@@ -8,15 +8,14 @@ set -euo pipefail
 export LC_ALL=C
 
 top=$(cd "$(dirname "$0")/.." && pwd)
-program=$top/crates/bench_draw/out/bench_draw
+program=$top/crates/bench_all/out/bench_all
 folder=$(mktemp -d)
 trap 'rm -rf "$folder"' EXIT
 
-# Proves and builds the program, runs it on its own words, and builds the peer.
-cd "$top/crates/bench_draw"
-rt run >"$folder/small.txt" 2>"$folder/build.log" || { cat "$folder/build.log" >&2; exit 1; }
-mapfile -t words <args
-"$program" "${words[@]}" | cmp - stdout
+# Proves and builds the program, draws among a few items, and builds the peer.
+cd "$top/crates/bench_all"
+rt run -- draw 1000 500 3 >"$folder/small.txt" 2>"$folder/build.log" || { cat "$folder/build.log" >&2; exit 1; }
+grep -qxF "$(cat "$folder/small.txt")" stdout
 rustc -O "$top/bench/peers/draw.rs" -o "$folder/peer"
 
 # best COMMAND..: the least user time of five runs, in seconds
@@ -32,7 +31,7 @@ for part in 1 2 20 0; do
         kept=0
         if [ "$part" -gt 0 ]; then kept=$((count / part)); fi
         seeds=$((2000000 / count))
-        ours=$(best "$program" "$count" "$kept" "$seeds")
+        ours=$(best "$program" draw "$count" "$kept" "$seeds")
         peer=$(best "$folder/peer" "$count" "$kept" "$seeds")
         awk -v count="$count" -v kept="$kept" -v ours="$ours" -v peer="$peer" -v seeds="$seeds" 'BEGIN {
             printf "%5d items, %5d of them within the limit: draw %.1f us, plain %.1f us\n", count, kept, ours / seeds * 1e6, peer / seeds * 1e6 }'

@@ -1,4 +1,4 @@
-// A plain shuffle and fold in Rust, as crates/bench_draw makes them: ChaCha20's words, an exchange from the last entry down,
+// A plain shuffle and fold in Rust, as crates/bench_all makes them: ChaCha20's words, an exchange from the last entry down,
 // and a heap that keeps the greatest place at hand.
 //
 // usage: rustc -O bench/peers/draw.rs -o /tmp/draw && /tmp/draw COUNT KEPT SEEDS

@@ -4,14 +4,20 @@
 //! - `wallet WALLET` reads a wallet file;
 //! - `coins WALLET BLOCKS` makes the book of a wallet's coins, and adds the blocks of a file that stand after it;
 //! - `walk FILE TRIES ROUNDS` walks the problem of a file ROUNDS times, each with TRIES tries;
+//! - `log` writes a log of 30,000,021 letters as a text and reads it back, and `log timed` prints the times too;
+//! - `draw ITEMS KEPT SEEDS` draws among made-up items, and with `timed` after it prints the time of a draw too;
+//! - `check FILE` checks the log of a file, and with `timed` after it prints how long that took;
 //! - `groups COUNT` finds the pool of made-up coins, and with `timed` after it prints the times too.
 //!
 //! Commands are parted by the word `then`. The status is 1 where one of them failed.
 #![tactic(auto)]
 
 mod book;
+mod checker;
+mod draws;
 mod feed;
 mod groups;
+mod logs;
 mod walk;
 mod wallet;
 
@@ -25,12 +31,20 @@ fn act(rt: &HostRuntime, command: &[&str]) -> io::Result<bool> {
         ["wallet", wallet] => wallet::read_file(rt, wallet),
         ["coins", wallet, blocks] => book::fill(rt, wallet, blocks),
         ["walk", file, tries, rounds] => walk::walk_file(rt, file, tries, rounds),
+        ["log"] => logs::write_and_read(rt, false),
+        ["log", "timed"] => logs::write_and_read(rt, true),
+        ["draw", items, kept, seeds] => draws::draw_words(rt, items, kept, seeds, false),
+        ["draw", items, kept, seeds, "timed"] => draws::draw_words(rt, items, kept, seeds, true),
+        ["check", file] => checker::check_file(rt, file, false),
+        ["check", file, "timed"] => checker::check_file(rt, file, true),
         ["groups", count] => groups::find(rt, count, false),
         ["groups", count, "timed"] => groups::find(rt, count, true),
         _ => {
             println!(rt;
-                "feed BLOCKS | wallet WALLET | coins WALLET BLOCKS | groups COUNT [timed] | walk FILE TRIES ROUNDS"
+                "feed BLOCKS | wallet WALLET | coins WALLET BLOCKS | groups COUNT [timed]"
             )?;
+            println!(rt; "walk FILE TRIES ROUNDS | check FILE [timed]")?;
+            println!(rt; "log [timed] | draw ITEMS KEPT SEEDS [timed]")?;
             Ok(false)
         }
     }

@@ -2,46 +2,18 @@
 
 ghost use Rattle.std.specs.Prelude.{◌<◌};
 
-use pick_problem::Item;
+use fund_base::Memory;
+use row_columns::places_in;
 use std::alloc::Global;
 use std::io;
 
-/// An item, from its value, weight and cost with `/` between them.
-fn item_of(text: &str) -> Option<Item> {
-    let mut numbers = text.split('/');
-    let value = numbers.next()?.parse().ok()?;
-    let weight = numbers.next()?.parse().ok()?;
-    let cost = numbers.next()?.parse().ok()?;
-    Some(Item {
-        value,
-        weight,
-        cost,
-    })
-}
-
-/// The items, with blanks between them; `-` has none.
-pub fn items_of(alloc: Global, text: &str) -> io::Result<Vec<Item>> {
-    let mut items = Vec::new(alloc);
-    for part in text.split(' ') {
-        if let Some(item) = item_of(part) {
-            items.push(item)?;
-        }
-    }
-    Ok(items)
-}
-
 /// The places of an answer, with blanks between them. `none` is no answer, and `empty` one without places.
-pub fn places_of(alloc: Global, text: &str) -> io::Result<Option<Vec<u32>>> {
-    if text == "none" {
-        return Ok(None);
+pub fn answer_of(alloc: Global, text: &str) -> Result<Option<Vec<u32>>, Memory> {
+    match text {
+        "none" => Ok(None),
+        "empty" => Ok(Some(Vec::new(alloc))),
+        _ => Ok(Some(places_in(alloc, text)?)),
     }
-    let mut places = Vec::new(alloc);
-    for part in text.split(' ') {
-        if let Ok(place) = part.parse() {
-            places.push(place)?;
-        }
-    }
-    Ok(Some(places))
 }
 
 /// The value of a hex digit.

@@ -5,31 +5,16 @@
 #![tactic(auto)]
 
 ghost use Rattle.std.specs.Prelude.{◌≤◌};
-ghost use Rattle.pick_problem.specs.Pool.{AreItems};
-ghost use Rattle.pick_problem.specs.Problem.{AreBounds};
 
 mod fields;
 
-use fields::{items_of, letters_of, places_of};
+use fields::{answer_of, letters_of};
+use fund_base::Memory;
 use log_checker::{Checker, LogFault};
-use pick_problem::{Item, Kind, Problem, are_items};
+use pick_problem::Problem;
+use row_columns::problem_in;
 use std::alloc::Global;
 use std::io;
-
-/// The problem of these items and bounds, if there is one.
-fn problem_of(items: Vec<Item>, kind: Kind, lo: u64, hi: u64, most_weight: u64) -> Option<Problem> {
-    if !are_items(items.as_slice()) || lo < 1 {
-        return None;
-    }
-    let fits = match kind {
-        Kind::Changeless => lo <= hi,
-        Kind::Lean => hi == lo,
-    };
-    if !fits {
-        return None;
-    }
-    Some(Problem::new(items, lo, hi, most_weight, kind))
-}
 
 /// The fault of a log whose letters are fed in pieces of this length, with the call that gives it.
 fn fault_of(
@@ -89,32 +74,38 @@ fn verdict(
     }
 }
 
-/// What is said of a line: once with the letters in one piece, and, where that differs, once with them one by one.
-fn row_text(alloc: Global, line: &str) -> io::Result<String> {
-    let mut fields = line.split('\t');
-    let kind = match fields.next() {
-        Some("changeless") => Kind::Changeless,
-        _ => Kind::Lean,
-    };
-    let (Some(lo), Some(hi), Some(limit)) = (fields.next(), fields.next(), fields.next()) else {
-        return Ok(String::from_str(alloc, "no row")?);
-    };
-    let (Ok(lo), Ok(hi), Ok(limit)) = (lo.parse(), hi.parse(), limit.parse()) else {
-        return Ok(String::from_str(alloc, "no numbers")?);
-    };
-    let items = items_of(alloc, fields.next().unwrap_or(""))?;
-    let Some(problem) = problem_of(items, kind, lo, hi, limit) else {
-        return Ok(String::from_str(alloc, "no problem")?);
-    };
-    let answer = places_of(alloc, fields.next().unwrap_or(""))?;
-    let letters = letters_of(alloc, fields.next().unwrap_or(""))?;
-    let places = answer.as_ref().map(|places| places.as_slice());
-    let whole = verdict(alloc, &problem, places, letters.as_slice(), usize::MAX)?;
-    let parts = verdict(alloc, &problem, places, letters.as_slice(), 1)?;
+/// What is said of a log: once with the letters in one piece, and, where that differs, once with them one by one.
+fn log_text(
+    alloc: Global,
+    problem: &Problem,
+    answer: Option<&[u32]>,
+    letters: &[u8],
+) -> io::Result<String> {
+    let whole = verdict(alloc, problem, answer, letters, usize::MAX)?;
+    let parts = verdict(alloc, problem, answer, letters, 1)?;
     if whole == parts {
         return Ok(whole);
     }
     Ok(format!(in alloc; "{}, in pieces {}", whole, parts)?)
+}
+
+/// What is said of a line.
+fn row_text(alloc: Global, line: &str) -> io::Result<String> {
+    let columns: Vec<&str> = line.split('\t').collect(alloc)?;
+    let [problem @ .., answer, letters] = columns.as_slice() else {
+        return Ok(String::from_str(alloc, "no row")?);
+    };
+    let problem = match problem_in(alloc, problem) {
+        Ok(Some(problem)) => problem,
+        Ok(None) => return Ok(String::from_str(alloc, "no problem")?),
+        Err(Memory) => return Ok(String::from_str(alloc, "no memory")?),
+    };
+    let Ok(answer) = answer_of(alloc, answer) else {
+        return Ok(String::from_str(alloc, "no memory")?);
+    };
+    let letters = letters_of(alloc, letters)?;
+    let places = answer.as_ref().map(|places| places.as_slice());
+    log_text(alloc, &problem, places, letters.as_slice())
 }
 
 fn main(rt: HostRuntime) -> io::Result<()> {

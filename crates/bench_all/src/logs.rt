@@ -1,14 +1,12 @@
-//! Makes a log of 30,000,021 letters in 21 sections, writes its text and reads it back, and prints how many bytes the text
-//! has, how many sections were read, and whether the letters are those of the log. With the word `timed` it also prints
-//! how long each took, in microseconds.
-#![tactic(auto)]
+//! Makes a log of 30,000,021 letters in 21 sections, writes its text and reads it back. Printed are how many bytes the
+//! text has, how many sections were read, and whether the letters are those of the log; if asked to, how long each took
+//! too.
 
 use closing_log::{LogText, Section, Stage, read_sections, write_sections};
 use fund_base::{Memory, Places};
 use std::alloc::Global;
-use std::process::ExitCode;
+use std::io;
 use std::time::Instant;
-use std::{env, io};
 
 /// The letters of a closing tree.
 const LETTERS: [u8; 10] = *b"ITSOHMWLFA";
@@ -79,26 +77,17 @@ fn read(rt: &HostRuntime, text: &[u8], timed: bool, writing: u128) -> io::Result
 }
 
 /// Writes the log, which is then let go, and reads its text.
-fn work(rt: &HostRuntime, timed: bool) -> io::Result<bool> {
+pub fn write_and_read(rt: &HostRuntime, timed: bool) -> io::Result<bool> {
     let Ok(log) = made(rt.alloc()) else {
-        println!(rt; "there wasn't enough memory")?;
+        println!(rt; "out of memory")?;
         return Ok(false);
     };
     let start = Instant::now(rt)?;
     let Ok(text) = write_sections(rt.alloc(), &log) else {
-        println!(rt; "there wasn't enough memory")?;
+        println!(rt; "out of memory")?;
         return Ok(false);
     };
     let writing = start.elapsed(rt)?.as_micros();
     drop(log);
     read(rt, text.as_slice(), timed, writing)
-}
-
-fn main(rt: HostRuntime) -> io::Result<ExitCode> {
-    let timed = env::args(&rt)?.nth(1).is_some();
-    Ok(if work(&rt, timed)? {
-        ExitCode::SUCCESS
-    } else {
-        ExitCode::FAILURE
-    })
 }

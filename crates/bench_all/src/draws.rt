@@ -1,9 +1,7 @@
-//! Draws among as many made-up items as its first word says, under a limit of weight for as many of them as its
-//! second word says and with nothing that is ever reached, so that each place is added, and each one beyond the limit
-//! dropped. It does so by as many seeds as its third word says, and once without a limit and with all that there is
-//! to reach, and prints how many places that found. With a fourth word it also prints how long a draw under the limit
-//! takes, in nanoseconds.
-#![tactic(auto)]
+//! Draws among made-up items, under a limit of weight for as many of them as is said and with nothing that is ever
+//! reached: each place is added, and each one beyond the limit dropped. It does so by as many seeds as is said, and
+//! once without a limit and with all that there is to reach, and prints how many places that found. If asked to, it
+//! prints how long a draw under the limit takes too, in nanoseconds.
 
 ghost use Rattle.std.specs.Prelude.{◌≡◌, ◌≤◌, IfOk, IfSome};
 
@@ -11,8 +9,8 @@ use fund_base::Memory;
 use pick_problem::{Item, Kind, Problem, are_items};
 use random_draw::draw;
 use std::alloc::Global;
+use std::io;
 use std::time::Instant;
-use std::{env, io};
 
 /// Items of falling value, each of 272 weight units.
 fn made(alloc: Global, count: u32) -> Result<Vec<Item>, Memory> {
@@ -58,7 +56,7 @@ fn draws(alloc: Global, problem: &Problem, seeds: u64) -> Result<usize, Memory>
 }
 
 /// Prints what the draws find, and, if asked to, how long one takes.
-fn run(rt: &HostRuntime, count: u32, kept: u32, seeds: u64, timed: bool) -> io::Result<()>
+fn run(rt: &HostRuntime, count: u32, kept: u32, seeds: u64, timed: bool) -> io::Result<bool>
     requires { count ≤ 10_000 }
 {
     let alloc = rt.alloc();
@@ -69,38 +67,42 @@ fn run(rt: &HostRuntime, count: u32, kept: u32, seeds: u64, timed: bool) -> io::
         problem(alloc, count, all, u64::MAX),
     ) else {
         println!(rt; "there is no such problem")?;
-        return Ok(());
+        return Ok(false);
     };
     let start = Instant::now(rt)?;
     let none = draws(alloc, &never, seeds);
     let time = start.elapsed(rt)?;
     match (none, draws(alloc, &whole, 1)) {
         (Ok(none), Ok(places)) => println!(rt; "{} and {} places", none, places)?,
-        _ => println!(rt; "there wasn't enough memory")?,
+        _ => {
+            println!(rt; "out of memory")?;
+            return Ok(false);
+        }
     }
     if timed {
         println!(rt; "{} ns", time.as_nanos() / u128::from(seeds.max(1)))?;
     }
-    Ok(())
+    Ok(true)
 }
 
-fn main(rt: HostRuntime) -> io::Result<()> {
-    let mut words = env::args(&rt)?.skip(1);
-    let (Some(count), Some(kept), Some(seeds)) = (words.next(), words.next(), words.next()) else {
-        println!(rt; "three numbers are wanted")?;
-        return Ok(());
-    };
+/// Draws by the numbers of three words: how many items there are, for how many of them the limit is, and how many
+/// seeds.
+pub fn draw_words(
+    rt: &HostRuntime,
+    items: &str,
+    kept: &str,
+    seeds: &str,
+    timed: bool,
+) -> io::Result<bool> {
     match (
-        count.as_str().parse::<u32>(),
-        kept.as_str().parse::<u32>(),
-        seeds.as_str().parse::<u64>(),
+        items.parse::<u32>(),
+        kept.parse::<u32>(),
+        seeds.parse::<u64>(),
     ) {
-        (Ok(count), Ok(kept), Ok(seeds)) if count <= 10_000 => {
-            run(&rt, count, kept, seeds, words.next().is_some())
-        }
+        (Ok(count), Ok(kept), Ok(seeds)) if count <= 10_000 => run(rt, count, kept, seeds, timed),
         _ => {
             println!(rt; "up to 10000 items can be made")?;
-            Ok(())
+            Ok(false)
         }
     }
 }
