@@ -7,7 +7,8 @@ use Rattle.std.proofs.lemmas.List.{get_or-map, get_or_append_left, length-append
 use Rattle.tx_codec.specs.Txid.{txid_of}
 use Rattle.wallet_text.proofs.Rules.{distinct_of}
 use Rattle.wallet_text.proofs.WalletLaws.{none_apart, repeat_is}
-use Rattle.wallet_text.specs.WalletRules.{AreDistinctEarlier, IsFirstRepeat}
+use Rattle.json_fields.specs.Repeats.{IsFirstRepeat}
+use Rattle.wallet_text.specs.WalletRules.{AreDistinctEarlier}
 use Rattle.wallet_text.specs.WalletText.{earlier_txids, repeat_from}
 use Rattle.wallet_text.specs.declared.wallet.Earlier.{Earlier}
 
@@ -18,17 +19,17 @@ never_twice f x xs place distinct is =
     let within = is.stood.1 in
     let long = length-map xs f in
     let parts = ap length is.parts in
-    let joined = length-append is.front (is.txid ∷ is.back) in
+    let joined = length-append is.front (is.again ∷ is.back) in
     let second_within : length is.front < length xs = omega arith in
-    let first : get_or (map f xs) k is.txid ≡ is.txid = ap (λ l. get_or l k is.txid) is.parts ∙ get_or_append_left is.front (is.txid ∷ is.back) is.txid k within ∙ is.stood.2 in
-    let second : get_or (map f xs) (length is.front) is.txid ≡ is.txid = ap (λ l. get_or l (length is.front) is.txid) is.parts ∙ get_or-append_seam is.front is.txid is.back is.txid in
+    let first : get_or (map f xs) k is.again ≡ is.again = ap (λ l. get_or l k is.again) is.parts ∙ get_or_append_left is.front (is.again ∷ is.back) is.again k within ∙ is.stood.2 in
+    let second : get_or (map f xs) (length is.front) is.again ≡ is.again = ap (λ l. get_or l (length is.front) is.again) is.parts ∙ get_or-append_seam is.front is.again is.back is.again in
     distinct k (length is.front) x within second_within
-    (sym (get_or-map f xs k x is.txid (omega arith)) ∙ first ∙ sym second ∙ get_or-map f xs (length is.front) x is.txid second_within)
+    (sym (get_or-map f xs k x is.again (omega arith)) ∙ first ∙ sym second ∙ get_or-map f xs (length is.front) x is.again second_within)
 
 -- where one stands first, there is one at all
 pub not_distinct : (es : List Earlier) (place : ℕ) → AreDistinctEarlier es → IsFirstRepeat (earlier_txids es) place → ⊥
 not_distinct [] place distinct is =
-    absurd (omega (arith, ap (λ (ts : List (List ℕ)). length ts) is.parts, length-append is.front (is.txid ∷ is.back)))
+    absurd (omega (arith, ap (λ (ts : List (List ℕ)). length ts) is.parts, length-append is.front (is.again ∷ is.back)))
 not_distinct (e ∷ es) place distinct is = never_twice (λ (d : Earlier). txid_of d.tx) e (e ∷ es) place distinct is
 
 -- none stands first before another that does
@@ -38,13 +39,13 @@ earlier_clash xs i j a b lt =
     let within = a.stood.1 in
     let at_i = a.place_is in
     let at_j = b.place_is in
-    let t = a.txid in
+    let t = a.again in
     let left_k : k < length b.front = omega arith in
     let left_i : length a.front < length b.front = omega arith in
     let first : get_or xs k t ≡ t = ap (λ l. get_or l k t) a.parts ∙ get_or_append_left a.front (t ∷ a.back) t k within ∙ a.stood.2 in
     let second : get_or xs (length a.front) t ≡ t = ap (λ l. get_or l (length a.front) t) a.parts ∙ get_or-append_seam a.front t a.back t in
-    let first_there : get_or xs k t ≡ get_or b.front k t = ap (λ l. get_or l k t) b.parts ∙ get_or_append_left b.front (b.txid ∷ b.back) t k left_k in
-    let second_there : get_or xs (length a.front) t ≡ get_or b.front (length a.front) t = ap (λ l. get_or l (length a.front) t) b.parts ∙ get_or_append_left b.front (b.txid ∷ b.back) t (length a.front) left_i in
+    let first_there : get_or xs k t ≡ get_or b.front k t = ap (λ l. get_or l k t) b.parts ∙ get_or_append_left b.front (b.again ∷ b.back) t k left_k in
+    let second_there : get_or xs (length a.front) t ≡ get_or b.front (length a.front) t = ap (λ l. get_or l (length a.front) t) b.parts ∙ get_or_append_left b.front (b.again ∷ b.back) t (length a.front) left_i in
     b.distinct k (length a.front) t within left_i (sym first_there ∙ first ∙ sym second ∙ second_there)
 
 one_first : (xs : List (List ℕ)) (i j : ℕ) → IsFirstRepeat xs i → IsFirstRepeat xs j → i ≡ j

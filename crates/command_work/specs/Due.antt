@@ -4,7 +4,7 @@ use Rattle.fund_files.specs.Cause as files
 use Rattle.fund_files.specs.Chain.{held_of}
 use Rattle.fund_files.specs.declared.held.Held.{Held}
 use Rattle.fund_steps.specs.Plan.{PlainPlan}
-use Rattle.wallet_text.specs.WalletRules.{IsFirstRepeat}
+use Rattle.json_fields.specs.Repeats.{IsFirstRepeat}
 use Rattle.wallet_text.specs.WalletText.{earlier_txids, repeat_from, told_index}
 use Rattle.wallet_text.specs.declared.fault.Refusal.TheVariants as wallets
 use Rattle.workload.specs.Load.{earlier_of, request_of, wallet_of}
