@@ -6,7 +6,7 @@ use Rattle.fund_base.specs.CompactSize.{compact, counted}
 use Rattle.fund_base.specs.Cursor.{At, IsBytes, after, compact_at}
 use Rattle.fund_base.specs.Parsing.{◌>>=◌, many_at, YieldsAll}
 use Rattle.fund_base.proofs.Laws.{bind_ok, bind_is, guard_ok, guard_met, ok_is, told_ok, told_is, Again}
-use Rattle.fund_base.proofs.LawsOfNumbers.{count_reads, number32_reads}
+use Rattle.fund_base.proofs.LawsOfNumbers.{count_reads, number32_reads, wide32}
 use Rattle.fund_base.proofs.Repeat.{many_reads}
 use Rattle.tx_codec.specs.Transaction.{Transaction}
 use Rattle.tx_codec.specs.TransactionText.{text_of, bare_text, segregated_text, IsTransaction}
@@ -193,10 +193,10 @@ number_again bytes rest n lt is =
     let same : (from_le_bytes w32 (take 4 bytes), after 4 (start bytes)) ≡ (n, a.next) = ok_is _ (n, a.next) (Ok (n, a.next)) (sym g.1 ∙ refl) refl in
     (g.0, ap (λ (p : ℕ × At). p.0) same, ap (λ (p : ℕ × At). p.1.rest) same ∙ a.left)
 
-pub number_takes : (bytes : List ℕ) → IsBytes bytes → ltb (length bytes) 4 ≡ false → bytes ≡ to_le_bytes w32 (from_le_bytes w32 (take 4 bytes)) ++ drop 4 bytes
+pub number_takes : (bytes : List ℕ) → IsBytes (take 4 bytes) → ltb (length bytes) 4 ≡ false → bytes ≡ to_le_bytes w32 (from_le_bytes w32 (take 4 bytes)) ++ drop 4 bytes
 number_takes bytes fits long =
-    let read : number_at w32 (start bytes) ≡ Ok (from_le_bytes w32 (take 4 bytes), after 4 (start bytes)) = rw long refl in
-    (number32_reads.takes (start bytes) (from_le_bytes w32 (take 4 bytes), after 4 (start bytes)) fits read).0.parts
+    let len : length (take 4 bytes) ≡ 4 = length-take-le 4 bytes (ltb-false (length bytes) 4 long) in
+    sym (take-append-drop 4 bytes) ∙ ap (λ (l : List ℕ). l ++ drop 4 bytes) (sym (wide32.back (take 4 bytes) len fits))
 
 sized_takes : (longer : Bool) (place size : ℕ) (bytes rest body : List ℕ) → bytes ≡ to_le_bytes w32 size ++ rest → sized_at longer place size rest ≡ Ok body → IsSized body bytes (drop (length body) rest)
 unfolding sized_at
@@ -224,7 +224,7 @@ sized_again longer place body rest least most =
     let enough : ltb (length (body ++ rest)) (length body) ≡ false = le-ltb _ _ (omega (arith, length-append body rest)) in
     rw (low, high, enough, take-append_seam body rest) refl
 
-body_takes : (longer : Bool) (place : ℕ) (rest body : List ℕ) → IsBytes rest → body_at longer place rest ≡ Ok body → IsSized body rest (drop (length body) (drop 4 rest))
+body_takes : (longer : Bool) (place : ℕ) (rest body : List ℕ) → IsBytes (take 4 rest) → body_at longer place rest ≡ Ok body → IsSized body rest (drop (length body) (drop 4 rest))
 unfolding body_at
 body_takes longer place rest body fits e =
     let a = guard_ok _ _ _ _ e in
@@ -286,7 +286,7 @@ pub record IsRecord (body bytes rest : List ℕ) : Type 0 where
   pub begins : bytes ≡ magic ++ sized
   pub is_sized : IsSized body sized rest
 
-pub record_takes : (longer : Bool) (place : ℕ) (rest body : List ℕ) → IsBytes rest → record_at longer place rest ≡ Ok (Some body) → IsRecord body rest (drop (8 + length body) rest)
+pub record_takes : (longer : Bool) (place : ℕ) (rest body : List ℕ) → IsBytes (take 4 (drop 4 rest)) → record_at longer place rest ≡ Ok (Some body) → IsRecord body rest (drop (8 + length body) rest)
 unfolding record_at
 record_takes longer place rest body fits e =
     let s : body_in longer place rest ≡ Ok (Some body) = some_at longer (list_all (λ b. b == 0) rest) (body_in longer place rest) body e in
@@ -295,7 +295,7 @@ record_takes longer place rest body fits e =
     let same : b.0 ≡ body = is_some b.0 body b.2 in
     let whole = magic_takes longer place rest a.0 a.1 in
     let behind : drop 4 rest ≡ a.0 = ap (λ (l : List ℕ). drop 4 l) whole in
-    let fits_behind : IsBytes a.0 = subst (λ (l : List ℕ). IsBytes l) behind (All-drop (λ b. b < 256) 4 rest fits) in
+    let fits_behind : IsBytes (take 4 a.0) = subst (λ (l : List ℕ). IsBytes (take 4 l)) behind fits in
     let sized = body_takes longer (place + 4) a.0 b.0 fits_behind b.1 in
     let left : drop (length b.0) (drop 4 a.0) ≡ drop (8 + length body) rest =
     ap (λ (l : List ℕ). drop (length b.0) (drop 4 l)) (sym behind)

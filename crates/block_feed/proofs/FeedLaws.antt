@@ -1,9 +1,9 @@
 -- What a call of the feed gives is what the file holds there.
-use Rattle.std.proofs.Common.{◌≡◌, ◌≢◌, ℕ, ◌+◌, ◌<◌, ◌≤◌, Bool, false, ltb, List, [], ◌∷◌, ◌++◌, length, take, drop, Result, Ok, Err, Option, Some, None, refl, sym, ap, subst, ◌∙◌, append_assoc, arith, inl, inr}
-use Rattle.std.specs.Prelude.{◌⊎◌, IfOk, IfSome, MatchResult, MatchOption, OnOk}
+use Rattle.std.proofs.Common.{◌≡◌, ◌≢◌, ℕ, ◌+◌, ◌-◌, ◌<◌, ◌≤◌, Bool, false, ltb, List, [], ◌∷◌, ◌++◌, length, take, drop, Result, Ok, Err, Option, Some, None, refl, sym, ap, subst, ◌∙◌, append_assoc, arith, inl, inr}
+use Rattle.std.specs.Prelude.{◌⊎◌, IfOk, IfSome, MatchResult, MatchOption}
 use Rattle.std.specs.Int.{w32, to_le_bytes}
 use Rattle.std.proofs.lemmas.Bool.{ltb-false, le-ltb}
-use Rattle.std.proofs.lemmas.List.{take-append-drop, take_all, length-take, length-drop, length-append, drop-drop, take-append-le, drop-append-le}
+use Rattle.std.proofs.lemmas.List.{take-append-drop, take_all, length-take, length-drop, length-append, drop-drop, drop-take, take-take, take-append-le, drop-append-le}
 use Rattle.std.proofs.Math.Seq.{drop-append_seam, take-append_seam}
 use Rattle.fund_base.specs.Cursor.{IsBytes}
 use Rattle.fund_base.proofs.Laws.{bind_ok, bind_is}
@@ -75,17 +75,28 @@ pub record IsFound (hash : List ℕ) (height : ℕ) (bytes : List ℕ) (place : 
   pub most : length body ≤ 4_000_000
   pub behind_is : behind ≡ place + 8 + length body
 
-next_found : (longer : Bool) (bytes hash : List ℕ) (height place : ℕ) (block : ChainBlock) (behind : ℕ) → IsBytes bytes → next_in longer bytes hash height place ≡ Ok (Some (block, behind)) → IsFound hash height bytes place block behind
+-- a part of bytes
+part_fits : (n k m : ℕ) (rest : List ℕ) → IsBytes (take n rest) → k + m ≤ n → IsBytes (take m (drop k rest))
+part_fits n k m rest fits le =
+    let whole : n ≡ k + (n - k) = omega arith in
+    let cut : drop k (take n rest) ≡ take (n - k) (drop k rest) = ap (λ (j : ℕ). drop k (take j rest)) whole ∙ drop-take k (n - k) rest in
+    let inner : IsBytes (take (n - k) (drop k rest)) = subst (λ (l : List ℕ). IsBytes l) cut (All-drop (λ b. b < 256) k (take n rest) fits) in
+    subst (λ (l : List ℕ). IsBytes l) (take-take m (n - k) (drop k rest) (omega arith)) (All-take (λ b. b < 256) m (take (n - k) (drop k rest)) inner)
+
+-- Of the bytes it is asked only that those of the record are bytes.
+next_found : (longer : Bool) (bytes hash : List ℕ) (height place : ℕ) (block : ChainBlock) (behind : ℕ) → IsBytes (take (behind - place) (drop place bytes)) → next_in longer bytes hash height place ≡ Ok (Some (block, behind)) → IsFound hash height bytes place block behind
 unfolding next_in
 next_found longer bytes hash height place block behind fits e =
     let a = bind_ok (record_at longer place (drop place bytes)) (λ body. linked_at hash height place body) (Some (block, behind)) e in
     let l = linked_found hash height place a.0 block behind a.2 in
-    let fits_rest : IsBytes (drop place bytes) = All-drop (λ b. b < 256) place bytes fits in
-    let r = record_takes longer place (drop place bytes) l.bytes fits_rest (a.1 ∙ ap (λ (o : Option (List ℕ)). Ok o) l.some) in
+    let there = l.behind_is in
+    let count : behind - place ≡ 8 + length l.bytes = omega arith in
+    let fits_record : IsBytes (take (8 + length l.bytes) (drop place bytes)) = subst (λ (n : ℕ). IsBytes (take n (drop place bytes))) count fits in
+    let r = record_takes longer place (drop place bytes) l.bytes (part_fits (8 + length l.bytes) 4 4 (drop place bytes) fits_record (omega arith)) (a.1 ∙ ap (λ (o : Option (List ℕ)). Ok o) l.some) in
     let behind_magic : List ℕ = drop (8 + length l.bytes) (drop place bytes) in
     let whole : drop place bytes ≡ magic ++ (to_le_bytes w32 (length l.bytes) ++ (l.bytes ++ behind_magic)) = r.begins ∙ ap (λ (x : List ℕ). magic ++ x) r.is_sized.parts in
     let here : take (length l.bytes) (drop 8 (drop place bytes)) ≡ l.bytes = ap (λ (x : List ℕ). take (length l.bytes) (drop 8 x)) whole ∙ take-append_seam l.bytes behind_magic in
-    let body_fits : IsBytes l.bytes = subst (λ (x : List ℕ). IsBytes x) here (All-take (λ b. b < 256) (length l.bytes) (drop 8 (drop place bytes)) (All-drop (λ b. b < 256) 8 (drop place bytes) fits_rest)) in
+    let body_fits : IsBytes l.bytes = subst (λ (x : List ℕ). IsBytes x) here (part_fits (8 + length l.bytes) 8 (length l.bytes) (drop place bytes) fits_record (omega arith)) in
     record {
       body = l.bytes;
       is_block = block_takes hash (height_after height) l.bytes block body_fits l.reads;
@@ -116,11 +127,15 @@ none_next bytes hash height place tail = bind_is _ _ _ _ (none_again place (drop
 
 -- ---- the next record of a file
 
+-- what is read of bytes is bytes
+pub fits_from : (m at n : ℕ) (file : List ℕ) → IsBytes (take m file) → IsBytes (take n (drop at (take m file)))
+fits_from m at n file fits = All-take (λ b. b < 256) n (drop at (take m file)) (All-drop (λ b. b < 256) at (take m file) fits)
+
 -- what a file of which at most m bytes are read holds at a place
 abbrev next_at : ℕ → List ℕ → List ℕ → ℕ → ℕ → Result (Option (ChainBlock × ℕ)) FeedFault
 next_at m file hash height place = next_in (ltb m (length file)) (take m file) hash height place
 
-pub file_found : (m : ℕ) (file hash : List ℕ) (height place : ℕ) (block : ChainBlock) (behind : ℕ) → IsBytes (take m file) → next_at m file hash height place ≡ Ok (Some (block, behind)) → Begins hash height block (drop place file) (drop behind file)
+pub file_found : (m : ℕ) (file hash : List ℕ) (height place : ℕ) (block : ChainBlock) (behind : ℕ) → IsBytes (take (behind - place) (drop place (take m file))) → next_at m file hash height place ≡ Ok (Some (block, behind)) → Begins hash height block (drop place file) (drop behind file)
 file_found m file hash height place block behind fits e =
     let front : List ℕ = take m file in
     let beyond : List ℕ = drop m file in
@@ -150,7 +165,7 @@ file_found m file hash height place block behind fits e =
     }
 
 -- the place behind a record is greater than its own, and within the file
-pub file_moves : (m : ℕ) (file hash : List ℕ) (height place : ℕ) (block : ChainBlock) (behind : ℕ) → IsBytes (take m file) → next_at m file hash height place ≡ Ok (Some (block, behind)) → (place < behind) × (behind ≤ length file)
+pub file_moves : (m : ℕ) (file hash : List ℕ) (height place : ℕ) (block : ChainBlock) (behind : ℕ) → IsBytes (take (behind - place) (drop place (take m file))) → next_at m file hash height place ≡ Ok (Some (block, behind)) → (place < behind) × (behind ≤ length file)
 file_moves m file hash height place block behind fits e =
     let front : List ℕ = take m file in
     let f = next_found (ltb m (length file)) front hash height place block behind fits e in
@@ -229,7 +244,7 @@ not_end : (block : ChainBlock) (behind : ℕ) (next : Result (Option (ChainBlock
 not_end block behind next p q = absurd cc
 
 -- what it gave stands there
-pub gives_found : (m : ℕ) (file : List ℕ) (old new : FeedState) (result : Result (Option ChainBlock) FeedFault) → Gives old new result (next_at m file old.hash old.height old.place) → OnOk result (IsBytes (take m file))
+pub gives_found : (m : ℕ) (file : List ℕ) (old new : FeedState) (result : Result (Option ChainBlock) FeedFault) → Gives old new result (next_at m file old.hash old.height old.place) → IfOk result (λ o. IfSome o (λ _. IsBytes (take (new.place - old.place) (drop old.place (take m file)))))
     → IfOk result (λ o. MatchOption o (IsTail (drop old.place file) × (length file ≤ m)) (λ block. Begins old.hash old.height block (drop old.place file) (drop new.place file)))
 gives_found m file old new (Ok None) given fits = file_none m file old.hash old.height old.place given
 gives_found m file old new (Ok (Some block)) given fits = file_found m file old.hash old.height old.place block new.place fits given
@@ -258,7 +273,7 @@ gives_end m file old new (Err e) given tail few =
 
 -- ---- the blocks of the whole file
 
-pub gives_before : (m : ℕ) (file : List ℕ) (old new : FeedState) (result : Result (Option ChainBlock) FeedFault) → Gives old new result (next_at m file old.hash old.height old.place) → OnOk result (IsBytes (take m file)) → Moves old new result
+pub gives_before : (m : ℕ) (file : List ℕ) (old new : FeedState) (result : Result (Option ChainBlock) FeedFault) → Gives old new result (next_at m file old.hash old.height old.place) → IfOk result (λ o. IfSome o (λ _. IsBytes (take (new.place - old.place) (drop old.place (take m file))))) → Moves old new result
     → IfOk result (λ o. StandsBefore file old new o)
 gives_before m file old new (Ok None) given fits moves = (file_none m file old.hash old.height old.place given).0
 gives_before m file old new (Ok (Some block)) given fits moves =
@@ -290,7 +305,7 @@ gives_first m file old new (Err e) given moves (block ∷ blocks) is few =
     only_outside e (λ memory read. not_error (Some (block, r.behind)) e (next_at m file old.hash old.height old.place) r.reads (given memory read))
 
 -- the feed moves on within the file
-pub gives_within : (m : ℕ) (file : List ℕ) (old new : FeedState) (result : Result (Option ChainBlock) FeedFault) → Gives old new result (next_at m file old.hash old.height old.place) → OnOk result (IsBytes (take m file))
+pub gives_within : (m : ℕ) (file : List ℕ) (old new : FeedState) (result : Result (Option ChainBlock) FeedFault) → Gives old new result (next_at m file old.hash old.height old.place) → IfOk result (λ o. IfSome o (λ _. IsBytes (take (new.place - old.place) (drop old.place (take m file)))))
     → IfOk result (λ o. IfSome o (λ _. (old.place < new.place) × (new.place ≤ length file)))
 gives_within m file old new (Ok None) given fits = tt
 gives_within m file old new (Ok (Some block)) given fits = file_moves m file old.hash old.height old.place block new.place fits given

@@ -1,5 +1,5 @@
 -- The blocks of a whole file, whether all at once or read on one by one.
-use Rattle.std.proofs.Common.{◌≡◌, ℕ, zero, suc, ◌+◌, ◌<◌, ◌≤◌, List, [], ◌∷◌, ◌++◌, length, take, drop, Result, Ok, Err, Option, Some, None, refl, sym, ap, subst, ◌∙◌, append_assoc, arith}
+use Rattle.std.proofs.Common.{◌≡◌, ℕ, zero, suc, ◌+◌, ◌-◌, ◌<◌, ◌≤◌, List, [], ◌∷◌, ◌++◌, length, take, drop, Result, Ok, Err, Option, Some, None, refl, sym, ap, subst, ◌∙◌, append_assoc, arith}
 use Rattle.std.specs.Int.{w32, to_le_bytes}
 use Rattle.std.proofs.lemmas.List.{append-nil, length-append, length-drop}
 use Rattle.fund_base.specs.Cursor.{IsBytes}
@@ -10,7 +10,7 @@ use Rattle.block_feed.specs.Block.{ChainBlock, Begins}
 use Rattle.block_feed.specs.BlockFile.{IsBlockFile}
 use Rattle.block_feed.specs.Blocks.{blocks_from, blocks_of, with_rest}
 use Rattle.block_feed.specs.Feed.{FeedState, next_of, Moves, StandsBefore}
-use Rattle.block_feed.proofs.FeedLaws.{file_again, file_found, file_moves, file_none, none_file}
+use Rattle.block_feed.proofs.FeedLaws.{file_again, file_found, file_moves, file_none, fits_from, none_file}
 
 abbrev answer : List ChainBlock → Result (List ChainBlock) FeedFault
 answer blocks = Ok blocks
@@ -48,16 +48,16 @@ same_list a b e = cc
 -- by what was read, and what holds of the blocks behind it
 by_next : (n : ℕ) (file hash : List ℕ) (height place : ℕ) (blocks : List ChainBlock) (read : Option (ChainBlock × ℕ)) → IsBytes (take 1_073_741_824 file)
     → ((block : ChainBlock) (at : ℕ) (others : List ChainBlock) → blocks_from n file block.hash block.height at ≡ Ok others → place < at → at ≤ length file → IsBlockFile block.hash block.height others (drop at file) × (length file ≤ 1_073_741_824))
-    → next_of file (record { hash = hash; height = height; place = place; fault = None; file = None }) ≡ Ok read → with_rest (λ block at. blocks_from n file block.hash block.height at) read ≡ Ok blocks → IsBlockFile hash height blocks (drop place file) × (length file ≤ 1_073_741_824)
+    → next_of file (record { hash = hash; height = height; place = place; fault = None; hasher = None; digest = None }) ≡ Ok read → with_rest (λ block at. blocks_from n file block.hash block.height at) read ≡ Ok blocks → IsBlockFile hash height blocks (drop place file) × (length file ≤ 1_073_741_824)
 by_next n file hash height place blocks None fits behind reads rest =
     let none = file_none 1_073_741_824 file hash height place reads in
     let e : [] ≡ blocks = cc in
     (subst (λ (l : List ChainBlock). IsBlockFile hash height l (drop place file)) e none.0, none.1)
 by_next n file hash height place blocks (Some read) fits behind reads rest =
     let b = bind_ok (blocks_from n file read.0.hash read.0.height read.1) (λ others. Ok (read.0 ∷ others)) blocks rest in
-    let moves = file_moves 1_073_741_824 file hash height place read.0 read.1 fits reads in
+    let moves = file_moves 1_073_741_824 file hash height place read.0 read.1 (fits_from 1_073_741_824 place (read.1 - place) file fits) reads in
     let others = behind read.0 read.1 b.0 b.1 moves.0 moves.1 in
-    let begins = file_found 1_073_741_824 file hash height place read.0 read.1 fits reads in
+    let begins = file_found 1_073_741_824 file hash height place read.0 read.1 (fits_from 1_073_741_824 place (read.1 - place) file fits) reads in
     let e : read.0 ∷ b.0 ≡ blocks = same_list (read.0 ∷ b.0) blocks b.2 in
     (subst (λ (l : List ChainBlock). IsBlockFile hash height l (drop place file)) e (drop read.1 file, begins, others.0), others.1)
 
@@ -67,7 +67,7 @@ from_reading : (n : ℕ) (file hash : List ℕ) (height place : ℕ) (blocks : L
 unfolding blocks_from
 from_reading zero file hash height place blocks fits e within enough = absurd (omega arith)
 from_reading (suc n) file hash height place blocks fits e within enough =
-    let a = bind_ok (next_of file (record { hash = hash; height = height; place = place; fault = None; file = None })) (λ read. with_rest (λ block at. blocks_from n file block.hash block.height at) read) blocks e in
+    let a = bind_ok (next_of file (record { hash = hash; height = height; place = place; fault = None; hasher = None; digest = None })) (λ read. with_rest (λ block at. blocks_from n file block.hash block.height at) read) blocks e in
     by_next n file hash height place blocks a.0 fits (λ block at others f up in'. from_reading n file block.hash block.height at others fits f in' (omega arith)) a.1 a.2
 
 pub blocks_only : (file hash : List ℕ) (height : ℕ) (blocks : List ChainBlock) → IsBlockFile hash height blocks file → length file ≤ 1_073_741_824 → blocks_of file hash height ≡ Ok blocks

@@ -8,3 +8,7 @@ pub mod Failing
 pub mod OwnFaults
 pub mod Refusals
 pub mod Refused
+pub mod PartLaws
+pub mod RecordLaws
+pub mod NextLaws
+pub mod DigestLaws

@@ -1,16 +1,20 @@
 -- The fault of a transaction in a block is one of its text.
-use Rattle.std.proofs.Common.{◌≡◌, ℕ, List, Bool, Err, inl, inr}
+use Rattle.std.proofs.Common.{◌≡◌, ◌≤◌, ℕ, List, length, Result, Ok, Err, ap, ◌∙◌, inl, inr}
 use Rattle.std.specs.Prelude.{◌⊎◌}
 use Rattle.fund_base.specs.Cursor.{IsBytes}
+use Rattle.fund_base.specs.Parsing.{YieldsAll}
 use Rattle.fund_base.specs.declared.cursor.CutFault.{CutFault}
 use Rattle.fund_base.specs.declared.cursor.CutFault.TheVariants.{Truncated, LongCompact}
 use Rattle.tx_codec.specs.Fault.{cut_fault}
 use Rattle.tx_codec.specs.declared.fault.TxFault.TheVariants.{Memory as NoMemory}
 use Rattle.tx_codec.proofs.OwnFaults.{tx_never}
-use Rattle.block_feed.specs.Faults.{IsRecordFault, HoldsRecord, IsBlockFault, LacksCount, LacksTx}
-use Rattle.block_feed.specs.Feed.{next_in}
-use Rattle.block_feed.specs.declared.fault.FeedFault.TheVariants.{Tx}
-use Rattle.block_feed.proofs.Refusals.{next_refused}
+use Rattle.block_feed.specs.Block.{ChainBlock}
+use Rattle.block_feed.specs.Faults.{LacksCount, LacksTx}
+use Rattle.block_feed.specs.Reading.{block_at}
+use Rattle.block_feed.specs.declared.fault.FeedFault.{FeedFault}
+use Rattle.block_feed.specs.declared.fault.FeedFault.TheVariants.{Tx, Memory}
+use Rattle.block_feed.proofs.BlockLaws.{start}
+use Rattle.block_feed.proofs.Refusals.{block_refused}
 
 cut_never : (cut : CutFault) → NoMemory ≡ cut_fault cut → ⊥
 cut_never (Truncated place) is = cc
@@ -20,10 +24,13 @@ lacks_never : (body : List ℕ) → LacksCount NoMemory body ⊎ LacksTx NoMemor
 lacks_never body (inl count) = cut_never count.cut count.told
 lacks_never body (inr tx) = tx_never _ tx.refused
 
-never : (longer : Bool) (bytes hash : List ℕ) (height place at : ℕ) → IsRecordFault longer place (Tx at NoMemory) bytes ⊎ ((body : List ℕ) × HoldsRecord body bytes × IsBlockFault hash height (Tx at NoMemory) body) → ⊥
-never longer bytes hash height place at (inl record_is) = record_is
-never longer bytes hash height place at (inr block) = lacks_never block.0 block.2.2
+-- what the bytes of a block hold has no such fault
+pub block_never : (hash : List ℕ) (height at : ℕ) (body : List ℕ) → 80 ≤ length body → IsBytes body → block_at hash height (start body) ≡ Err (Tx at NoMemory) → ⊥
+block_never hash height at body long fits e = lacks_never body (block_refused hash height body (Tx at NoMemory) long fits e).2
 
--- what a file holds next has no such fault
-pub next_never : (longer : Bool) (bytes hash : List ℕ) (height place at : ℕ) → IsBytes bytes → next_in longer bytes hash height place ≡ Err (Tx at NoMemory) → ⊥
-next_never longer bytes hash height place at fits e = never longer _ hash _ place at (next_refused longer bytes hash height place (Tx at NoMemory) fits e)
+-- so no call gives it
+pub yields_never : (hash : List ℕ) (height : ℕ) (body : List ℕ) (result : Result ChainBlock FeedFault) → 80 ≤ length body → IsBytes body → YieldsAll Memory (λ b. b) result (block_at hash height (start body)) → (at : ℕ) → result ≡ Err (Tx at NoMemory) → ⊥
+yields_never hash height body (Ok block) long fits given at is = absurd cc
+yields_never hash height body (Err e) long fits given at is =
+    let same : e ≡ Tx at NoMemory = cc in
+    block_never hash height at body long fits (given (λ memory. absurd cc) ∙ ap (λ (d : FeedFault). Err d) same)

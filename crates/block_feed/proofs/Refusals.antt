@@ -88,7 +88,7 @@ unfolding sized_at
 sized_refused longer place behind d fits long e =
     let size : ℕ = from_le_bytes w32 (take 4 behind) in
     let after : List ℕ = drop 4 behind in
-    let parts : behind ≡ to_le_bytes w32 size ++ after = number_takes behind fits long in
+    let parts : behind ≡ to_le_bytes w32 size ++ after = number_takes behind (All-take (λ b. b < 256) 4 behind fits) long in
     let small : size < 2 ^ 32 = wide32.below (take 4 behind) (All-take (λ b. b < 256) 4 behind fits) in
     elim (guard_err (ltb size 81 || ltb 4_000_000 size) (Length (place + 4)) _ d e) [
       | inl wrong ↦ subst (λ (x : FeedFault). IsRecordFault longer place x (magic ++ behind)) (sym wrong.1) (refl, (behind, refl, inr (record { size = size; behind = after; parts = parts; small = small; range = out_of_range size wrong.0 })))
@@ -280,7 +280,7 @@ block_refused hash height body d long fits e =
 linked_refused : (longer : Bool) (hash : List ℕ) (height place : ℕ) (rest : List ℕ) (read : Option (List ℕ)) (d : FeedFault) → IsBytes rest → record_at longer place rest ≡ Ok read → linked_at hash height place read ≡ Err d → (body : List ℕ) × HoldsRecord body rest × IsBlockFault hash (height_after height) d body
 linked_refused longer hash height place rest None d fits reads e = absurd cc
 linked_refused longer hash height place rest (Some body) d fits reads e =
-    let r = record_takes longer place rest body fits reads in
+    let r = record_takes longer place rest body (All-take (λ b. b < 256) 4 (drop 4 rest) (All-drop (λ b. b < 256) 4 rest fits)) reads in
     let behind : List ℕ = drop (8 + length body) rest in
     let whole : rest ≡ magic ++ (to_le_bytes w32 (length body) ++ (body ++ behind)) = r.begins ∙ ap (λ (x : List ℕ). magic ++ x) r.is_sized.parts in
     let here : take (length body) (drop 8 rest) ≡ body = ap (λ (x : List ℕ). take (length body) (drop 8 x)) whole ∙ take-append_seam body behind in

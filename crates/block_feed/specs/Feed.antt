@@ -1,40 +1,32 @@
 -- The feed: where it stands, and what it gives next.
-use Rattle.std.specs.Prelude.{ℕ, ◌≡◌, ◌≢◌, ◌+◌, ◌≤◌, ◌⊎◌, Bool, List, [], ◌∷◌, length, take, drop, nat_lt, Option, Some, None, IfSome, Result, Ok, Err}
+use Rattle.std.specs.Prelude.{ℕ, ◌≡◌, ◌≢◌, ◌+◌, ◌-◌, ◌≤◌, ◌⊎◌, Bool, List, [], ◌∷◌, ◌++◌, length, take, drop, nat_lt, Option, Some, None, Result, Ok, Err}
+use Rattle.sha2.specs.declared.Sha256.{Sha256}
 use Rattle.fund_base.specs.Parsing.{◌>>=◌}
 use Rattle.block_feed.specs.Block.{ChainBlock, height_after}
 use Rattle.block_feed.specs.BlockFile.{IsTail, IsBlockFile}
+use Rattle.block_feed.specs.Digest.{HasTaken, IsDigest}
 use Rattle.block_feed.specs.Reading.{record_at, block_at}
 use Rattle.block_feed.specs.declared.fault.FeedFault.{FeedFault}
 use Rattle.block_feed.specs.declared.fault.FeedFault.TheVariants.{Read, Memory}
 
--- what was read of the file of this name: its first bytes, and whether it has more
-pub record FileFront : Type 0 where
-  pub name : List ℕ
-  pub bytes : List ℕ
-  pub longer : Bool
-
--- The hash and height of the block before, the place in the file behind its record, the fault that
--- stays, and what was read of the file.
+-- The hash and height of the block before, the place in the file behind its record, and the fault that
+-- stays. Where the file's digest is asked for, what computes it has taken the bytes before that place; and
+-- where the last call found the file's end, the digest is there.
 pub record FeedState : Type 0 where
   pub hash : List ℕ
   pub height : ℕ
   pub place : ℕ
   pub fault : Option FeedFault
-  pub file : Option FileFront
+  pub hasher : Option Sha256
+  pub digest : Option (List ℕ)
 
 -- how much of a block file is read at most, in bytes
 abbrev pub most : ℕ
 most = 1_073_741_824
 
--- as much of the file as is read, and whether that is not all
-pub record IsFront (file : List ℕ) (front : FileFront) : Type 0 where
-  pub bytes : front.bytes ≡ take most file
-  pub longer : front.longer ≡ nat_lt most (length file)
-
--- Interim condition of a further call, until the feed reads on from its place: the name is the one that
--- was read, and, where the shelf tells them, its bytes are still those.
-abbrev pub IsSameFile : Type 0 → FeedState → List ℕ → List ℕ → Type 0
-IsSameFile told state name file = IfSome state.file (λ front. (front.name ≡ name) × (told → IsFront file front))
+-- what is read of a file from a place on: its bytes there, up to the limit
+abbrev pub seen_from : List ℕ → ℕ → List ℕ
+seen_from file place = drop place (take most file)
 
 -- the block of the record whose bytes these are, behind this hash and height, and the place behind it
 abbrev pub linked_at : List ℕ → ℕ → ℕ → Option (List ℕ) → Result (Option (ChainBlock × ℕ)) FeedFault
@@ -51,11 +43,12 @@ next_in longer bytes hash height place = do
 abbrev pub next_of : List ℕ → FeedState → Result (Option (ChainBlock × ℕ)) FeedFault
 next_of file state = next_in (nat_lt most (length file)) (take most file) state.hash state.height state.place
 
--- the feed stands as before, whatever it holds of the file
+-- the feed stands as before, and has taken the same bytes
 pub record StaysAt (old new : FeedState) : Type 0 where
   pub hash : new.hash ≡ old.hash
   pub height : new.height ≡ old.height
   pub place : new.place ≡ old.place
+  pub hasher : new.hasher ≡ old.hasher
 
 -- What a call gave and where the feed then stands is what there is next, want of memory and failed
 -- reads aside.
@@ -64,12 +57,24 @@ Gives old new (Ok None) next = next ≡ Ok None
 Gives old new (Ok (Some block)) next = next ≡ Ok (Some (block, new.place))
 Gives old new (Err e) next = e ≢ Memory → e ≢ Read → next ≡ Err e
 
--- The feed has moved behind the block that it gave, at the next height; otherwise it stands where it
--- stood.
+-- What a call found, seen by view, is what reading gives, want of memory and failed reads aside.
+abbrev pub Finds : {X Y : Type 0} → (X → Y) → Result X FeedFault → Result Y FeedFault → Type 0
+Finds view (Ok x) read = read ≡ Ok (view x)
+Finds view (Err e) read = e ≢ Memory → e ≢ Read → read ≡ Err e
+
+-- The feed has moved behind the block that it gave, at the next height, and has no digest of the whole file
+-- yet; otherwise it stands where it stood, and a fault leaves the digest too.
 abbrev pub Moves : FeedState → FeedState → Result (Option ChainBlock) FeedFault → Type 0
-Moves old new (Ok (Some block)) = (block.height ≡ height_after old.height) × (new.hash ≡ block.hash) × (new.height ≡ block.height)
+Moves old new (Ok (Some block)) = (block.height ≡ height_after old.height) × (new.hash ≡ block.hash) × (new.height ≡ block.height) × (new.digest ≡ None)
 Moves old new (Ok None) = StaysAt old new
-Moves old new (Err e) = StaysAt old new
+Moves old new (Err e) = StaysAt old new × (new.digest ≡ old.digest)
+
+-- What a call takes into the digest: with a block the bytes of its record, which stand between the feed's
+-- places before and after the call; at the file's end all that is left, and the digest is then there.
+abbrev pub Digests : List ℕ → FeedState → FeedState → Result (Option ChainBlock) FeedFault → Type 0
+Digests file old new (Ok (Some block)) = (bytes : List ℕ) → HasTaken old.hasher bytes → HasTaken new.hasher (bytes ++ take (new.place - old.place) (drop old.place file))
+Digests file old new (Ok None) = (bytes : List ℕ) → HasTaken old.hasher bytes → IsDigest old.hasher (bytes ++ drop old.place file) new.digest
+Digests file old new (Err e) = Unit {0}
 
 -- want of memory or a failed read
 abbrev pub IsOutside : FeedFault → Type 0

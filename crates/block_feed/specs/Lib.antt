@@ -2,6 +2,8 @@ pub mod Block
 pub mod BlockFile
 pub mod Merkle
 pub mod Reading
+pub mod Digest
 pub mod Feed
+pub mod Parts
 pub mod Blocks
 pub mod Faults

@@ -49,6 +49,25 @@ body_at longer place rest =
     if nat_lt (length rest) 4 then Err (cut_off longer (Length place))
     else sized_at longer place (from_le_bytes w32 (take 4 rest)) (drop 4 rest)
 
+-- the length that stands behind the magic, in its range
+abbrev pub length_at : Bool → ℕ → List ℕ → Result ℕ FeedFault
+length_at longer place behind =
+    if nat_lt (length behind) 4 then Err (cut_off longer (Length place))
+    else if nat_lt (from_le_bytes w32 (take 4 behind)) 81 || nat_lt 4_000_000 (from_le_bytes w32 (take 4 behind)) then Err (Length place)
+    else Ok (from_le_bytes w32 (take 4 behind))
+
+-- The length of the block of a record that begins with these bytes, which are its first eight or all that there are.
+unfoldable pub size_at : Bool → ℕ → List ℕ → Result ℕ FeedFault
+size_at longer place head = magic_at longer place head >>= length_at longer (place + 4)
+
+-- so many bytes behind the first eight of the record at this place
+abbrev pub filled_at : Bool → ℕ → List ℕ → ℕ → Result (Option (List ℕ)) FeedFault
+filled_at longer place behind size = if nat_lt (length behind) size then Err (cut_off longer (Length (place + 4))) else Ok (Some (take size behind))
+
+-- what is there where the first eight bytes, or all that there are, are zero: the end, or no record
+abbrev pub ended_at : Bool → ℕ → List ℕ → Result (Option (List ℕ)) FeedFault
+ended_at longer place rest = if list_all (λ b. b == 0) rest then (if longer then Err Limit else Ok None) else Err (Magic place)
+
 -- the bytes of the block of the record at this place, and none where nothing or zero bytes alone follow
 unfoldable pub record_at : Bool → ℕ → List ℕ → Result (Option (List ℕ)) FeedFault
 record_at longer place rest =

@@ -1,20 +1,24 @@
 //! The feed of linked blocks.
 
-ghost use Rattle.std.specs.Prelude.{ℕ, ◌≡◌, ◌≢◌, ◌+◌, ◌≤◌, ◌<◌, ◌^◌, [], ◌∷◌, length, drop, take, List, Some, None, Ok, Err, IfOk, OnOk, IfErr, IfSome, IsErrOf, MatchOption, MatchResult};
+ghost use Rattle.std.specs.Prelude.{ℕ, ◌≡◌, ◌≢◌, ◌+◌, ◌-◌, ◌≤◌, ◌<◌, [], ◌∷◌, ◌++◌, length, drop, take, nat_lt, vec_len, option_map, List, Some, None, Ok, Err, IfOk, OnOk, IfErr, IfSome, IfNone, is_some, IsSome, IsErrOf, MatchOption, MatchResult};
 ghost use Rattle.fund_base.specs.Causes.{Asks, Rose, NeverFall};
 ghost use Rattle.fund_base.specs.Cursor.{IsBytes};
-ghost use Rattle.fund_base.specs.Parsing.{YieldsAll};
+ghost use Rattle.fund_base.specs.Writer.{Feeds};
 ghost use Rattle.block_feed.specs.Block.{ChainBlock, IsLinked, Begins, height_after};
 ghost use Rattle.block_feed.specs.BlockFile.{IsBlockFile};
-ghost use Rattle.block_feed.specs.Feed.{IsSameFile, IsOutside, IsEnd, StandsBefore, IsFirst, next_in, next_of, Gives, Moves};
+ghost use Rattle.block_feed.specs.Digest.{HasTaken, IsDigest};
+ghost use Rattle.block_feed.specs.Feed.{IsOutside, IsEnd, StandsBefore, IsFirst, next_in, next_of, seen_from, Finds, Gives, Moves, Digests};
+ghost use Rattle.block_feed.specs.Parts.{behind_record};
 ghost use Rattle.block_feed.specs.declared.fault.FeedFault.TheVariants.{Tx, Read, Limit, Memory};
 ghost use Rattle.tx_codec.specs.declared.fault.TxFault.TheVariants.{Memory as NoMemory};
 
 use crate::block::Block;
+use crate::digest::{copy_of, digest_of, take_in};
 use crate::fault::FeedFault;
-use crate::front::{Front, read_front};
-use crate::reading::{block_of, record_of};
+use crate::reading::block_of;
+use crate::records::{Record, record_from};
 use fund_base::Shelf;
+use sha2::{Digest, Sha256};
 use std::alloc::Global;
 use std::marker::Model;
 
@@ -23,36 +27,29 @@ const MAX_HEIGHT: u32 = 4_294_967_294;
 
 /// A reader of a block file: a list of records, each of the bytes F9 BE B4 D9, a length in four bytes,
 /// low byte first, and the block, with nothing or zero bytes behind the last. It gives one block after
-/// the other, each linked to the one before it.
+/// the other, each linked to the one before it. It keeps no bytes of the file: each call reads one record,
+/// from the place behind the one before. Where it is asked to, it computes the file's SHA-256 as it goes.
 #[derive(Debug, Drop)]
 pub struct Feed {
     hash: [u8; 32],
     height: u32,
     place: u64,
     fault: Option<FeedFault>,
-    file: Option<Front>,
+    hasher: Option<Sha256>,
+    digest: Option<[u8; 32]>,
 }
 
 impl Model for Feed {
-    ghost use Rattle.std.specs.Prelude.{ℕ, ◌≢◌, Some};
+    ghost use Rattle.std.specs.Prelude.{ℕ, ◌≢◌, ◌≤◌, Some};
     ghost use Rattle.tx_codec.specs.declared.fault.TxFault.TheVariants.{Memory as NoMemory};
     ghost use Rattle.block_feed.specs.Feed.{FeedState};
     ghost use Rattle.block_feed.specs.declared.fault.FeedFault.TheVariants.{Tx, Read, Memory};
 
     ghost Value = { FeedState };
 
-    ghost view = { λ f. record { hash = f.hash; height = f.height; place = f.place; fault = f.fault; file = f.file } };
+    ghost view = { λ f. record { hash = f.hash; height = f.height; place = f.place; fault = f.fault; hasher = f.hasher; digest = f.digest } };
 
-    ghost invariant = { λ f. (f.fault ≢ Some Read) × (f.fault ≢ Some Memory) × ((at : ℕ) → f.fault ≢ Some (Tx at NoMemory)) };
-}
-
-/// What the bytes have from this place on, and nothing where they end before it.
-fn rest_from(bytes: &[u8], place: u64) -> &[u8]
-    ensures rest { result.now ≡ drop place bytes.now }
-    ensures bound { length bytes.now < 2 ^ 63 }
-    ensures bytes { IsBytes bytes.now }
-{
-    bytes.get(place as usize..).unwrap_or(&[])
+    ghost invariant = { λ f. (f.fault ≢ Some Read) × (f.fault ≢ Some Memory) × ((at : ℕ) → f.fault ≢ Some (Tx at NoMemory)) × (f.place ≤ 1073741824) };
 }
 
 /// The height of the block behind one of this height.
@@ -62,73 +59,90 @@ fn height_after(height: u32) -> u32
     height.saturating_add(1).min(MAX_HEIGHT)
 }
 
-/// The block of the record at this place, behind a block of this hash and height, and the place behind
-/// the record.
-#[tactic(auto, unfolding(crate::specs::Feed::next_in))]
-fn next_block(
+/// The block of the record of the file `name` at this place, behind a block of this hash and height, and
+/// the record. None at the file's end; `hasher` then takes what is left.
+#[tactic(auto, unfolding(crate::specs::Feed::next_in), using(fund_base::proofs::Asking::asks_again))]
+fn next_block<H: Shelf>(
     alloc: Global,
-    front: &Front,
+    shelf: &mut H,
+    name: &str,
     hash: &[u8; 32],
     height: u32,
     place: u64,
-) -> Result<Option<(Block, u64)>, FeedFault>
-    ensures gives { YieldsAll Memory (λ o. o) result (next_in front.now.longer front.now.bytes hash.now height place) }
+    hasher: &mut Option<Sha256>,
+) -> Result<Option<(Block, Record)>, FeedFault>
+    requires { place ≤ 1073741824 }
+    ensures gives { H.tells → let file = (H.view shelf.old).files name.now in Finds (λ o. option_map (behind_record place) o) result (next_in (nat_lt 1073741824 (length file)) (take 1073741824 file) hash.now height place) }
     ensures height { IfOk result (λ o. IfSome o (λ found. found.0.height ≡ height_after height)) }
     ensures linked { IfOk result (λ o. IfSome o (λ found. IsLinked hash.now (height_after height) found.0)) }
-    ensures never_read { result ≢ Err Read }
-    ensures bytes { IsBytes front.now.bytes }
+
+    // The bytes of the record, where the shelf tells them, and its length.
+    ensures bytes { H.tells → IfOk result (λ o. IfSome o (λ found. found.1.head.items ++ found.1.body.items ≡ take (8 + length found.1.body.items) (seen_from ((H.view shelf.old).files name.now) place))) }
+    ensures head_fits { IfOk result (λ o. IfSome o (λ found. IsBytes found.1.head.items)) }
+    ensures body_fits { IfOk result (λ o. IfSome o (λ found. IsBytes found.1.body.items)) }
+    ensures within { IfOk result (λ o. IfSome o (λ found. place + 8 + vec_len found.1.body ≤ 1073741824)) }
+
+    // What the digest takes.
+    ensures taken { H.tells → IfOk result (λ o. IfNone o (Feeds HasTaken hasher.old hasher.new (seen_from ((H.view shelf.old).files name.now) place))) }
+    ensures asked_for { is_some hasher.new ≡ is_some hasher.old }
+
+    // A fault of a transaction is one of its text; and what the call leaves of the shelf.
+    ensures never_memory { (at : ℕ) → result ≢ Err (Tx at NoMemory) }
+    ensures same { H.tells → (H.view shelf.new).files ≡ (H.view shelf.old).files }
+    ensures reads { NeverFall (H.view shelf.old).reads (H.view shelf.new).reads }
+    ensures writes { (H.view shelf.new).writes ≡ (H.view shelf.old).writes }
+    ensures cause { IsErrOf result FeedFault.Read → Rose ((H.view shelf.old).reads name.now) ((H.view shelf.new).reads name.now) }
+    ensures unfailed { result ≢ Err Read → (H.view shelf.new).reads ≡ (H.view shelf.old).reads }
+    ensures asked { H.tells → Asks (name.now ∷ []) (H.view shelf.old).asked (H.view shelf.new).asked }
 {
-    let rest = rest_from(front.bytes(), place);
-    let Some(body) = record_of(front.is_longer(), place, rest)? else {
+    let Some(found) = record_from(alloc, shelf, name, place, hasher)? else {
         return Ok(None);
     };
-    let block = block_of(alloc, hash, height_after(height), body)?;
-    Ok(Some((block, place + 8 + body.len() as u64)))
+    let block = block_of(alloc, hash, height_after(height), &found.body)?;
+    Ok(Some((block, found)))
 }
 
 impl Feed {
     /// A feed whose first block follows a block of this hash and height.
     pub fn new(hash: [u8; 32], height: u32) -> Feed
-        ensures { result ≡ record { hash = hash; height = height; place = 0; fault = None; file = None } }
+        ensures { result ≡ record { hash = hash; height = height; place = 0; fault = None; hasher = None; digest = None } }
     {
         Feed {
             hash,
             height,
             place: 0,
             fault: None,
-            file: None,
+            hasher: None,
+            digest: None,
         }
     }
 
-    #[tactic(auto, using(crate::proofs::OwnFaults::next_never))]
-    fn step(&mut self, alloc: Global, front: &Front) -> Result<Option<Block>, FeedFault>
-        requires { self.old.fault ≡ None }
-        ensures gives { Gives self.old self.new result (next_in front.now.longer front.now.bytes self.old.hash self.old.height self.old.place) }
-        ensures moves { Moves self.old self.new result }
-        ensures linked { IfOk result (λ o. IfSome o (λ block. IsLinked self.old.hash (height_after self.old.height) block)) }
-        ensures file { self.new.file ≡ self.old.file }
-        ensures fine { IfOk result (λ _. self.new.fault ≡ None) }
-        ensures kept { IfErr result (λ e. e ≢ Memory → self.new.fault ≡ Some e) }
-        ensures memory { IsErrOf result FeedFault.Memory → self.new ≡ self.old }
-        ensures never_read { result ≢ Err Read }
-        ensures never_memory { (at : ℕ) → result ≢ Err (Tx at NoMemory) }
-        ensures bytes { IsBytes front.now.bytes }
+    /// The same, and it computes the SHA-256 of the file that it reads.
+    pub fn with_digest(hash: [u8; 32], height: u32) -> Feed
+        ensures hash { result.hash ≡ hash }
+        ensures height { result.height ≡ height }
+        ensures place { result.place ≡ 0 }
+        ensures fault { result.fault ≡ None }
+        ensures digest { result.digest ≡ None }
+        ensures asked_for { IsSome result.hasher }
+        ensures taken { HasTaken result.hasher [] }
     {
-        match next_block(alloc, front, &self.hash, self.height, self.place) {
-            Ok(Some((block, place))) => {
-                let hash = block.hash;
-                self.hash = hash;
-                self.height = block.height;
-                self.place = place;
-                Ok(Some(block))
-            }
-            Ok(None) => Ok(None),
-            Err(FeedFault::Memory) => Err(FeedFault::Memory),
-            Err(fault) => {
-                self.fault = Some(fault);
-                Err(fault)
-            }
+        Feed {
+            hash,
+            height,
+            place: 0,
+            fault: None,
+            hasher: Some(Sha256::new()),
+            digest: None,
         }
+    }
+
+    /// The SHA-256 of the file, as the calls have read it, once [`Feed::next`] has answered None; of a feed
+    /// that was made by [`Feed::with_digest`].
+    pub fn digest(&self) -> Option<[u8; 32]>
+        ensures { result ≡ self.now.digest }
+    {
+        self.digest
     }
 
     #[tactic(auto, using(fund_base::proofs::Asking::asks_none))]
@@ -138,9 +152,11 @@ impl Feed {
         shelf: &mut H,
         name: &str,
     ) -> Result<Option<Block>, FeedFault>
-        requires { IsSameFile H.tells self.old name.now ((H.view shelf.old).files name.now) }
         ensures exact { H.tells → self.old.fault ≡ None → Gives self.old self.new result (next_of ((H.view shelf.old).files name.now) self.old) }
-        ensures bytes { H.tells → self.old.fault ≡ None → OnOk result (IsBytes (take 1_073_741_824 ((H.view shelf.old).files name.now))) }
+        ensures bytes { H.tells → self.old.fault ≡ None → IfOk result (λ o. IfSome o (λ _. IsBytes (take (self.new.place - self.old.place) (seen_from ((H.view shelf.old).files name.now) self.old.place)))) }
+        ensures block_digest { H.tells → self.old.fault ≡ None → IfOk result (λ o. IfSome o (λ _. Feeds HasTaken self.old.hasher self.new.hasher (take (self.new.place - self.old.place) (seen_from ((H.view shelf.old).files name.now) self.old.place)))) }
+        ensures end_digest { H.tells → self.old.fault ≡ None → IfOk result (λ o. IfNone o ((bytes : List ℕ) → HasTaken self.old.hasher bytes → IsDigest self.old.hasher (bytes ++ seen_from ((H.view shelf.old).files name.now) self.old.place) self.new.digest)) }
+        ensures asked_for { is_some self.new.hasher ≡ is_some self.old.hasher }
         ensures moves { Moves self.old self.new result }
         ensures linked { IfOk result (λ o. IfSome o (λ block. IsLinked self.old.hash (height_after self.old.height) block)) }
         ensures again { IfSome self.old.fault (λ fault. (result ≡ Err fault) × (self.new ≡ self.old)) }
@@ -148,31 +164,40 @@ impl Feed {
         ensures kept { IfErr result (λ e. e ≢ Memory → e ≢ Read → self.new.fault ≡ Some e) }
         ensures memory { IsErrOf result FeedFault.Memory → self.new ≡ self.old }
         ensures read { IsErrOf result FeedFault.Read → self.new ≡ self.old }
-        ensures cause { IsErrOf result FeedFault.Read → Rose ((H.view shelf.old).reads name.now) ((H.view shelf.new).reads name.now) }
-        ensures unfailed { result ≢ Err Read → (H.view shelf.new).reads ≡ (H.view shelf.old).reads }
-        ensures may_go_on { IsSameFile H.tells self.new name.now ((H.view shelf.new).files name.now) }
+        ensures within { IfOk result (λ o. IfSome o (λ _. (self.old.place < self.new.place) × (self.new.place ≤ 1073741824))) }
+        ensures never_memory { (at : ℕ) → result ≢ Err (Tx at NoMemory) }
         ensures same { H.tells → (H.view shelf.new).files ≡ (H.view shelf.old).files }
         ensures reads { NeverFall (H.view shelf.old).reads (H.view shelf.new).reads }
         ensures writes { (H.view shelf.new).writes ≡ (H.view shelf.old).writes }
+        ensures cause { IsErrOf result FeedFault.Read → Rose ((H.view shelf.old).reads name.now) ((H.view shelf.new).reads name.now) }
+        ensures unfailed { result ≢ Err Read → (H.view shelf.new).reads ≡ (H.view shelf.old).reads }
         ensures asked { H.tells → Asks (name.now ∷ []) (H.view shelf.old).asked (H.view shelf.new).asked }
-        ensures never_memory { (at : ℕ) → result ≢ Err (Tx at NoMemory) }
     {
         if let Some(fault) = self.fault {
             return Err(fault);
         }
-        match self.file.take() {
-            Some(front) => {
-                let outcome = self.step(alloc, &front);
-                self.file = Some(front);
-                outcome
+        let mut tail = copy_of(&self.hasher)?;
+        let (height, place) = (self.height, self.place);
+        match next_block(alloc, shelf, name, &self.hash, height, place, &mut tail) {
+            Ok(Some((block, found))) => {
+                take_in(&mut self.hasher, &found.head);
+                take_in(&mut self.hasher, &found.body);
+                self.digest = None;
+                let hash = block.hash;
+                self.hash = hash;
+                self.height = block.height;
+                self.place = place + 8 + found.body.len() as u64;
+                Ok(Some(block))
             }
-            None => {
-                let front = read_front(alloc, shelf, name)?;
-                let outcome = self.step(alloc, &front);
-                if !matches!(outcome, Err(FeedFault::Memory)) {
-                    self.file = Some(front);
-                }
-                outcome
+            Ok(None) => {
+                self.digest = digest_of(tail);
+                Ok(None)
+            }
+            Err(FeedFault::Memory) => Err(FeedFault::Memory),
+            Err(FeedFault::Read) => Err(FeedFault::Read),
+            Err(fault) => {
+                self.fault = Some(fault);
+                Err(fault)
             }
         }
     }
@@ -180,9 +205,8 @@ impl Feed {
     /// The next block of the file `name`. None exactly where the file ends behind the block before, or
     /// has zero bytes alone from there on.
     ///
-    /// The first call reads the whole file, up to 1,073,741,824 bytes. Interim condition of each later
-    /// call, until the feed reads on from its place: the name is the one that was read, and, where the
-    /// shelf tells them, its bytes are still those.
+    /// It reads one record, from the place behind the one before on; what is said of a call speaks of the
+    /// bytes that the file has then.
     ///
     /// At a record the first of these is the fault: [`FeedFault::Magic`], [`FeedFault::Length`],
     /// [`FeedFault::NotLinked`], [`FeedFault::Tx`] of the count, [`FeedFault::Empty`],
@@ -198,7 +222,6 @@ impl Feed {
         shelf: &mut H,
         name: &str,
     ) -> Result<Option<Block>, FeedFault>
-        requires { IsSameFile H.tells self.old name.now ((H.view shelf.old).files name.now) }
         // The blocks that are given, in order, are those of the file, and each block of the file is given,
         // memory and failed reads aside.
         ensures before { H.tells → self.old.fault ≡ None → IfOk result (λ o. StandsBefore ((H.view shelf.old).files name.now) self.old self.new o) }
@@ -229,11 +252,14 @@ impl Feed {
         ensures cause { IsErrOf result FeedFault.Read → Rose ((H.view shelf.old).reads name.now) ((H.view shelf.new).reads name.now) }
         ensures unfailed { result ≢ Err Read → (H.view shelf.new).reads ≡ (H.view shelf.old).reads }
 
+        // What the digest takes, where one is asked for: the bytes of each record, and at the end all that is left.
+        ensures digests { H.tells → self.old.fault ≡ None → Digests ((H.view shelf.old).files name.now) self.old self.new result }
+        ensures asked_for { is_some self.new.hasher ≡ is_some self.old.hasher }
+
         // A fault of a transaction is one of its text, and never that memory was short.
         ensures never_memory { (at : ℕ) → result ≢ Err (Tx at NoMemory) }
 
-        // The file that a further call reads, what the call leaves of the shelf, and that it asks for this name alone.
-        ensures may_go_on { IsSameFile H.tells self.new name.now ((H.view shelf.new).files name.now) }
+        // What the call leaves of the shelf, and that it asks for this name alone.
         ensures same { H.tells → (H.view shelf.new).files ≡ (H.view shelf.old).files }
         ensures reads { NeverFall (H.view shelf.old).reads (H.view shelf.new).reads }
         ensures writes { (H.view shelf.new).writes ≡ (H.view shelf.old).writes }

@@ -1,12 +1,13 @@
 //! What the blocks of a file are, and where a file is refused.
 
-ghost use Rattle.std.specs.Prelude.{◌≡◌, ◌≤◌, ◌<◌, ◌+◌, ◌↔◌, ℕ, List, length, drop, Ok, Err, Some, None};
+ghost use Rattle.std.specs.Prelude.{◌≡◌, ◌≤◌, ◌<◌, ◌+◌, ◌↔◌, ℕ, List, length, drop, take, Ok, Err, Some, None};
 ghost use Rattle.fund_base.specs.Cursor.{IsBytes};
 ghost use Rattle.block_feed.specs.Block.{ChainBlock, Begins};
 ghost use Rattle.block_feed.specs.BlockFile.{IsBlockFile};
 ghost use Rattle.block_feed.specs.Blocks.{blocks_of};
+ghost use Rattle.block_feed.specs.Digest.{HasTaken, IsDigest};
 ghost use Rattle.block_feed.specs.Faults.{IsFault};
-ghost use Rattle.block_feed.specs.Feed.{FeedState, IsEnd, next_of};
+ghost use Rattle.block_feed.specs.Feed.{FeedState, Digests, IsEnd, next_of};
 ghost use Rattle.block_feed.specs.declared.fault.FeedFault.{FeedFault};
 ghost use Rattle.block_feed.specs.declared.fault.FeedFault.TheVariants.{Limit};
 
@@ -25,4 +26,11 @@ pub fn judges_records()
     ensures block { (file : List ℕ) (state : FeedState) (block : ChainBlock) (behind : ℕ) → IsBytes file → next_of file state ≡ Ok (Some (block, behind)) → Begins state.hash state.height block (drop state.place file) (drop behind file) }
     ensures read { (file rest : List ℕ) (state : FeedState) (block : ChainBlock) → Begins state.hash state.height block (drop state.place file) rest → length file ≤ 1_073_741_824 + length rest → (behind : ℕ) × (next_of file state ≡ Ok (Some (block, behind))) × (drop behind file ≡ rest) }
     ensures fault { (file : List ℕ) (state : FeedState) (fault : FeedFault) → IsBytes file → (next_of file state ≡ Err fault) ↔ IsFault file state fault }
+{}
+
+/// The law of the digest: a feed that has taken a file's bytes before its place has taken those before its next place
+/// behind a block, and has the digest of the whole file at its end. A call does nothing.
+pub fn digests_files()
+    ensures more { (file : List ℕ) (old new : FeedState) (block : ChainBlock) → Digests file old new (Ok (Some block)) → old.place ≤ new.place → HasTaken old.hasher (take old.place file) → HasTaken new.hasher (take new.place file) }
+    ensures whole { (file : List ℕ) (old new : FeedState) → Digests file old new (Ok None) → HasTaken old.hasher (take old.place file) → IsDigest old.hasher file new.digest }
 {}

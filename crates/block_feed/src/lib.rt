@@ -3,14 +3,17 @@
 #![tactic(auto)]
 
 mod block;
+mod digest;
 mod fault;
 mod feed;
-mod front;
 mod laws;
 mod merkle;
+mod parts;
 mod reading;
+mod records;
+mod tail;
 
 pub use block::Block;
 pub use fault::FeedFault;
 pub use feed::Feed;
-pub use laws::{blocks_are, judges_records};
+pub use laws::{blocks_are, digests_files, judges_records};

@@ -1,17 +1,15 @@
-//! Reading one record of a block file.
+//! Reading the block of a record.
 
-ghost use Rattle.std.specs.Prelude.{◌≡◌, ◌≢◌, ◌==◌, ◌+◌, ◌≤◌, ◌<◌, ◌^◌, length, take, drop, map, option_copied, IfOk, IfSome, Err};
-ghost use Rattle.std.specs.List.{list_all};
-ghost use Rattle.std.specs.Int.{w32, from_le_bytes};
+ghost use Rattle.std.specs.Prelude.{◌≡◌, ◌≢◌, ◌+◌, ◌≤◌, ℕ, length, take, drop, map, IfOk, Err};
 ghost use Rattle.fund_base.specs.Cursor.{IsBytes};
 ghost use Rattle.fund_base.specs.Parsing.{Yields, YieldsAll, fault_as, many_at};
 ghost use Rattle.tx_codec.specs.Reading.{tx_at};
 ghost use Rattle.tx_codec.specs.Txid.{txid_of};
 ghost use Rattle.tx_codec.specs.declared.fault.TxFault.TheVariants.{Memory as NoMemory};
-ghost use Rattle.block_feed.specs.Block.{IsLinked, previous_of, root_of, magic};
+ghost use Rattle.block_feed.specs.Block.{IsLinked, previous_of, root_of};
 ghost use Rattle.block_feed.specs.Merkle.{double_sha256};
-ghost use Rattle.block_feed.specs.Reading.{tx_fault, cut_off, magic_at, sized_at, body_at, record_at, sealed_at, txs_at, counted_txs_at, block_at};
-ghost use Rattle.block_feed.specs.declared.fault.FeedFault.TheVariants.{Read, Memory};
+ghost use Rattle.block_feed.specs.Reading.{tx_fault, sealed_at, txs_at, counted_txs_at, block_at};
+ghost use Rattle.block_feed.specs.declared.fault.FeedFault.TheVariants.{Tx as OfTx, Read, Memory};
 
 use crate::block::Block;
 use crate::fault::FeedFault;
@@ -20,104 +18,6 @@ use fund_base::{Cursor, Txid};
 use sha2::{Digest, Sha256};
 use std::alloc::{AllocError, Global};
 use tx_codec::{Tx, TxFault, read_tx, txid};
-
-/// What stands before each record.
-const MAGIC: [u8; 4] = [0xf9, 0xbe, 0xb4, 0xd9];
-
-/// The fault of bytes that are not there.
-fn cut_off(longer: bool, fault: FeedFault) -> FeedFault
-    ensures { result ≡ cut_off longer fault }
-{
-    if longer { FeedFault::Limit } else { fault }
-}
-
-#[tactic(auto, unfolding(crate::specs::Reading::magic_at))]
-fn magic_of(longer: bool, place: u64, rest: &[u8]) -> Result<&[u8], FeedFault>
-    ensures gives { YieldsAll Memory (λ after. after.now) result (magic_at longer place rest.now) }
-    ensures rest { IfOk result (λ after. length after.now + 4 ≡ length rest.now) }
-    ensures never_read { result ≢ Err Read }
-{
-    if rest.len() < 4 {
-        let cut = longer && rest == &MAGIC[..rest.len()];
-        return Err(if cut {
-            FeedFault::Limit
-        } else {
-            FeedFault::Magic(place)
-        });
-    }
-    let (front, after) = rest.split_at(4);
-    if front == MAGIC.as_slice() {
-        Ok(after)
-    } else {
-        Err(FeedFault::Magic(place))
-    }
-}
-
-/// The number in four bytes, the low byte first.
-fn number_of(bytes: &[u8]) -> u32
-    requires { 4 ≤ length bytes.now }
-    ensures { result ≡ from_le_bytes w32 (take 4 bytes.now) }
-{
-    let (front, _) = bytes.split_at(4);
-    u32::from_le_bytes([front[0], front[1], front[2], front[3]])
-}
-
-#[tactic(auto, unfolding(crate::specs::Reading::sized_at))]
-fn sized_of(longer: bool, place: u64, size: u32, rest: &[u8]) -> Result<&[u8], FeedFault>
-    ensures gives { YieldsAll Memory (λ body. body.now) result (sized_at longer place size rest.now) }
-    ensures rest { IfOk result (λ body. length body.now ≤ length rest.now) }
-    ensures never_read { result ≢ Err Read }
-{
-    if size < 81 || size > 4_000_000 {
-        return Err(FeedFault::Length(place));
-    }
-    if rest.len() < size as usize {
-        return Err(cut_off(longer, FeedFault::Length(place)));
-    }
-    let (body, _) = rest.split_at(size as usize);
-    Ok(body)
-}
-
-#[tactic(auto, unfolding(crate::specs::Reading::body_at))]
-fn body_of(longer: bool, place: u64, rest: &[u8]) -> Result<&[u8], FeedFault>
-    ensures gives { YieldsAll Memory (λ body. body.now) result (body_at longer place rest.now) }
-    ensures rest { IfOk result (λ body. 4 + length body.now ≤ length rest.now) }
-    ensures never_read { result ≢ Err Read }
-{
-    if rest.len() < 4 {
-        return Err(cut_off(longer, FeedFault::Length(place)));
-    }
-    let (_, after) = rest.split_at(4);
-    sized_of(longer, place, number_of(rest), after)
-}
-
-/// Whether nothing or zero bytes alone are left.
-fn is_tail(rest: &[u8]) -> bool
-    ensures { result ≡ list_all (λ b. b == 0) rest.now }
-{
-    rest.iter().all(|byte| *byte == 0)
-}
-
-/// The bytes of the block of the record that begins here, at this place of a file of which more may
-/// not be seen. None where nothing or zero bytes alone are left.
-#[tactic(auto, unfolding(crate::specs::Reading::record_at))]
-pub fn record_of(longer: bool, place: u64, rest: &[u8]) -> Result<Option<&[u8]>, FeedFault>
-    requires { place + length rest.now < 2 ^ 64 }
-    ensures gives { YieldsAll Memory (λ body. option_copied body) result (record_at longer place rest.now) }
-    ensures rest { IfOk result (λ o. IfSome o (λ body. 8 + length body.now ≤ length rest.now)) }
-    ensures never_read { result ≢ Err Read }
-{
-    if is_tail(rest) {
-        return if longer {
-            Err(FeedFault::Limit)
-        } else {
-            Ok(None)
-        };
-    }
-    let after = magic_of(longer, place, rest)?;
-    let body = body_of(longer, place + 4, after)?;
-    Ok(Some(body))
-}
 
 #[tactic(auto, using(fund_base::proofs::Repeat::so_far_none, fund_base::proofs::Repeat::so_far_more, fund_base::proofs::Repeat::so_far_all))]
 fn txs_of(alloc: Global, count: u64, cursor: &mut Cursor) -> Result<Vec<Tx>, TxFault>
@@ -281,10 +181,13 @@ pub fn block_of(
     height: u32,
     bytes: &[u8],
 ) -> Result<Block, FeedFault>
+    requires { 80 ≤ length bytes.now }
     ensures linked { IfOk result (λ b. IsLinked previous.now height b) }
     ensures gives { YieldsAll Memory (λ b. b) result (block_at previous.now height (record { rest = bytes.now; place = 0 })) }
     ensures height { IfOk result (λ b. b.height ≡ height) }
     ensures never_read { result ≢ Err Read }
+    ensures never_memory { (at : ℕ) → result ≢ Err (OfTx at NoMemory) }
+    ensures bytes { IsBytes bytes.now }
 {
     whole_block(alloc, previous, height, bytes)
 }

@@ -1,6 +1,6 @@
-use Rattle.std.proofs.Common.{ℕ, List, take, ltb, length, ◌<◌}
+use Rattle.std.proofs.Common.{ℕ, ◌-◌, List, take, ltb, length, ◌<◌}
 use Rattle.std.proofs.lemmas.List.Elements.{All-take}
-use Rattle.block_feed.proofs.FeedLaws.{file_again, file_found, file_none, none_file}
+use Rattle.block_feed.proofs.FeedLaws.{file_again, file_found, file_none, fits_from, none_file}
 use Rattle.block_feed.proofs.Refusals.{next_refused}
 use Rattle.block_feed.proofs.Refused.{next_there}
 use Rattle.block_feed.proofs.laws.judges_records.Goals as goal
@@ -9,7 +9,7 @@ pub returns-clause-end : goal.returns-clause-end
 returns-clause-end c = λ file state. (file_none 1_073_741_824 file state.hash state.height state.place, λ ends. none_file 1_073_741_824 file state.hash state.height state.place ends.0 ends.1)
 
 pub returns-clause-block : goal.returns-clause-block
-returns-clause-block c = λ file state block behind fits. file_found 1_073_741_824 file state.hash state.height state.place block behind (All-take (λ b. b < 256) 1_073_741_824 file fits)
+returns-clause-block c = λ file state block behind fits. file_found 1_073_741_824 file state.hash state.height state.place block behind (fits_from 1_073_741_824 state.place (behind - state.place) file (All-take (λ b. b < 256) 1_073_741_824 file fits))
 
 pub returns-clause-read : goal.returns-clause-read
 returns-clause-read c = λ file rest state block begins within.

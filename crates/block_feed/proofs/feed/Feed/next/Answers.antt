@@ -1,3 +1,4 @@
+use Rattle.block_feed.proofs.DigestLaws.{gives_digests}
 use Rattle.block_feed.proofs.FeedLaws.{gives_before, gives_first, gives_found, gives_only, gives_end, gives_within}
 use Rattle.block_feed.proofs.Limits.{gives_limit}
 use Rattle.block_feed.proofs.feed.Feed.next.Goals as goal
@@ -29,3 +30,7 @@ returns-clause-limit g c = λ told fine limit.
 pub returns-clause-within : goal.returns-clause-within
 returns-clause-within g c = λ told fine.
     gives_within 1073741824 ((g.H.Shelf.view c.args.shelf.now).files c.args.name.now) c.args.self.now c.advance.new.self c.advance.result (c.advance.ensures.exact told fine) (c.advance.ensures.bytes told fine)
+
+pub returns-clause-digests : goal.returns-clause-digests
+returns-clause-digests g c = λ told fine.
+    gives_digests 1073741824 ((g.H.Shelf.view c.args.shelf.now).files c.args.name.now) c.args.self.now c.advance.new.self c.advance.result (c.advance.ensures.exact told fine) c.advance.ensures.within (c.advance.ensures.block_digest told fine) (c.advance.ensures.end_digest told fine)
