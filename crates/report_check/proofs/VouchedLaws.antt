@@ -1,23 +1,29 @@
 -- What an accepted report vouches for.
-use Rattle.std.specs.Prelude.{ℕ, ◌≡◌, Bool, true, false, cond, List, map, Option, Some, None}
+use Rattle.std.specs.Prelude.{ℕ, ◌≡◌, ◌+ℤ◌, Bool, true, false, cond, List, map, Option, Some, None}
 use Rattle.std.proofs.Common.{refl, sym, ap, subst, ◌∙◌}
 use Rattle.closing_log.specs.Log.{PlainSection}
 use Rattle.closing_log.specs.declared.log.Stage.{Stage}
 use Rattle.closing_log.specs.declared.mark.Mark.{Mark}
 use Rattle.closing_log.specs.declared.mark.Mark.TheVariants as mark
 use Rattle.fund_plan.proofs.OutcomeLaws.{end_done}
-use Rattle.fund_plan.proofs.GivenLaws.{alone_means, ended_none, given_mark}
+use Rattle.fund_plan.proofs.GivenLaws.{alone_means, ended_none, given_brings, given_mark}
+use Rattle.fund_plan.proofs.MeasureLaws.{waste_measured}
 use Rattle.fund_plan.proofs.SourceLaws.{best_of, drawn_of, own_result}
 use Rattle.fund_plan.specs.Answer.{ArePayments, IsPayment}
 use Rattle.fund_plan.specs.Chosen.{coins_at, funded_at, mark_of, row_of}
 use Rattle.fund_plan.specs.Outcome.{by_end}
 use Rattle.fund_plan.specs.Selection as plans
-use Rattle.fund_plan.specs.Steps.{problem_at, steps_of}
+use Rattle.fund_plan.specs.Claims.{BringAll}
+use Rattle.fund_plan.specs.Figures.{cost_of}
+use Rattle.fund_plan.specs.Steps.{is_given, problem_at, steps_of}
 use Rattle.fund_plan.specs.declared.outcome.Outcome.{Outcome}
 use Rattle.fund_plan.specs.declared.outcome.Outcome.TheVariants as outcomes
 use Rattle.fund_report.specs.PlainFunded.{PlainFunded}
 use Rattle.fund_report.specs.declared.report.Report.{Report}
 use Rattle.fund_report.specs.declared.report.Report.TheVariants.{Funded, NoSelection, Unfinished}
+use Rattle.fund_steps.proofs.ReachLaws.{none_where}
+use Rattle.fund_steps.specs.Basis.{basis_of}
+use Rattle.fund_steps.specs.Listed.{presets_in}
 use Rattle.fund_steps.specs.Plan.{IsPlan, PlainPlan}
 use Rattle.pick_problem.specs.Best.{IsBest}
 use Rattle.random_draw.specs.Draw.{draw_of}
@@ -81,38 +87,51 @@ the_answer p f o plan steps paid answer h =
       whole = of_payment p f h.payment paid.0 plan payment h.names paid.1 paid.2;
     }
 
+-- the waste of a result's payment is its own and the cost of the presets
+measured : (p : PlainPlan) (f : PlainFunded) (g : PlainFound) → IsPlan p → AreSteps (steps_of p) → IsAnswer p.request.seed (steps_of p) (Some g) → (h : IsTheAnswer p f) → h.payment ≡ funded_at p (mark_of g.stage) g → f.waste ≡ g.waste +ℤ cost_of p.request (presets_in p)
+measured p f g plan steps answer h is =
+    h.whole.waste ∙ (ap (λ (x : plans.PlainFunded). x.waste) is ∙ waste_measured p (mark_of g.stage) g plan (answer_ends p.request.seed (steps_of p) (Some g) steps answer))
+
 -- the coins at places of the row that a report names
 coins_named : (p : PlainPlan) (f : PlainFunded) (g : PlainFound) → NamesPayment f (funded_at p (mark_of g.stage) g) → f.coins ≡ map line_of (coins_at p (row_of p f.row) g.places)
 coins_named p f g h = h.coins ∙ ap (λ (n : ℕ). map line_of (coins_at p (row_of p n) g.places)) (sym h.row)
 
 least_by : (p : PlainPlan) (f : PlainFunded) (o : Option PlainFound) → f.mark ≡ mark.Exhausted → IsPlan p → AreSteps (steps_of p) → IsPaid p (Funded f) → IsAnswer p.request.seed (steps_of p) o → NamesOutcome (Funded f) (by_end p (ends.Ended o)) → IsLeast p f
+unfolding the_answer
 least_by p f None e h steps paid answer names =
     let given = marked_given p f (named_payment f (by_end p (ends.Ended None)) names) in
     absurd (let x = sym e ∙ given in cc)
 least_by p f (Some g) e h steps paid answer names =
     let searched = not_drawn (is_drawn g.stage) (sym names.mark ∙ e) in
     let best = best_of p g searched (own_result p g answer) in
+    let whole = the_answer p f (Some g) h steps paid answer (record { payment = funded_at p (mark_of g.stage) g; is = refl; names = names }) in
     record {
-      answer = the_answer p f (Some g) h steps paid answer (record { payment = funded_at p (mark_of g.stage) g; is = refl; names = names });
-      places = g.places;
+      answer = whole;
+      found = g;
+      first = answer;
       best = subst (λ (n : ℕ). IsBest (problem_at p (row_of p n) f.stage) (Some g.places)) (sym names.row)
           (subst (λ (s : Stage). IsBest (problem_at p (row_of p g.row) s) (Some g.places)) (sym names.stage) best);
       coins = coins_named p f g names;
+      measure = measured p f g h steps answer whole refl;
     }
 
 drawn_by : (p : PlainPlan) (f : PlainFunded) (o : Option PlainFound) → f.mark ≡ mark.Drawn → IsPlan p → AreSteps (steps_of p) → IsPaid p (Funded f) → IsAnswer p.request.seed (steps_of p) o → NamesOutcome (Funded f) (by_end p (ends.Ended o)) → IsDrawn p f
+unfolding the_answer
 drawn_by p f None e h steps paid answer names =
     let given = marked_given p f (named_payment f (by_end p (ends.Ended None)) names) in
     absurd (let x = sym e ∙ given in cc)
 drawn_by p f (Some g) e h steps paid answer names =
     let drawn = is_draw (is_drawn g.stage) (sym names.mark ∙ e) in
     let is = drawn_of p g drawn (own_result p g answer) in
+    let whole = the_answer p f (Some g) h steps paid answer (record { payment = funded_at p (mark_of g.stage) g; is = refl; names = names }) in
     record {
-      answer = the_answer p f (Some g) h steps paid answer (record { payment = funded_at p (mark_of g.stage) g; is = refl; names = names });
-      places = g.places;
+      answer = whole;
+      found = g;
+      first = answer;
       drawn = subst (λ (n : ℕ). draw_of (problem_at p (row_of p n) f.stage) p.request.seed ≡ Some g.places) (sym names.row)
           (subst (λ (s : Stage). draw_of (problem_at p (row_of p g.row) s) p.request.seed ≡ Some g.places) (sym names.stage) is);
       coins = coins_named p f g names;
+      measure = measured p f g h steps answer whole refl;
     }
 
 given_by : (p : PlainPlan) (f : PlainFunded) (o : Option PlainFound) → f.mark ≡ mark.Given → IsPlan p → AreSteps (steps_of p) → IsPaid p (Funded f) → IsAnswer p.request.seed (steps_of p) o → NamesOutcome (Funded f) (by_end p (ends.Ended o)) → IsGiven p f
@@ -130,20 +149,29 @@ funded_by mark.Drawn p f sections e h steps paid searched (o, told, names) = dra
 funded_by mark.Given p f sections e h steps paid searched (o, told, names) = given_by p f o e h steps paid (told_answer p sections o steps searched told) names
 funded_by mark.Partial p f sections e h steps paid searched answer = paid
 
-none_by : (p : PlainPlan) (tries : ℕ) (o : Option PlainFound) → IsPlan p → IsAnswer p.request.seed (steps_of p) o → NamesOutcome (NoSelection tries) (by_end p (ends.Ended o)) → IsNone p
-none_by p tries None h answer names =
+-- the presets don't bring all that is due, and something is searched for
+ungiven : (p : PlainPlan) → (BringAll p → ⊥) → is_given p ≡ false
+ungiven p short = by (is_given p) refl
+  where
+    by : (b : Bool) → is_given p ≡ b → b ≡ false
+    by true is = absurd (short (given_brings p is))
+    by false is = refl
+
+none_by : (p : PlainPlan) (tries : ℕ) (o : Option PlainFound) → IsPlan p → AreSteps (steps_of p) → IsAnswer p.request.seed (steps_of p) o → NamesOutcome (NoSelection tries) (by_end p (ends.Ended o)) → IsNone p
+none_by p tries None h steps answer names =
     let is = named_none tries (by_end p (ends.Ended None)) names in
     record {
       answer = record { found = None; answer = answer; is = sym is };
       none = answer;
       alone = alone_means p outcomes.NoSelection h is;
+      nothing = λ some short. (none_where (basis_of p) p.request.seed some (ungiven p short) steps).0 answer;
     }
-none_by p tries (Some g) h answer names = absurd names
+none_by p tries (Some g) h steps answer names = absurd names
 
 pub accepted_vouches : (p : PlainPlan) (r : Report) (bytes : List ℕ) → IsPlan p → AreSteps (steps_of p) → IsAccepted p r bytes → Vouches p r
 accepted_vouches p (Funded f) bytes h steps (paid, (log, text, backed)) =
     funded_by f.mark p f log.closed refl h steps paid (funded_searched f.mark (steps_of p) f.row f.stage log.closed backed.sections backed.proved) backed.answer
 accepted_vouches p (NoSelection tries) bytes h steps (log, text, backed) =
     let named : IsNamedAnswer p (NoSelection tries) log.closed = backed.answer in
-    none_by p tries named.0 h (told_answer p log.closed named.0 steps (none_searched (steps_of p) log.closed backed.sections backed.proved) named.1) named.2
+    none_by p tries named.0 h steps (told_answer p log.closed named.0 steps (none_searched (steps_of p) log.closed backed.sections backed.proved) named.1) named.2
 accepted_vouches p (Unfinished tries row stage) bytes h steps a = tt

@@ -1,12 +1,13 @@
 -- What a report says of the plan where it is accepted, in words of pools, problems, best selections and payments. This
 -- knows no log.
-use Rattle.std.specs.Prelude.{ℕ, ◌≡◌, List, map, Some}
+use Rattle.std.specs.Prelude.{◌≡◌, ◌≢◌, ◌+ℤ◌, All, map, Some}
 use Rattle.std.specs.List.{AllByRecursion, AllZip}
 use Rattle.closing_log.specs.declared.mark.Mark.{Mark}
 use Rattle.closing_log.specs.declared.mark.Mark.TheVariants.{Exhausted, Partial, Drawn, Given}
 use Rattle.fund_plan.specs.Answer.{AnswersAlone, IsPayment}
 use Rattle.fund_plan.specs.Chosen.{coins_at, row_of}
-use Rattle.fund_plan.specs.Figures.{figures_of}
+use Rattle.fund_plan.specs.Claims.{BringAll}
+use Rattle.fund_plan.specs.Figures.{cost_of, figures_of}
 use Rattle.fund_plan.specs.Outcome.{IsAnswerOf}
 use Rattle.fund_plan.specs.Pays.{payment_of}
 use Rattle.fund_plan.specs.Selection as plans
@@ -15,11 +16,17 @@ use Rattle.fund_plan.specs.declared.outcome.Outcome.TheVariants as outcomes
 use Rattle.fund_report.specs.PlainFunded.{PlainFunded}
 use Rattle.fund_report.specs.declared.report.Report.{Report}
 use Rattle.fund_report.specs.declared.report.Report.TheVariants.{Funded, NoSelection, Unfinished}
+use Rattle.fund_steps.specs.Basis.{basis_of}
+use Rattle.fund_steps.specs.Listed.{presets_in}
 use Rattle.fund_steps.specs.Plan.{PlainPlan}
+use Rattle.fund_steps.specs.Reached.{NothingDoes}
+use Rattle.fund_steps.specs.Searches.{rows_in}
 use Rattle.pick_problem.specs.Best.{IsBest}
 use Rattle.psbt_codec.specs.PartialTransaction.{PartialTransaction}
 use Rattle.random_draw.specs.Draw.{draw_of}
-use Rattle.search_run.specs.Answer.{HasNone}
+use Rattle.request_text.specs.declared.request.Method.TheVariants.{Manual}
+use Rattle.search_run.specs.Answer.{HasNone, IsFirstTaken}
+use Rattle.search_run.specs.Found.{PlainFound}
 use Rattle.report_check.specs.Answer.{NamesPayment}
 use Rattle.report_check.specs.Payment.{IsPsbtText, Shows, line_of}
 use Rattle.report_check.specs.Verdict.{IsPaid}
@@ -45,30 +52,39 @@ pub record IsTheAnswer (p : PlainPlan) (f : PlainFunded) : Type 0 where
   pub is_payment : IsPayment p payment
   pub whole : IsOfPayment p f payment
 
--- The coins are the presets and those of the best selection of the problem of the named row and stage.
+-- The coins are the presets and those of the best selection of the problem of the named row and stage. No search and no draw
+-- of an earlier column has a result, and of those of its column it is the one of least waste, of these of most coins, of
+-- these the first. The waste is that of the selection and the cost of the presets.
 pub record IsLeast (p : PlainPlan) (f : PlainFunded) : Type 0 where
   pub answer : IsTheAnswer p f
-  pub places : List ℕ
-  pub best : IsBest (problem_at p (row_of p f.row) f.stage) (Some places)
-  pub coins : f.coins ≡ map line_of (coins_at p (row_of p f.row) places)
+  pub found : PlainFound
+  pub first : IsFirstTaken p.request.seed (steps_of p) found
+  pub best : IsBest (problem_at p (row_of p f.row) f.stage) (Some found.places)
+  pub coins : f.coins ≡ map line_of (coins_at p (row_of p f.row) found.places)
+  pub measure : f.waste ≡ found.waste +ℤ cost_of p.request (presets_in p)
 
--- The coins are the presets and those that the request's seed draws from the problem of the named row and stage.
+-- The same of a draw: the coins are the presets and those that the request's seed draws from the problem of the named row
+-- and stage.
 pub record IsDrawn (p : PlainPlan) (f : PlainFunded) : Type 0 where
   pub answer : IsTheAnswer p f
-  pub places : List ℕ
-  pub drawn : draw_of (problem_at p (row_of p f.row) f.stage) p.request.seed ≡ Some places
-  pub coins : f.coins ≡ map line_of (coins_at p (row_of p f.row) places)
+  pub found : PlainFound
+  pub first : IsFirstTaken p.request.seed (steps_of p) found
+  pub drawn : draw_of (problem_at p (row_of p f.row) f.stage) p.request.seed ≡ Some found.places
+  pub coins : f.coins ≡ map line_of (coins_at p (row_of p f.row) found.places)
+  pub measure : f.waste ≡ found.waste +ℤ cost_of p.request (presets_in p)
 
 -- The coins are those that the request lists, and they alone pay.
 pub record IsGiven (p : PlainPlan) (f : PlainFunded) : Type 0 where
   pub answer : IsTheAnswer p f
   pub alone : AnswersAlone p (outcomes.Funded answer.payment)
 
--- no search and no draw of the plan has a result, and the coins that the request lists don't pay alone
+-- No search and no draw of the plan has a result, and the coins that the request lists don't pay alone. Unless they bring all
+-- that is due, no choice from any row's pool does for what the method looks for.
 pub record IsNone (p : PlainPlan) : Type 0 where
   pub answer : IsAnswerOf p outcomes.NoSelection
   pub none : AllByRecursion (HasNone p.request.seed) (steps_of p)
   pub alone : AnswersAlone p outcomes.NoSelection
+  pub nothing : p.request.method ≢ Manual → (BringAll p → ⊥) → All (NothingDoes (basis_of p)) (rows_in (basis_of p))
 
 -- By the mark. Partial: it is paid as it says, and no more.
 abbrev pub VouchesBy : Mark → PlainPlan → PlainFunded → Type 0

@@ -12,12 +12,16 @@ ghost use Rattle.report_check.specs.Verdict.{BreaksFirst, IsAccepted, IsBacked, 
 ghost use Rattle.report_check.specs.Vouched.{Vouches};
 ghost use Rattle.report_check.specs.declared.fault.CheckFault.{CheckFault};
 
-/// The law of what an accepted report vouches for. A payment that isn't partial is the plan's answer, of all that there is
-/// to find: mark, row, stage, coins, change and figures are its own, and the PSBT is of its transaction. Exhausted, its coins
-/// are the best selection of the problem of its row and stage; drawn, they are what is drawn; given, the listed coins alone
-/// pay. Partial, the PSBT pays as the report says, from listed coins and from candidates that meet its row. None: no search
-/// and no draw of the plan has a result, and the listed coins alone don't pay. It rests on the four files alone, whoever
-/// wrote the report and the log.
+/// The law of what an accepted report vouches for. It rests on the four files alone, whoever wrote the report and the log.
+///
+/// A payment that isn't partial is the plan's answer, of all that there is to find: mark, row, stage, coins, change and
+/// figures are its own, and the PSBT is of its transaction. Exhausted, its coins are the best selection of the problem of
+/// its row and stage; drawn, they are what is drawn. Both are taken first of all results, and the waste is theirs with the
+/// cost of the listed coins. Given, the listed coins alone pay. Partial, the PSBT pays as the report says, from listed
+/// coins and from candidates that meet its row.
+///
+/// None: no search and no draw of the plan has a result, and the listed coins alone don't pay. Unless they bring all that
+/// is due, no choice from any row's pool does for what the method looks for.
 pub fn accepted_reports_name_the_answer()
     ensures { (p : PlainPlan) (r : Report) (bytes : List ℕ) → IsPlan p → AreSteps (steps_of p) → IsAccepted p r bytes → Vouches p r }
 {}
