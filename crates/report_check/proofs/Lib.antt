@@ -6,6 +6,7 @@ pub mod FewLaws
 pub mod FindingLaws
 pub mod FittingLaws
 pub mod FormLaws
+pub mod HonestLaws
 pub mod JudgeLaws
 pub mod NamingLaws
 pub mod OneLaws

@@ -192,7 +192,7 @@ given_never p f r steps sections e is given some named =
 pub answered_none : (p : PlainPlan) (tries : ℕ) (r : Report) (sections : List PlainSection) → r ≡ NoSelection tries → (IsNamedAnswer p r sections ↔ IsAnswered p r sections)
 answered_none p tries r sections is = subst (λ (q : Report). IsNamedAnswer p q sections ↔ IsAnswered p q sections) (sym is) (λ h. h, λ h. h)
 
-asked_by : (m : Mark) (p : PlainPlan) (f : PlainFunded) (sections : List PlainSection) → m ≢ mark.Partial → (IsNamedAnswer p (Funded f) sections ↔ IsAnsweredBy m p f sections)
+pub asked_by : (m : Mark) (p : PlainPlan) (f : PlainFunded) (sections : List PlainSection) → m ≢ mark.Partial → (IsNamedAnswer p (Funded f) sections ↔ IsAnsweredBy m p f sections)
 asked_by mark.Exhausted p f sections apart = (λ h. h, λ h. h)
 asked_by mark.Drawn p f sections apart = (λ h. h, λ h. h)
 asked_by mark.Given p f sections apart = (λ h. h, λ h. h)

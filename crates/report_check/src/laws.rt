@@ -1,15 +1,26 @@
 //! Laws of reports that are accepted. A call of any of them does nothing.
 
-ghost use Rattle.std.specs.Prelude.{◌≡◌, ◌≢◌, ℕ, List};
+ghost use Rattle.std.specs.Prelude.{◌≡◌, ◌≢◌, ◌++◌, [], ℕ, List, None, true};
+ghost use Rattle.std.specs.List.{AllByRecursion};
 ghost use Rattle.closing_log.specs.Log.{PlainLog};
-ghost use Rattle.fund_plan.specs.Steps.{steps_of};
+ghost use Rattle.fund_plan.specs.Chosen.{funded_at, mark_of};
+ghost use Rattle.fund_plan.specs.Outcome.{by_end};
+ghost use Rattle.fund_plan.specs.Selection as plans;
+ghost use Rattle.fund_plan.specs.Steps.{is_given, steps_of};
+ghost use Rattle.fund_plan.specs.declared.outcome.Outcome.TheVariants as outcomes;
+ghost use Rattle.fund_report.specs.PlainFunded.{PlainFunded};
 ghost use Rattle.fund_report.specs.ReportText.{IsReportText};
 ghost use Rattle.fund_report.specs.declared.report.Report.{Report};
+ghost use Rattle.fund_report.specs.declared.report.Report.TheVariants as reports;
 ghost use Rattle.fund_steps.specs.Plan.{IsPlan, PlainPlan};
+ghost use Rattle.search_run.specs.Answer.{HasNone, IsFirstTaken};
+ghost use Rattle.search_run.specs.Found.{PlainFound};
+ghost use Rattle.search_run.specs.Searched.{AreSectionsOf};
 ghost use Rattle.search_run.specs.Step.{AreSteps};
-ghost use Rattle.report_check.specs.Proved.{HasTriesLine};
+ghost use Rattle.search_run.specs.declared.ending.End.TheVariants as ends;
+ghost use Rattle.report_check.specs.Proved.{HasTries, HasTriesLine, IsEndedText};
 ghost use Rattle.report_check.specs.Verdict.{BreaksFirst, IsAccepted, IsBacked, IsFault};
-ghost use Rattle.report_check.specs.Vouched.{Vouches};
+ghost use Rattle.report_check.specs.Vouched.{IsOfPayment, Vouches};
 ghost use Rattle.report_check.specs.declared.fault.CheckFault.{CheckFault};
 
 /// The law of what an accepted report vouches for. It rests on the four files alone, whoever wrote the report and the log.
@@ -41,4 +52,12 @@ pub fn reports_have_one_verdict()
 /// The place that is told where the tries aren't those of the log is that of their line, in any text of the report.
 pub fn tries_have_their_line()
     ensures { (bytes : List ℕ) (r : Report) → IsReportText bytes r → HasTriesLine bytes r }
+{}
+
+/// The law of honest reports: the answer of a plan is accepted, with any log that has an accepted section for each search up
+/// to and with its column, and with their tries. So what [`fund_plan`] comes to is accepted with the log of its run.
+pub fn honest_reports_are_accepted()
+    ensures found { (p : PlainPlan) (f : PlainFunded) (found : PlainFound) (bytes : List ℕ) (log : PlainLog) → IsPlan p → AreSteps (steps_of p) → (first : IsFirstTaken p.request.seed (steps_of p) found) → IsOfPayment p f (funded_at p (mark_of found.stage) found) → IsEndedText bytes log → AreSectionsOf (first.front ++ first.column) log.closed → HasTries (reports.Funded f) log.closed → IsAccepted p (reports.Funded f) bytes }
+    ensures given { (p : PlainPlan) (f : PlainFunded) (g : plans.PlainFunded) (bytes : List ℕ) (log : PlainLog) → IsPlan p → is_given p ≡ true → by_end p (ends.Ended None) ≡ outcomes.Funded g → IsOfPayment p f g → IsEndedText bytes log → log.closed ≡ [] → HasTries (reports.Funded f) log.closed → IsAccepted p (reports.Funded f) bytes }
+    ensures none { (p : PlainPlan) (tries : ℕ) (bytes : List ℕ) (log : PlainLog) → AreSteps (steps_of p) → AllByRecursion (HasNone p.request.seed) (steps_of p) → by_end p (ends.Ended None) ≡ outcomes.NoSelection → IsEndedText bytes log → AreSectionsOf (steps_of p) log.closed → HasTries (reports.NoSelection tries) log.closed → IsAccepted p (reports.NoSelection tries) bytes }
 {}
