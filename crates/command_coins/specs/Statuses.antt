@@ -94,3 +94,4 @@ Ends told_files told s shelf shelf' sink sink' statuses.Limit = EndsRefused stat
 Ends told_files told s shelf shelf' sink sink' statuses.ReadFault = EndsUnread told_files told s shelf shelf' sink sink'
 Ends told_files told s shelf shelf' sink sink' statuses.WriteFault = EndsUnwritten told_files told s shelf sink sink'
 Ends told_files told s shelf shelf' sink sink' statuses.Memory = EndsWithoutMemory told_files told s shelf sink sink'
+Ends told_files told s shelf shelf' sink sink' statuses.CheckRefused = ⊥

@@ -23,6 +23,8 @@ pub enum Status {
     Unfinished,
     /// Nothing pays for what is asked.
     NoSelection,
+    /// A report isn't accepted with its log.
+    CheckRefused,
 }
 
 impl Status {
@@ -42,6 +44,7 @@ impl Status {
             Status::Limit => 9,
             Status::Unfinished => 10,
             Status::NoSelection => 11,
+            Status::CheckRefused => 12,
         }
     }
 }

@@ -91,7 +91,7 @@ plan_status (plans.NotEligible point) = inl refl
 plan_status (plans.TooMany number n) = inr refl
 plan_status plans.Memory = inl refl
 
-refusal_status : (cause : Cause) → (status_of_cause cause ≡ statuses.Input) ⊎ (status_of_cause cause ≡ statuses.Limit)
+pub refusal_status : (cause : Cause) → (status_of_cause cause ≡ statuses.Input) ⊎ (status_of_cause cause ≡ statuses.Limit)
 refusal_status (Files cause) = file_status cause
 refusal_status BumpNotYet = inl refl
 refusal_status (Plan fault) = plan_status fault

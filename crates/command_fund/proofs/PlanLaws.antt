@@ -262,7 +262,7 @@ meant files s p w blocks r (Files cause) inputs m = absurd m
 meant files s p w blocks r BumpNotYet inputs m = absurd m
 meant files s p w blocks r (Plan fault) inputs m = (w, blocks, r, inputs, m.0, m.1)
 
-stops_on : (told_files : Type 0) (s : Sources) (p : Payment) (w : PlainWallet) (blocks : List ChainBlock) (r : PlainRequest) (old new : ShelfView) (stop : Stop) → (told_files → AreInputs old.files s p w blocks r) → StopsPlan (held_of w blocks) r stop → StopsFor told_files s p old new stop
+pub stops_on : (told_files : Type 0) (s : Sources) (p : Payment) (w : PlainWallet) (blocks : List ChainBlock) (r : PlainRequest) (old new : ShelfView) (stop : Stop) → (told_files → AreInputs old.files s p w blocks r) → StopsPlan (held_of w blocks) r stop → StopsFor told_files s p old new stop
 stops_on told_files s p w blocks r old new (stops.Read file) inputs is = absurd is
 stops_on told_files s p w blocks r old new (stops.Refused refusal) inputs is = λ t.
     (inputs_due old.files s p w blocks r (inputs t) ∙ is.0, meant old.files s p w blocks r (cause_of refusal) (inputs t) is.1)

@@ -161,6 +161,7 @@ Ends told_files told s p shelf shelf' sink sink' statuses.Limit = EndsRefused st
 Ends told_files told s p shelf shelf' sink sink' statuses.ReadFault = EndsUnread told_files told s p shelf shelf' sink sink'
 Ends told_files told s p shelf shelf' sink sink' statuses.WriteFault = EndsUnwritten told_files told s p shelf shelf' sink sink'
 Ends told_files told s p shelf shelf' sink sink' statuses.Memory = EndsWithoutMemory told_files told s p shelf shelf' sink sink'
+Ends told_files told s p shelf shelf' sink sink' statuses.CheckRefused = ⊥
 
 -- a status before the log is written
 abbrev pub IsBeforeTheLog : Status → Type 0
@@ -173,3 +174,4 @@ IsBeforeTheLog statuses.Done = ⊥
 IsBeforeTheLog statuses.NoSelection = ⊥
 IsBeforeTheLog statuses.WriteFault = ⊥
 IsBeforeTheLog statuses.Memory = ⊥
+IsBeforeTheLog statuses.CheckRefused = Unit {0}

@@ -9,7 +9,7 @@ ghost use Rattle.command_fund.specs.PlanEnds.{IsEnded};
 ghost use Rattle.command_fund.specs.Statuses.{Ends, IsBeforeTheLog};
 ghost use Rattle.command_fund.specs.Stops.{StopsFor};
 
-use crate::answer::answer;
+use crate::answering::answer;
 use crate::funding::{Ending, conclude};
 use crate::inputs::{Inputs, read_inputs};
 use crate::names::Payment;

@@ -13,6 +13,10 @@ use Rattle.fund_steps.specs.declared.fault.PlanFault.{PlanFault}
 use Rattle.fund_steps.specs.declared.fault.PlanFault.TheVariants as plans
 use Rattle.request_text.specs.declared.fault.RequestFault.{RequestFault}
 use Rattle.request_text.specs.declared.fault.RequestFault.TheVariants as requests
+use Rattle.log_checker.specs.declared.fault.LogFault.{LogFault}
+use Rattle.log_checker.specs.declared.fault.LogFault.TheVariants as logs
+use Rattle.psbt_codec.specs.declared.fault.PsbtFault.{PsbtFault}
+use Rattle.psbt_codec.specs.declared.fault.PsbtFault.TheVariants as psbts
 use Rattle.fault_text.specs.Coin.{coin_text, shown_hash}
 use Rattle.fault_text.specs.Name.{shown_name}
 
@@ -83,6 +87,33 @@ request_fault_words (requests.RateRange name) = codes "RateRange " ++ shown_name
 request_fault_words requests.TriesRange = codes "TriesRange"
 request_fault_words (requests.Repeat index) = codes "Repeat " ++ decimal index
 request_fault_words requests.Memory = codes "Memory"
+
+-- a fault of a closing log
+unfoldable pub log_fault_words : LogFault → List ℕ
+log_fault_words (logs.UnknownToken place) = codes "UnknownToken " ++ decimal place
+log_fault_words (logs.ReasonFalse place) = codes "ReasonFalse " ++ decimal place
+log_fault_words (logs.TooLong place) = codes "TooLong " ++ decimal place
+log_fault_words logs.Open = codes "Open"
+log_fault_words logs.AnswerNotMet = codes "AnswerNotMet"
+log_fault_words (logs.BetterMet place) = codes "BetterMet " ++ decimal place
+log_fault_words logs.AnswerNotAdmissible = codes "AnswerNotAdmissible"
+log_fault_words logs.Memory = codes "Memory"
+
+-- a fault of a PSBT
+unfoldable pub psbt_fault_words : PsbtFault → List ℕ
+psbt_fault_words psbts.Magic = codes "Magic"
+psbt_fault_words (psbts.Truncated place) = codes "Truncated " ++ decimal place
+psbt_fault_words (psbts.LongCompact place) = codes "LongCompact " ++ decimal place
+psbt_fault_words (psbts.RepeatKey place) = codes "RepeatKey " ++ decimal place
+psbt_fault_words psbts.NoUnsigned = codes "NoUnsigned"
+psbt_fault_words (psbts.Unsigned fault) = codes "Unsigned " ++ tx_fault_words fault
+psbt_fault_words psbts.NotBare = codes "NotBare"
+psbt_fault_words (psbts.Field place) = codes "Field " ++ decimal place
+psbt_fault_words (psbts.Version version) = codes "Version " ++ decimal version
+psbt_fault_words (psbts.WrongParent input) = codes "WrongParent " ++ decimal input
+psbt_fault_words (psbts.Trailing place) = codes "Trailing " ++ decimal place
+psbt_fault_words psbts.NotBase64 = codes "NotBase64"
+psbt_fault_words psbts.Memory = codes "Memory"
 
 -- a fault of a plan, with the word of its fault line before it
 unfoldable pub plan_fault_words : PlanFault → List ℕ
