@@ -1,0 +1,6 @@
+pub mod AskedLaws
+pub mod EndsLaws
+pub mod LineLaws
+pub mod MadeLaws
+pub mod OutcomeLaws
+pub mod StopLaws

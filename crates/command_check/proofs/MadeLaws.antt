@@ -1,0 +1,34 @@
+-- The plan of the files, against which reports are judged.
+use Rattle.std.proofs.Common.{◌≡◌, ◌∙◌, ℕ, List, Result, Ok, Err, ap, subst}
+use Rattle.std.specs.Prelude.{IfErr, IfOk}
+use Rattle.fund_base.specs.Causes.{ShelfView}
+use Rattle.fund_steps.specs.Plan.{IsPlan, PlainPlan}
+use Rattle.request_text.specs.PlainRequest.{PlainRequest}
+use Rattle.fund_files.specs.declared.held.Held.{Held}
+use Rattle.command_end.specs.Names.{Sources}
+use Rattle.command_fund.proofs.PlanLaws.{stops_on}
+use Rattle.command_fund.specs.Due.{plan_of}
+use Rattle.command_fund.specs.Inputs.{AreAsked}
+use Rattle.command_fund.specs.Names.{Payment}
+use Rattle.command_fund.specs.PlanEnds.{StopsPlan}
+use Rattle.command_fund.specs.Stops.{StopsFor}
+use Rattle.command_fund.specs.declared.refusal.Stop.{Stop}
+use Rattle.command_check.specs.Evidence.{IsPlanOf}
+
+plan_is : (told : Type 0) (files : List ℕ → List ℕ) (s : Sources) (p : Payment) (k : Held) (r : PlainRequest) (plan : PlainPlan) → AreAsked told files s p k r → plan ≡ plan_of k r → IsPlan plan → IsPlanOf told files s p plan
+plan_is told files s p k r plan h e rules = record {
+  wallet = k.wallet;
+  blocks = h.held.blocks;
+  asked = r;
+  inputs = h.inputs;
+  is = e ∙ ap (λ (x : Held). plan_of x r) h.held.is;
+  rules = rules;
+}
+
+pub if_made : (told : Type 0) (files : List ℕ → List ℕ) (s : Sources) (p : Payment) (k : Held) (r : PlainRequest) (result : Result PlainPlan Stop) → AreAsked told files s p k r → IfOk result (λ e. e ≡ plan_of k r) → IfOk result IsPlan → IfOk result (IsPlanOf told files s p)
+if_made told files s p k r (Ok plan) h e rules = plan_is told files s p k r plan h e rules
+if_made told files s p k r (Err stop) h e rules = tt
+
+pub if_not_made : (told : Type 0) (s : Sources) (p : Payment) (k : Held) (r : PlainRequest) (old new : ShelfView) (result : Result PlainPlan Stop) → AreAsked told old.files s p k r → IfErr result (StopsPlan k r) → IfErr result (StopsFor told s p old new)
+if_not_made told s p k r old new (Ok plan) h is = tt
+if_not_made told s p k r old new (Err stop) h is = stops_on told s p k.wallet h.held.blocks r old new stop h.inputs (subst (λ (x : Held). StopsPlan x r stop) h.held.is is)

@@ -1,0 +1,77 @@
+//! The command.
+
+ghost use Rattle.std.specs.Prelude.{◌≡◌, ◌⊎◌};
+ghost use Rattle.fund_base.specs.Causes.{CountsNeverFall, OnlyReads};
+ghost use Rattle.fund_steps.specs.Plan.{PlainPlan};
+ghost use Rattle.command_end.specs.Names.{plain_sources};
+ghost use Rattle.command_fund.specs.Names.{plain_payment};
+ghost use Rattle.command_check.specs.Asked.{AsksInOrder, AsksNoLog, AsksPayment};
+ghost use Rattle.command_check.specs.Due.{ComesTo, IsAnAcceptance, Outcome, status_of};
+ghost use Rattle.command_check.specs.Evidence.{HasLoggedReport, HavePlan};
+ghost use Rattle.command_check.specs.Statuses.{Ends, NoneFailed, NoneUnread};
+
+use crate::answer::answer;
+use crate::judging::accepted;
+use command_end::{Sources, Status, put_report};
+use command_fund::Payment;
+use fund_base::{Shelf, Sink};
+use std::alloc::Global;
+
+/// Puts what is printed of a report that is accepted, or the line of a stop.
+fn verdict<H: Shelf, O: Sink>(
+    alloc: Global,
+    sources: &Sources,
+    payment: &Payment,
+    report: &str,
+    shelf: &mut H,
+    out: &mut O,
+) -> Status
+    ensures ends { Ends H.tells O.tells (plain_sources sources.now) (plain_payment payment.now) report.now (H.view shelf.old) (H.view shelf.new) (O.view out.old) (O.view out.new) result }
+    ensures frame { OnlyReads H.tells (H.view shelf.old) (H.view shelf.new) }
+    ensures counts { CountsNeverFall (O.view out.old) (O.view out.new) }
+    ensures asked { H.tells → AsksInOrder (plain_sources sources.now) (plain_payment payment.now) report.now (H.view shelf.old) (H.view shelf.new) }
+    ensures no_log { H.tells → (HasLoggedReport ((H.view shelf.old).files report.now) → ⊥) → AsksNoLog (plain_sources sources.now) (plain_payment payment.now) report.now (H.view shelf.old) (H.view shelf.new) }
+    ensures unread { H.tells → ((plan : PlainPlan) → HavePlan (H.view shelf.old).files (plain_sources sources.now) (plain_payment payment.now) plan → ⊥) → AsksPayment (plain_sources sources.now) (plain_payment payment.now) (H.view shelf.old) (H.view shelf.new) }
+{
+    match accepted(alloc, sources, payment, report, shelf) {
+        Ok(text) => put_report(text.as_bytes(), Status::Done, out),
+        Err(stop) => answer(alloc, sources, payment, report, stop, out),
+    }
+}
+
+/// Checks the report of a payment, which is the file `report`, with its log, which is the payment's: it reads the three files
+/// of the payment, then the report and, unless that is of an unfinished run, the log; and prints to `out` that the report is
+/// accepted, and its first line. The wallet, the blocks and the request are refused as they are when the payment is funded.
+/// What is refused gets its fault line there. It writes no file.
+///
+/// The clauses on content hold where the shelf and the sink tell theirs.
+pub fn check<H: Shelf, O: Sink>(
+    alloc: Global,
+    sources: &Sources,
+    payment: &Payment,
+    report: &str,
+    shelf: &mut H,
+    out: &mut O,
+) -> Status
+    // By the status: what was found in the files, what an accepted report vouches for, and what the sink has got.
+    ensures ends { Ends H.tells O.tells (plain_sources sources.now) (plain_payment payment.now) report.now (H.view shelf.old) (H.view shelf.new) (O.view out.old) (O.view out.new) result }
+
+    // Where the report isn't accepted and the files were read, the status is that of the refusal, even if the sink fails.
+    ensures refused { H.tells → NoneUnread (plain_sources sources.now) (plain_payment payment.now) report.now (H.view shelf.old) (H.view shelf.new) → (o : Outcome) → ComesTo (H.view shelf.old).files (plain_sources sources.now) (plain_payment payment.now) report.now o → (IsAnAcceptance o → ⊥) → (result ≡ status_of o) ⊎ (result ≡ Status.Memory) }
+
+    // Where no count rose, the status is that of what the files come to, or want of memory.
+    ensures complete { H.tells → NoneFailed (plain_sources sources.now) (plain_payment payment.now) report.now (H.view shelf.old) (H.view shelf.new) (O.view out.old) (O.view out.new) → (o : Outcome) → ComesTo (H.view shelf.old).files (plain_sources sources.now) (plain_payment payment.now) report.now o → (result ≡ status_of o) ⊎ (result ≡ Status.Memory) }
+
+    // Nothing is written.
+    ensures frame { OnlyReads H.tells (H.view shelf.old) (H.view shelf.new) }
+    ensures counts { CountsNeverFall (O.view out.old) (O.view out.new) }
+
+    // It asks for the wallet file, the block file, the request, the report and the log, in this order, and for no other
+    // name: for no log where the report isn't in its grammar, is too long, or is of an unfinished run; and for neither where
+    // the payment is refused.
+    ensures asked { H.tells → AsksInOrder (plain_sources sources.now) (plain_payment payment.now) report.now (H.view shelf.old) (H.view shelf.new) }
+    ensures no_log { H.tells → (HasLoggedReport ((H.view shelf.old).files report.now) → ⊥) → AsksNoLog (plain_sources sources.now) (plain_payment payment.now) report.now (H.view shelf.old) (H.view shelf.new) }
+    ensures unread { H.tells → ((plan : PlainPlan) → HavePlan (H.view shelf.old).files (plain_sources sources.now) (plain_payment payment.now) plan → ⊥) → AsksPayment (plain_sources sources.now) (plain_payment payment.now) (H.view shelf.old) (H.view shelf.new) }
+{
+    verdict(alloc, sources, payment, report, shelf, out)
+}
