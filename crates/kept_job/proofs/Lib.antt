@@ -1,0 +1,15 @@
+pub mod AnswerLaws
+pub mod ClaimLaws
+pub mod FaultLaws
+pub mod FitLaws
+pub mod GrowLaws
+pub mod JoinLaws
+pub mod KeepingLaws
+pub mod LoadLaws
+pub mod LogLaws
+pub mod OverLaws
+pub mod ReadsLaws
+pub mod ResumedLaws
+pub mod SameLaws
+pub mod SavingLaws
+pub mod SizeLaws

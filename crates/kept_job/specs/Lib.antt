@@ -1,0 +1,10 @@
+pub mod Digest
+pub mod Faults
+pub mod Gone
+pub mod Jobs
+pub mod Kept
+pub mod Loading
+pub mod Refused
+pub mod Resuming
+pub mod Saving
+pub mod SavingRules
