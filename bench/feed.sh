@@ -1,8 +1,9 @@
 #!/usr/bin/env bash
-# Times the reading of a whole block file by crates/bench_all beside sha256sum of the same file, the best of three
-# each, and prints both in seconds and their ratio. A step that fails ends it with a non-zero status; a time never does.
+# Times the reading of a whole block file by crates/bench_all beside sha256sum and openssl's SHA-256 of the same file,
+# the best of three each, and prints them in seconds, the ratios, and the greatest memory of the reading. A step that
+# fails ends it with a non-zero status; a time never does.
 #
-# usage: bench/feed.sh [SEED [BYTES]]
+# usage: bench/feed.sh [SEED [BYTES]], as bench/feed.sh 1 67108864 and bench/feed.sh 1 1073700000
 set -euo pipefail
 export LC_ALL=C
 
@@ -34,17 +35,29 @@ seconds() {
 
 best_feed=
 best_sum=
+best_openssl=
 for _ in 1 2 3; do
     sum=$(nanoseconds sha256sum "$file")
+    openssl=$(nanoseconds openssl dgst -sha256 "$file")
     feed=$(nanoseconds "$program" feed "$file")
     read -r printed <"$folder/printed.txt"
     [ "$printed" = "$made" ] || { echo "made: $made; read: $printed" >&2; exit 1; }
     if [ -z "$best_sum" ] || [ "$sum" -lt "$best_sum" ]; then best_sum=$sum; fi
+    if [ -z "$best_openssl" ] || [ "$openssl" -lt "$best_openssl" ]; then best_openssl=$openssl; fi
     if [ -z "$best_feed" ] || [ "$feed" -lt "$best_feed" ]; then best_feed=$feed; fi
 done
+memory=$(python3 - "$program" feed "$file" <<'PYTHON'
+import resource, subprocess, sys
+subprocess.run(sys.argv[1:], check=True, stdout=subprocess.DEVNULL)
+print(resource.getrusage(resource.RUSAGE_CHILDREN).ru_maxrss // 1024)
+PYTHON
+)
 
 echo "file:       $(stat -c %s "$file") bytes, $made"
 echo "load:       $(cut -d' ' -f1-3 /proc/loadavg) on $(nproc) processors"
 echo "bench_all:  $(seconds "$best_feed")"
+echo "memory:     $memory MiB"
 echo "sha256sum:  $(seconds "$best_sum")"
-awk -v feed="$best_feed" -v sum="$best_sum" 'BEGIN { printf "ratio:      %.2f\n", feed / sum }'
+echo "openssl:    $(seconds "$best_openssl")"
+awk -v feed="$best_feed" -v sum="$best_sum" -v openssl="$best_openssl" \
+    'BEGIN { printf "ratios:     %.2f to sha256sum, %.2f to openssl\n", feed / sum, feed / openssl }'

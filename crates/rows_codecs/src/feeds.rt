@@ -1,5 +1,6 @@
 //! Block files read.
 
+use crate::block_files;
 use crate::pieces::Pieces;
 use crate::words::{self, RowError};
 use block_feed::{Block, Feed, FeedFault};
@@ -9,25 +10,25 @@ use std::alloc::Global;
 use tx_codec::{txid, weight};
 
 /// The name of the block file.
-const FILE: &str = "blocks";
+pub const FILE: &str = "blocks";
 
 /// The block after which a file begins.
 #[derive(Clone, Copy)]
-struct Before {
-    hash: [u8; 32],
-    height: u32,
+pub struct Before {
+    pub hash: [u8; 32],
+    pub height: u32,
 }
 
 /// The blocks of a file, what comes after them, and what the next call answers.
 #[derive(Drop)]
-struct Reading {
-    blocks: Vec<Block>,
-    end: Result<Option<Block>, FeedFault>,
-    again: Result<Option<Block>, FeedFault>,
+pub struct Reading {
+    pub blocks: Vec<Block>,
+    pub end: Result<Option<Block>, FeedFault>,
+    pub again: Result<Option<Block>, FeedFault>,
 }
 
 /// Reads the blocks of the file, to its end or to the first fault, and once more.
-fn read_on<H: Shelf>(
+pub fn read_on<H: Shelf>(
     alloc: Global,
     shelf: &mut H,
     name: &str,
@@ -59,7 +60,7 @@ fn block_text(alloc: Global, block: &Block) -> Result<String, RowError> {
 }
 
 /// A block, the end or a fault.
-fn answer_text(
+pub fn answer_text(
     alloc: Global,
     answer: &Result<Option<Block>, FeedFault>,
 ) -> Result<String, RowError> {
@@ -73,8 +74,14 @@ fn answer_text(
     }
 }
 
+/// How the reading ended, and how many blocks were given before.
+pub fn last_text(alloc: Global, reading: &Reading) -> Result<String, RowError> {
+    let end = answer_text(alloc, &reading.end)?;
+    Ok(format!(in alloc; "{} blocks, {}", reading.blocks.len(), end)?)
+}
+
 /// All answers in order.
-fn whole_text(alloc: Global, reading: &Reading) -> Result<String, RowError> {
+pub fn whole_text(alloc: Global, reading: &Reading) -> Result<String, RowError> {
     let mut text = String::new(alloc);
     for block in &reading.blocks {
         text.push_str(block_text(alloc, block)?.as_str())?;
@@ -198,6 +205,12 @@ pub fn answer(alloc: Global, verb: &str, words: &[&str]) -> Result<String, RowEr
     let hash = words::hash(alloc, *hash)?;
     let height = words::short_number(*height)?;
     let before = Before { hash, height };
+    if matches!(
+        verb,
+        "cuts" | "zeros" | "blank" | "broken" | "fails" | "digest"
+    ) {
+        return block_files::answer(alloc, verb, before, words);
+    }
     match read_file(alloc, verb, before, words)? {
         Some(reading) => reading_text(alloc, verb, before, &reading),
         None => Err(RowError::Form),

@@ -4,12 +4,14 @@
 #![tactic(auto)]
 
 mod addresses;
+mod block_files;
 mod feeds;
 mod fees;
 mod pieces;
 mod psbts;
 mod transactions;
 mod words;
+mod zeros;
 
 use std::alloc::Global;
 use std::io::{self, BufRead, BufReader, ErrorKind};
@@ -21,7 +23,16 @@ fn answer_of(alloc: Global, verb: &str, words: &[&str]) -> Result<String, RowErr
         "tx" | "txs" | "legacy" | "make" => transactions::answer(alloc, verb, words),
         "psbt" | "again" | "armored" | "unsigned" => psbts::answer(alloc, verb, words),
         "armor" | "unarmor" => psbts::text_answer(alloc, verb, words),
-        "feed" | "tip" | "weights" | "failing" => feeds::answer(alloc, verb, words),
+        "feed"
+        | "tip"
+        | "weights"
+        | "failing"
+        | "cuts"
+        | "zeros"
+        | "blank"
+        | "broken"
+        | "fails"
+        | "digest" => { feeds::answer(alloc, verb, words) }
         "script" => addresses::script(alloc, words),
         _ => fees::answer(alloc, verb, words),
     }

@@ -12,12 +12,11 @@ reading-init g c =
     let hash = ap (λ (x : PlainWallet). x.hash) c.wallet.view_is in
     let height = ap (λ (x : PlainWallet). x.height) c.wallet.view_is in
     rw c.new-feed.ensures (record {
-      same_file = tt;
       fine = refl;
       frame = record { same = λ t. refl; reads = λ name. omega arith; writes = refl };
       reads = refl;
       asked = λ t. asks_none (c.args.name.now ∷ []) (g.H.Shelf.view c.args.shelf.now).asked;
-      so_far = so_far_none g.H.Shelf.tells ((g.H.Shelf.view c.args.shelf.now).files c.args.name.now) c.args.wallet.now (record { hash = c.wallet.inside.hash; height = c.wallet.inside.height; place = 0; fault = None; file = None }) c.in-Ok.booked refl hash height c.requires.height c.in-Ok.ensures;
+      so_far = so_far_none g.H.Shelf.tells ((g.H.Shelf.view c.args.shelf.now).files c.args.name.now) c.args.wallet.now (record { hash = c.wallet.inside.hash; height = c.wallet.inside.height; place = 0; fault = None; hasher = None; digest = None }) c.in-Ok.booked refl hash height c.requires.height c.in-Ok.ensures;
     })
 
 pub returns-in_err-block-clause-fault : goal.returns-in_err-block-clause-fault
@@ -48,7 +47,6 @@ reading-preserved g c =
     let hash = ap (λ (b : ChainBlock). b.hash) c.block.view_is in
     let height = ap (λ (b : ChainBlock). b.height) c.block.view_is in
     record {
-      same_file = e.may_go_on;
       fine = e.fine;
       frame = record {
         same = λ t. e.same t ∙ c.reading.invariant.frame.same t;

@@ -1,12 +1,10 @@
 use Rattle.std.proofs.Common.{◌≡◌, [], ◌∷◌, None}
 use Rattle.fund_base.specs.Causes.{Asks, OnlyReads}
-use Rattle.block_feed.specs.Feed.{IsSameFile}
 use Rattle.fund_files.proofs.FeedSteps.{SoFar}
 use Rattle.fund_files.proofs.blocks.read_blocks.Given as goal
 
 abbrev pub invariant-reading : goal.invariant-reading
 invariant-reading g l = record {
-  same_file : IsSameFile g.H.Shelf.tells l.feed l.name ((g.H.Shelf.view l.shelf).files l.name);
   fine : l.feed.fault ≡ None;
   frame : OnlyReads g.H.Shelf.tells (g.H.Shelf.view l.initial.shelf) (g.H.Shelf.view l.shelf);
   reads : (g.H.Shelf.view l.shelf).reads ≡ (g.H.Shelf.view l.initial.shelf).reads;
