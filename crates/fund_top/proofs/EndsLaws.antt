@@ -6,18 +6,21 @@ use Rattle.fund_files.specs.Cause.{FileCause}
 use Rattle.command_end.specs.Names.{Sources}
 use Rattle.command_end.specs.declared.status.Status.{Status}
 use Rattle.command_end.specs.declared.status.Status.TheVariants as statuses
+use Rattle.command_check.proofs.OutcomeLaws.{one_outcome}
+use Rattle.command_check.specs.Due as check_files
+use Rattle.command_check.specs.Statuses as checks
 use Rattle.command_coins.specs.Due as listing_files
 use Rattle.command_coins.specs.Statuses as listings
-use Rattle.command_fund.specs.Cause.{Cause, cause_of, status_of_cause}
+use Rattle.command_fund.specs.Cause.{Cause, Files, cause_of, status_of_cause}
 use Rattle.command_fund.specs.Due as payment_files
 use Rattle.command_fund.specs.Names.{Payment}
 use Rattle.command_fund.specs.Statuses as payments
 use Rattle.command_fund.proofs.Finished.{log_lost, report_due}
 use Rattle.command_work.specs.Due as load_words
 use Rattle.command_work.specs.Statuses as loads
-use Rattle.fund_top.specs.Due.{Refused, listing_outcome, load_outcome, outcome_of, payment_outcome}
+use Rattle.fund_top.specs.Due.{ComesTo, IsRefusal, Outcome, Refused, check_outcome, listing_outcome, load_outcome, payment_outcome}
 use Rattle.fund_top.specs.Statuses.{Ends, NoneFailed, NoneUnread, status_of}
-use Rattle.fund_top.specs.Words.{Command, Coins, Fund, Work}
+use Rattle.fund_top.specs.Words.{Command, Coins, Fund, Check, Work}
 
 -- ---- the ends of each command are those of all
 
@@ -31,6 +34,7 @@ listing_ends told_files told s shelf shelf' sink sink' statuses.Limit h = h
 listing_ends told_files told s shelf shelf' sink sink' statuses.ReadFault h = h
 listing_ends told_files told s shelf shelf' sink sink' statuses.WriteFault h = h
 listing_ends told_files told s shelf shelf' sink sink' statuses.Memory h = h
+listing_ends told_files told s shelf shelf' sink sink' statuses.CheckRefused h = h
 
 pub payment_ends : (told_files told : Type 0) (s : Sources) (p : Payment) (shelf shelf' : ShelfView) (sink sink' : SinkView) (status : Status) → payments.Ends told_files told s p shelf shelf' sink sink' status → Ends told_files told (Fund s p) shelf shelf' sink sink' status
 payment_ends told_files told s p shelf shelf' sink sink' statuses.Done h = h
@@ -42,6 +46,19 @@ payment_ends told_files told s p shelf shelf' sink sink' statuses.Limit h = h
 payment_ends told_files told s p shelf shelf' sink sink' statuses.ReadFault h = h
 payment_ends told_files told s p shelf shelf' sink sink' statuses.WriteFault h = h
 payment_ends told_files told s p shelf shelf' sink sink' statuses.Memory h = h
+payment_ends told_files told s p shelf shelf' sink sink' statuses.CheckRefused h = h
+
+pub check_ends : (told_files told : Type 0) (s : Sources) (p : Payment) (report : List ℕ) (shelf shelf' : ShelfView) (sink sink' : SinkView) (status : Status) → checks.Ends told_files told s p report shelf shelf' sink sink' status → Ends told_files told (Check s p report) shelf shelf' sink sink' status
+check_ends told_files told s p report shelf shelf' sink sink' statuses.Done h = h
+check_ends told_files told s p report shelf shelf' sink sink' statuses.NoSelection h = h
+check_ends told_files told s p report shelf shelf' sink sink' statuses.Unfinished h = h
+check_ends told_files told s p report shelf shelf' sink sink' statuses.Usage h = h
+check_ends told_files told s p report shelf shelf' sink sink' statuses.Input h = h
+check_ends told_files told s p report shelf shelf' sink sink' statuses.Limit h = h
+check_ends told_files told s p report shelf shelf' sink sink' statuses.ReadFault h = h
+check_ends told_files told s p report shelf shelf' sink sink' statuses.WriteFault h = h
+check_ends told_files told s p report shelf shelf' sink sink' statuses.Memory h = h
+check_ends told_files told s p report shelf shelf' sink sink' statuses.CheckRefused h = h
 
 pub load_ends : (told_files told : Type 0) (number count : ℕ) (shelf shelf' : ShelfView) (sink sink' : SinkView) (status : Status) → loads.Ends told number count sink sink' status → Ends told_files told (Work number count) shelf shelf' sink sink' status
 load_ends told_files told number count shelf shelf' sink sink' statuses.Done h = h
@@ -53,6 +70,7 @@ load_ends told_files told number count shelf shelf' sink sink' statuses.Limit h 
 load_ends told_files told number count shelf shelf' sink sink' statuses.ReadFault h = h
 load_ends told_files told number count shelf shelf' sink sink' statuses.WriteFault h = h
 load_ends told_files told number count shelf shelf' sink sink' statuses.Memory h = h
+load_ends told_files told number count shelf shelf' sink sink' statuses.CheckRefused h = h
 
 -- ---- and the other way
 
@@ -66,6 +84,7 @@ listing_back told_files told s shelf shelf' sink sink' statuses.Limit h = h
 listing_back told_files told s shelf shelf' sink sink' statuses.ReadFault h = h
 listing_back told_files told s shelf shelf' sink sink' statuses.WriteFault h = h
 listing_back told_files told s shelf shelf' sink sink' statuses.Memory h = h
+listing_back told_files told s shelf shelf' sink sink' statuses.CheckRefused h = h
 
 payment_back : (told_files told : Type 0) (s : Sources) (p : Payment) (shelf shelf' : ShelfView) (sink sink' : SinkView) (status : Status) → Ends told_files told (Fund s p) shelf shelf' sink sink' status → payments.Ends told_files told s p shelf shelf' sink sink' status
 payment_back told_files told s p shelf shelf' sink sink' statuses.Done h = h
@@ -77,6 +96,19 @@ payment_back told_files told s p shelf shelf' sink sink' statuses.Limit h = h
 payment_back told_files told s p shelf shelf' sink sink' statuses.ReadFault h = h
 payment_back told_files told s p shelf shelf' sink sink' statuses.WriteFault h = h
 payment_back told_files told s p shelf shelf' sink sink' statuses.Memory h = h
+payment_back told_files told s p shelf shelf' sink sink' statuses.CheckRefused h = h
+
+check_back : (told_files told : Type 0) (s : Sources) (p : Payment) (report : List ℕ) (shelf shelf' : ShelfView) (sink sink' : SinkView) (status : Status) → Ends told_files told (Check s p report) shelf shelf' sink sink' status → checks.Ends told_files told s p report shelf shelf' sink sink' status
+check_back told_files told s p report shelf shelf' sink sink' statuses.Done h = h
+check_back told_files told s p report shelf shelf' sink sink' statuses.NoSelection h = h
+check_back told_files told s p report shelf shelf' sink sink' statuses.Unfinished h = h
+check_back told_files told s p report shelf shelf' sink sink' statuses.Usage h = h
+check_back told_files told s p report shelf shelf' sink sink' statuses.Input h = h
+check_back told_files told s p report shelf shelf' sink sink' statuses.Limit h = h
+check_back told_files told s p report shelf shelf' sink sink' statuses.ReadFault h = h
+check_back told_files told s p report shelf shelf' sink sink' statuses.WriteFault h = h
+check_back told_files told s p report shelf shelf' sink sink' statuses.Memory h = h
+check_back told_files told s p report shelf shelf' sink sink' statuses.CheckRefused h = h
 
 load_back : (told_files told : Type 0) (number count : ℕ) (shelf shelf' : ShelfView) (sink sink' : SinkView) (status : Status) → Ends told_files told (Work number count) shelf shelf' sink sink' status → loads.Ends told number count sink sink' status
 load_back told_files told number count shelf shelf' sink sink' statuses.Done h = h
@@ -88,6 +120,7 @@ load_back told_files told number count shelf shelf' sink sink' statuses.Limit h 
 load_back told_files told number count shelf shelf' sink sink' statuses.ReadFault h = h
 load_back told_files told number count shelf shelf' sink sink' statuses.WriteFault h = h
 load_back told_files told number count shelf shelf' sink sink' statuses.Memory h = h
+load_back told_files told number count shelf shelf' sink sink' statuses.CheckRefused h = h
 
 -- ---- a report isn't due where the files are refused
 
@@ -115,6 +148,7 @@ summary_due number count statuses.Limit summary h = absurd h
 summary_due number count statuses.ReadFault summary h = absurd h
 summary_due number count statuses.WriteFault summary h = absurd h
 summary_due number count statuses.Memory summary h = absurd h
+summary_due number count statuses.CheckRefused summary h = absurd h
 
 -- ---- where nothing failed
 
@@ -125,7 +159,7 @@ abbrev payment_status : payment_files.Outcome → Status
 payment_status due = status_of (payment_outcome due)
 
 listing_complete : (told_files told : Type 0) (s : Sources) (shelf shelf' : ShelfView) (sink sink' : SinkView) (status : Status) → listings.Ends told_files told s shelf shelf' sink sink' status → told_files → NoneFailed (Coins s) shelf shelf' sink sink'
-    → (status ≡ status_of (outcome_of shelf.files (Coins s))) ⊎ (status ≡ statuses.Memory)
+    → (status ≡ status_of (listing_outcome (listing_files.due_of shelf.files s))) ⊎ (status ≡ statuses.Memory)
 listing_complete told_files told s shelf shelf' sink sink' statuses.Done h t none = inl (sym (ap listing_status (h.1.comes_to t)))
 listing_complete told_files told s shelf shelf' sink sink' statuses.NoSelection h t none = absurd h
 listing_complete told_files told s shelf shelf' sink sink' statuses.Unfinished h t none = absurd h
@@ -135,9 +169,10 @@ listing_complete told_files told s shelf shelf' sink sink' statuses.Limit h t no
 listing_complete told_files told s shelf shelf' sink sink' statuses.ReadFault h t none = absurd (none.reads h.0 h.1)
 listing_complete told_files told s shelf shelf' sink sink' statuses.WriteFault h t none = absurd (none.sinks h.1)
 listing_complete told_files told s shelf shelf' sink sink' statuses.Memory h t none = inr refl
+listing_complete told_files told s shelf shelf' sink sink' statuses.CheckRefused h t none = absurd h
 
 payment_complete : (told_files told : Type 0) (s : Sources) (p : Payment) (shelf shelf' : ShelfView) (sink sink' : SinkView) (status : Status) → payments.Ends told_files told s p shelf shelf' sink sink' status → told_files → NoneFailed (Fund s p) shelf shelf' sink sink'
-    → (status ≡ status_of (outcome_of shelf.files (Fund s p))) ⊎ (status ≡ statuses.Memory)
+    → (status ≡ status_of (payment_outcome (payment_files.due_of shelf.files s p))) ⊎ (status ≡ statuses.Memory)
 payment_complete told_files told s p shelf shelf' sink sink' statuses.Done h t none = inl (sym (ap payment_status (h.2.comes_to t)))
 payment_complete told_files told s p shelf shelf' sink sink' statuses.NoSelection h t none = inl (sym (ap payment_status (h.2.comes_to t)))
 payment_complete told_files told s p shelf shelf' sink sink' statuses.Unfinished h t none = inl (sym (ap payment_status (h.1.comes_to t)))
@@ -146,8 +181,9 @@ payment_complete told_files told s p shelf shelf' sink sink' statuses.Input h t 
 payment_complete told_files told s p shelf shelf' sink sink' statuses.Limit h t none = inl (sym (ap payment_status (h.2 t).0 ∙ h.1))
 payment_complete told_files told s p shelf shelf' sink sink' statuses.ReadFault h t none = absurd (none.reads h.0 h.1)
 payment_complete told_files told s p shelf shelf' sink sink' statuses.WriteFault h t none =
-    elim h.3 as (λ x. (statuses.WriteFault ≡ status_of (outcome_of shelf.files (Fund s p))) ⊎ (statuses.WriteFault ≡ statuses.Memory)) [ inl w ↦ absurd (none.log (log_lost p h.1 shelf shelf' w.0)) | inr w ↦ absurd (none.sinks w.0) ]
+    elim h.3 as (λ x. (statuses.WriteFault ≡ status_of (payment_outcome (payment_files.due_of shelf.files s p))) ⊎ (statuses.WriteFault ≡ statuses.Memory)) [ inl w ↦ absurd (none.log (log_lost p h.1 shelf shelf' w.0)) | inr w ↦ absurd (none.sinks w.0) ]
 payment_complete told_files told s p shelf shelf' sink sink' statuses.Memory h t none = inr refl
+payment_complete told_files told s p shelf shelf' sink sink' statuses.CheckRefused h t none = absurd h
 
 abbrev load_status : load_words.Outcome → Status
 load_status due = status_of (load_outcome due)
@@ -157,7 +193,7 @@ collision_status : (number count : ℕ) (cause : Cause) → load_words.IsCollisi
 collision_status number count cause h = ap status_of_cause h.cause_is
 
 load_complete : (told : Type 0) (number count : ℕ) (shelf shelf' : ShelfView) (sink sink' : SinkView) (status : Status) → loads.Ends told number count sink sink' status → NoneFailed (Work number count) shelf shelf' sink sink'
-    → (status ≡ status_of (outcome_of shelf.files (Work number count))) ⊎ (status ≡ statuses.Memory)
+    → (status ≡ status_of (load_outcome (load_words.due_of number count))) ⊎ (status ≡ statuses.Memory)
 load_complete told number count shelf shelf' sink sink' statuses.Done h none = inl (sym (ap load_status (summary_due number count statuses.Done h.0 h.1)))
 load_complete told number count shelf shelf' sink sink' statuses.NoSelection h none = inl (sym (ap load_status (summary_due number count statuses.NoSelection h.0 h.1)))
 load_complete told number count shelf shelf' sink sink' statuses.Unfinished h none = inl (sym (ap load_status (summary_due number count statuses.Unfinished h.0 h.1)))
@@ -167,17 +203,42 @@ load_complete told number count shelf shelf' sink sink' statuses.Limit h none = 
 load_complete told number count shelf shelf' sink sink' statuses.ReadFault h none = absurd h
 load_complete told number count shelf shelf' sink sink' statuses.WriteFault h none = absurd (none.sinks h.3)
 load_complete told number count shelf shelf' sink sink' statuses.Memory h none = inr refl
+load_complete told number count shelf shelf' sink sink' statuses.CheckRefused h none = absurd h
+
+-- what the files of a report come to is one, so its status is
+check_status : (files : List ℕ → List ℕ) (s : Sources) (p : Payment) (report : List ℕ) (found due : check_files.Outcome) (status : Status) → check_files.ComesTo files s p report found → check_files.ComesTo files s p report due → status_of (check_outcome found) ≡ status → status ≡ status_of (check_outcome due)
+check_status files s p report found due status a b is = sym is ∙ ap (λ (o : check_files.Outcome). status_of (check_outcome o)) (one_outcome files s p report found due a b)
+
+check_complete : (told_files told : Type 0) (s : Sources) (p : Payment) (report : List ℕ) (shelf shelf' : ShelfView) (sink sink' : SinkView) (status : Status) → checks.Ends told_files told s p report shelf shelf' sink sink' status → told_files → NoneFailed (Check s p report) shelf shelf' sink sink' → (due : check_files.Outcome) → check_files.ComesTo shelf.files s p report due
+    → (status ≡ status_of (check_outcome due)) ⊎ (status ≡ statuses.Memory)
+check_complete told_files told s p report shelf shelf' sink sink' statuses.Done h t none due d = inl (check_status shelf.files s p report (check_files.Accepted h.1.found) due statuses.Done (h.1.comes_to t) d refl)
+check_complete told_files told s p report shelf shelf' sink sink' statuses.NoSelection h t none due d = absurd h
+check_complete told_files told s p report shelf shelf' sink sink' statuses.Unfinished h t none due d = absurd h
+check_complete told_files told s p report shelf shelf' sink sink' statuses.Usage h t none due d = absurd h
+check_complete told_files told s p report shelf shelf' sink sink' statuses.Input h t none due d = inl (check_status shelf.files s p report (check_files.Refused (cause_of h.0)) due statuses.Input (h.2 t) d h.1)
+check_complete told_files told s p report shelf shelf' sink sink' statuses.Limit (inl h) t none due d = inl (check_status shelf.files s p report (check_files.Refused (cause_of h.0)) due statuses.Limit (h.2 t) d h.1)
+check_complete told_files told s p report shelf shelf' sink sink' statuses.Limit (inr h) t none due d = inl (check_status shelf.files s p report (check_files.TooLong h.0) due statuses.Limit (h.1 t) d refl)
+check_complete told_files told s p report shelf shelf' sink sink' statuses.ReadFault (inl h) t none due d = absurd (none.reads.payment h.0 h.1)
+check_complete told_files told s p report shelf shelf' sink sink' statuses.ReadFault (inr h) t none due d = absurd (none.reads.evidence h.0 h.1)
+check_complete told_files told s p report shelf shelf' sink sink' statuses.WriteFault h t none due d = absurd (none.sinks h.2)
+check_complete told_files told s p report shelf shelf' sink sink' statuses.Memory h t none due d = inr refl
+check_complete told_files told s p report shelf shelf' sink sink' statuses.CheckRefused h t none due d = inl (check_status shelf.files s p report (check_files.Broken h.0) due statuses.CheckRefused (h.2 t) d refl)
 
 -- it is the status of what the files come to, or want of memory
-pub ends_complete : (told_files told : Type 0) (c : Command) (shelf shelf' : ShelfView) (sink sink' : SinkView) (status : Status) → Ends told_files told c shelf shelf' sink sink' status → told_files → NoneFailed c shelf shelf' sink sink'
-    → (status ≡ status_of (outcome_of shelf.files c)) ⊎ (status ≡ statuses.Memory)
-ends_complete told_files told (Coins s) shelf shelf' sink sink' status h t none = listing_complete told_files told s shelf shelf' sink sink' status (listing_back told_files told s shelf shelf' sink sink' status h) t none
-ends_complete told_files told (Fund s p) shelf shelf' sink sink' status h t none = payment_complete told_files told s p shelf shelf' sink sink' status (payment_back told_files told s p shelf shelf' sink sink' status h) t none
-ends_complete told_files told (Work number count) shelf shelf' sink sink' status h t none = load_complete told number count shelf shelf' sink sink' status (load_back told_files told number count shelf shelf' sink sink' status h) none
+pub ends_complete : (told_files told : Type 0) (c : Command) (shelf shelf' : ShelfView) (sink sink' : SinkView) (status : Status) → Ends told_files told c shelf shelf' sink sink' status → told_files → NoneFailed c shelf shelf' sink sink' → (due : Outcome) → ComesTo shelf.files c due
+    → (status ≡ status_of due) ⊎ (status ≡ statuses.Memory)
+ends_complete told_files told (Coins s) shelf shelf' sink sink' status h t none due is =
+    subst (λ (x : Outcome). (status ≡ status_of x) ⊎ (status ≡ statuses.Memory)) (sym is) (listing_complete told_files told s shelf shelf' sink sink' status (listing_back told_files told s shelf shelf' sink sink' status h) t none)
+ends_complete told_files told (Fund s p) shelf shelf' sink sink' status h t none due is =
+    subst (λ (x : Outcome). (status ≡ status_of x) ⊎ (status ≡ statuses.Memory)) (sym is) (payment_complete told_files told s p shelf shelf' sink sink' status (payment_back told_files told s p shelf shelf' sink sink' status h) t none)
+ends_complete told_files told (Check s p report) shelf shelf' sink sink' status h t none due is =
+    subst (λ (x : Outcome). (status ≡ status_of x) ⊎ (status ≡ statuses.Memory)) (sym is.2) (check_complete told_files told s p report shelf shelf' sink sink' status (check_back told_files told s p report shelf shelf' sink sink' status h) t none is.0 is.1)
+ends_complete told_files told (Work number count) shelf shelf' sink sink' status h t none due is =
+    subst (λ (x : Outcome). (status ≡ status_of x) ⊎ (status ≡ statuses.Memory)) (sym is) (load_complete told number count shelf shelf' sink sink' status (load_back told_files told number count shelf shelf' sink sink' status h) none)
 
 -- ---- where the files are refused and none wasn't read
 
-listing_refused : (told_files told : Type 0) (s : Sources) (shelf shelf' : ShelfView) (sink sink' : SinkView) (status : Status) → listings.Ends told_files told s shelf shelf' sink sink' status → told_files → NoneUnread (Coins s) shelf shelf' → (cause : Cause) → outcome_of shelf.files (Coins s) ≡ Refused cause
+listing_refused : (told_files told : Type 0) (s : Sources) (shelf shelf' : ShelfView) (sink sink' : SinkView) (status : Status) → listings.Ends told_files told s shelf shelf' sink sink' status → told_files → NoneUnread (Coins s) shelf shelf' → (cause : Cause) → listing_outcome (listing_files.due_of shelf.files s) ≡ Refused cause
     → (status ≡ status_of_cause cause) ⊎ (status ≡ statuses.Memory)
 listing_refused told_files told s shelf shelf' sink sink' statuses.Done h t none cause is = absurd (listing_not (listing_files.due_of shelf.files s) cause is (subst listings.IsReported (sym (h.1.comes_to t)) tt))
 listing_refused told_files told s shelf shelf' sink sink' statuses.NoSelection h t none cause is = absurd h
@@ -188,8 +249,9 @@ listing_refused told_files told s shelf shelf' sink sink' statuses.Limit h t non
 listing_refused told_files told s shelf shelf' sink sink' statuses.ReadFault h t none cause is = absurd (none h.0 h.1)
 listing_refused told_files told s shelf shelf' sink sink' statuses.WriteFault h t none cause is = absurd (listing_not (listing_files.due_of shelf.files s) cause is (h.0 t))
 listing_refused told_files told s shelf shelf' sink sink' statuses.Memory h t none cause is = inr refl
+listing_refused told_files told s shelf shelf' sink sink' statuses.CheckRefused h t none cause is = absurd h
 
-payment_refused : (told_files told : Type 0) (s : Sources) (p : Payment) (shelf shelf' : ShelfView) (sink sink' : SinkView) (status : Status) → payments.Ends told_files told s p shelf shelf' sink sink' status → told_files → NoneUnread (Fund s p) shelf shelf' → (cause : Cause) → outcome_of shelf.files (Fund s p) ≡ Refused cause
+payment_refused : (told_files told : Type 0) (s : Sources) (p : Payment) (shelf shelf' : ShelfView) (sink sink' : SinkView) (status : Status) → payments.Ends told_files told s p shelf shelf' sink sink' status → told_files → NoneUnread (Fund s p) shelf shelf' → (cause : Cause) → payment_outcome (payment_files.due_of shelf.files s p) ≡ Refused cause
     → (status ≡ status_of_cause cause) ⊎ (status ≡ statuses.Memory)
 payment_refused told_files told s p shelf shelf' sink sink' statuses.Done h t none cause is = absurd (report_due told_files shelf.files s p h.0 (Some h.1) (inl h.2) t cause (payment_not (payment_files.due_of shelf.files s p) cause is))
 payment_refused told_files told s p shelf shelf' sink sink' statuses.NoSelection h t none cause is = absurd (report_due told_files shelf.files s p h.0 (Some h.1) (inr h.2) t cause (payment_not (payment_files.due_of shelf.files s p) cause is))
@@ -200,22 +262,76 @@ payment_refused told_files told s p shelf shelf' sink sink' statuses.Limit h t n
 payment_refused told_files told s p shelf shelf' sink sink' statuses.ReadFault h t none cause is = absurd (none h.0 h.1)
 payment_refused told_files told s p shelf shelf' sink sink' statuses.WriteFault h t none cause is = absurd (report_due told_files shelf.files s p h.0 h.1 h.2 t cause (payment_not (payment_files.due_of shelf.files s p) cause is))
 payment_refused told_files told s p shelf shelf' sink sink' statuses.Memory h t none cause is = inr refl
+payment_refused told_files told s p shelf shelf' sink sink' statuses.CheckRefused h t none cause is = absurd h
 
-load_refused : (told : Type 0) (number count : ℕ) (files : List ℕ → List ℕ) (sink sink' : SinkView) (status : Status) → loads.Ends told number count sink sink' status → (cause : Cause) → outcome_of files (Work number count) ≡ Refused cause
+load_refused : (told : Type 0) (number count : ℕ) (sink sink' : SinkView) (status : Status) → loads.Ends told number count sink sink' status → (cause : Cause) → load_outcome (load_words.due_of number count) ≡ Refused cause
     → (status ≡ status_of_cause cause) ⊎ (status ≡ statuses.Memory)
-load_refused told number count files sink sink' statuses.Done h cause is = absurd (load_not (load_words.due_of number count) cause statuses.Done h.0 is (summary_due number count statuses.Done h.0 h.1))
-load_refused told number count files sink sink' statuses.NoSelection h cause is = absurd (load_not (load_words.due_of number count) cause statuses.NoSelection h.0 is (summary_due number count statuses.NoSelection h.0 h.1))
-load_refused told number count files sink sink' statuses.Unfinished h cause is = absurd (load_not (load_words.due_of number count) cause statuses.Unfinished h.0 is (summary_due number count statuses.Unfinished h.0 h.1))
-load_refused told number count files sink sink' statuses.Usage h cause is = absurd h
-load_refused told number count files sink sink' statuses.Input h cause is = inl (sym (ap status_of (sym is) ∙ ap load_status h.2 ∙ collision_status number count (cause_of h.0) h.1))
-load_refused told number count files sink sink' statuses.Limit h cause is = absurd h
-load_refused told number count files sink sink' statuses.ReadFault h cause is = absurd h
-load_refused told number count files sink sink' statuses.WriteFault h cause is = absurd (load_not (load_words.due_of number count) cause h.0 h.1 is (summary_due number count h.0 h.1 h.2))
-load_refused told number count files sink sink' statuses.Memory h cause is = inr refl
+load_refused told number count sink sink' statuses.Done h cause is = absurd (load_not (load_words.due_of number count) cause statuses.Done h.0 is (summary_due number count statuses.Done h.0 h.1))
+load_refused told number count sink sink' statuses.NoSelection h cause is = absurd (load_not (load_words.due_of number count) cause statuses.NoSelection h.0 is (summary_due number count statuses.NoSelection h.0 h.1))
+load_refused told number count sink sink' statuses.Unfinished h cause is = absurd (load_not (load_words.due_of number count) cause statuses.Unfinished h.0 is (summary_due number count statuses.Unfinished h.0 h.1))
+load_refused told number count sink sink' statuses.Usage h cause is = absurd h
+load_refused told number count sink sink' statuses.Input h cause is = inl (sym (ap status_of (sym is) ∙ ap load_status h.2 ∙ collision_status number count (cause_of h.0) h.1))
+load_refused told number count sink sink' statuses.Limit h cause is = absurd h
+load_refused told number count sink sink' statuses.ReadFault h cause is = absurd h
+load_refused told number count sink sink' statuses.WriteFault h cause is = absurd (load_not (load_words.due_of number count) cause h.0 h.1 is (summary_due number count h.0 h.1 h.2))
+load_refused told number count sink sink' statuses.Memory h cause is = inr refl
+load_refused told number count sink sink' statuses.CheckRefused h cause is = absurd h
+
+check_refused : (told_files told : Type 0) (s : Sources) (p : Payment) (report : List ℕ) (shelf shelf' : ShelfView) (sink sink' : SinkView) (status : Status) → checks.Ends told_files told s p report shelf shelf' sink sink' status → told_files → NoneUnread (Check s p report) shelf shelf' → (due : check_files.Outcome) → check_files.ComesTo shelf.files s p report due → (check_files.IsAnAcceptance due → ⊥)
+    → (status ≡ status_of (check_outcome due)) ⊎ (status ≡ statuses.Memory)
+check_refused told_files told s p report shelf shelf' sink sink' statuses.Done h t none due d unaccepted = let e = one_outcome shelf.files s p report (check_files.Accepted h.1.found) due (h.1.comes_to t) d in absurd (unaccepted (subst check_files.IsAnAcceptance e tt))
+check_refused told_files told s p report shelf shelf' sink sink' statuses.NoSelection h t none due d unaccepted = absurd h
+check_refused told_files told s p report shelf shelf' sink sink' statuses.Unfinished h t none due d unaccepted = absurd h
+check_refused told_files told s p report shelf shelf' sink sink' statuses.Usage h t none due d unaccepted = absurd h
+check_refused told_files told s p report shelf shelf' sink sink' statuses.Input h t none due d unaccepted = inl (check_status shelf.files s p report (check_files.Refused (cause_of h.0)) due statuses.Input (h.2 t) d h.1)
+check_refused told_files told s p report shelf shelf' sink sink' statuses.Limit (inl h) t none due d unaccepted = inl (check_status shelf.files s p report (check_files.Refused (cause_of h.0)) due statuses.Limit (h.2 t) d h.1)
+check_refused told_files told s p report shelf shelf' sink sink' statuses.Limit (inr h) t none due d unaccepted = inl (check_status shelf.files s p report (check_files.TooLong h.0) due statuses.Limit (h.1 t) d refl)
+check_refused told_files told s p report shelf shelf' sink sink' statuses.ReadFault (inl h) t none due d unaccepted = absurd (none.payment h.0 h.1)
+check_refused told_files told s p report shelf shelf' sink sink' statuses.ReadFault (inr h) t none due d unaccepted = absurd (none.evidence h.0 h.1)
+check_refused told_files told s p report shelf shelf' sink sink' statuses.WriteFault h t none due d unaccepted = let e = one_outcome shelf.files s p report (check_files.Accepted h.1.found) due (h.1.comes_to t) d in absurd (unaccepted (subst check_files.IsAnAcceptance e tt))
+check_refused told_files told s p report shelf shelf' sink sink' statuses.Memory h t none due d unaccepted = inr refl
+check_refused told_files told s p report shelf shelf' sink sink' statuses.CheckRefused h t none due d unaccepted = inl (check_status shelf.files s p report (check_files.Broken h.0) due statuses.CheckRefused (h.2 t) d refl)
+
+-- what isn't accepted is refused
+not_accepted : (due : check_files.Outcome) → IsRefusal (check_outcome due) → check_files.IsAnAcceptance due → ⊥
+not_accepted (check_files.Refused cause) refusal accepted = accepted
+not_accepted (check_files.TooLong file) refusal accepted = accepted
+not_accepted (check_files.Broken fault) refusal accepted = accepted
+not_accepted (check_files.Accepted report) refusal accepted = refusal
+
+-- a refusal that a command comes to is of this cause
+abbrev IsOf : Status → Outcome → Type 0
+IsOf status due = (status ≡ status_of due) ⊎ (status ≡ statuses.Memory)
+
+listing_any : (status : Status) (due found : Result (List ℕ) FileCause) → due ≡ found → IsRefusal (listing_outcome found) → ((cause : Cause) → listing_outcome due ≡ Refused cause → IsOf status (Refused cause)) → IsOf status (listing_outcome found)
+listing_any status due (Ok listing) e refusal by = absurd refusal
+listing_any status due (Err cause) e refusal by = by (Files cause) (ap listing_outcome e)
+
+payment_any : (status : Status) (due found : payment_files.Outcome) → due ≡ found → IsRefusal (payment_outcome found) → ((cause : Cause) → payment_outcome due ≡ Refused cause → IsOf status (Refused cause)) → IsOf status (payment_outcome found)
+payment_any status due (payment_files.Refused cause) e refusal by = by cause (ap payment_outcome e)
+payment_any status due (payment_files.Unfinished report) e refusal by = absurd refusal
+payment_any status due (payment_files.NoSelection report log) e refusal by = absurd refusal
+payment_any status due (payment_files.Funded report log) e refusal by = absurd refusal
+
+load_any : (status : Status) (due found : load_words.Outcome) → due ≡ found → IsRefusal (load_outcome found) → ((cause : Cause) → load_outcome due ≡ Refused cause → IsOf status (Refused cause)) → IsOf status (load_outcome found)
+load_any status due (load_words.Refused cause) e refusal by = by cause (ap load_outcome e)
+load_any status due (load_words.Summed own summary) e refusal by = absurd refusal
 
 -- it is the status of the refusal, or want of memory
-pub ends_refused : (told_files told : Type 0) (c : Command) (shelf shelf' : ShelfView) (sink sink' : SinkView) (status : Status) → Ends told_files told c shelf shelf' sink sink' status → told_files → NoneUnread c shelf shelf' → (cause : Cause) → outcome_of shelf.files c ≡ Refused cause
-    → (status ≡ status_of_cause cause) ⊎ (status ≡ statuses.Memory)
-ends_refused told_files told (Coins s) shelf shelf' sink sink' status h t none cause is = listing_refused told_files told s shelf shelf' sink sink' status (listing_back told_files told s shelf shelf' sink sink' status h) t none cause is
-ends_refused told_files told (Fund s p) shelf shelf' sink sink' status h t none cause is = payment_refused told_files told s p shelf shelf' sink sink' status (payment_back told_files told s p shelf shelf' sink sink' status h) t none cause is
-ends_refused told_files told (Work number count) shelf shelf' sink sink' status h t none cause is = load_refused told number count shelf.files sink sink' status (load_back told_files told number count shelf shelf' sink sink' status h) cause is
+pub ends_refused : (told_files told : Type 0) (c : Command) (shelf shelf' : ShelfView) (sink sink' : SinkView) (status : Status) → Ends told_files told c shelf shelf' sink sink' status → told_files → NoneUnread c shelf shelf' → (due : Outcome) → IsRefusal due → ComesTo shelf.files c due
+    → (status ≡ status_of due) ⊎ (status ≡ statuses.Memory)
+ends_refused told_files told (Coins s) shelf shelf' sink sink' status h t none due refusal is =
+    subst (λ (x : Outcome). IsOf status x) (sym is)
+    (listing_any status (listing_files.due_of shelf.files s) (listing_files.due_of shelf.files s) refl (subst IsRefusal is refusal)
+    (λ cause e. listing_refused told_files told s shelf shelf' sink sink' status (listing_back told_files told s shelf shelf' sink sink' status h) t none cause e))
+ends_refused told_files told (Fund s p) shelf shelf' sink sink' status h t none due refusal is =
+    subst (λ (x : Outcome). IsOf status x) (sym is)
+    (payment_any status (payment_files.due_of shelf.files s p) (payment_files.due_of shelf.files s p) refl (subst IsRefusal is refusal)
+    (λ cause e. payment_refused told_files told s p shelf shelf' sink sink' status (payment_back told_files told s p shelf shelf' sink sink' status h) t none cause e))
+ends_refused told_files told (Check s p report) shelf shelf' sink sink' status h t none due refusal is =
+    subst (λ (x : Outcome). IsOf status x) (sym is.2)
+    (check_refused told_files told s p report shelf shelf' sink sink' status (check_back told_files told s p report shelf shelf' sink sink' status h) t none is.0 is.1 (not_accepted is.0 (subst IsRefusal is.2 refusal)))
+ends_refused told_files told (Work number count) shelf shelf' sink sink' status h t none due refusal is =
+    subst (λ (x : Outcome). IsOf status x) (sym is)
+    (load_any status (load_words.due_of number count) (load_words.due_of number count) refl (subst IsRefusal is refusal)
+    (λ cause e. load_refused told number count sink sink' status (load_back told_files told number count shelf shelf' sink sink' status h) cause e))

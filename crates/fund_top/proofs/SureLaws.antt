@@ -2,41 +2,58 @@
 use Rattle.std.proofs.Common.{◌≡◌, ℕ, List, Option, Some, None, IfSome, arith}
 use Rattle.std.specs.Prelude.{◌⊎◌}
 use Rattle.fund_base.specs.Causes.{Rose, ShelfView, SinkView}
+use Rattle.fund_files.specs.FileStops as files
 use Rattle.fund_files.specs.declared.refusal.File.{File}
 use Rattle.fund_files.specs.declared.refusal.File.TheVariants.{Wallet, Blocks, Request}
+use Rattle.command_check.specs.Evidence.{evidence_name}
+use Rattle.command_check.specs.Statuses as checks
+use Rattle.command_fund.specs.Inputs as inputs
 use Rattle.command_fund.specs.Inputs.{name_of}
 use Rattle.command_fund.specs.Statuses as payments
+use Rattle.command_end.specs.Names.{Sources}
+use Rattle.command_fund.specs.Names.{Payment}
 use Rattle.command_end.specs.declared.status.Status.TheVariants as statuses
 use Rattle.command_work.specs.Statuses as loads
 use Rattle.command_end.specs.declared.status.Status.{Status}
-use Rattle.fund_top.specs.Due.{outcome_of}
-use Rattle.fund_top.specs.InMemory.{Funds, FundsNot, FundsOpen, Sums}
-use Rattle.fund_top.specs.Statuses.{EndsNotFunded, EndsUnfinished, IsLogUnwritten, IsUnread, NoneFailed, WhereFunding, WhereWorking, status_of}
-use Rattle.fund_top.specs.Words.{Command, Coins, Fund, Work}
+use Rattle.fund_top.specs.Due.{ComesTo, Outcome}
+use Rattle.fund_top.specs.InMemory.{Accepts, Funds, FundsNot, FundsOpen, Sums}
+use Rattle.fund_top.specs.Statuses.{EndsNotFunded, EndsUnfinished, IsLogUnwritten, NoneFailed, NoneUnread, WhereChecking, WhereFunding, WhereWorking, status_of}
+use Rattle.fund_top.specs.Words.{Command, Coins, Fund, Check, Work}
 
 pub funds : (c : Option Command) (shelf shelf' : ShelfView) (sink sink' : SinkView) → WhereFunding c (λ s p. payments.EndsFunded (Unit {0}) (Unit {0}) s p shelf shelf' sink sink') → WhereFunding c (λ s p. Funds s p shelf shelf' sink sink')
 funds None shelf shelf' sink sink' h = tt
 funds (Some (Coins s)) shelf shelf' sink sink' h = tt
 funds (Some (Fund s p)) shelf shelf' sink sink' h = (h.0, h.1, h.2, h.3 tt, h.4 tt)
+funds (Some (Check s p report)) shelf shelf' sink sink' h = tt
 funds (Some (Work number count)) shelf shelf' sink sink' h = tt
 
 pub funds_not : (c : Option Command) (shelf shelf' : ShelfView) (sink sink' : SinkView) → IfSome c (λ d. EndsNotFunded (Unit {0}) (Unit {0}) d shelf shelf' sink sink') → IfSome c (λ d. FundsNot d shelf shelf' sink sink')
 funds_not None shelf shelf' sink sink' h = tt
 funds_not (Some (Coins s)) shelf shelf' sink sink' h = absurd h
 funds_not (Some (Fund s p)) shelf shelf' sink sink' h = (h.0, h.1, h.2, h.3 tt, h.4 tt)
+funds_not (Some (Check s p report)) shelf shelf' sink sink' h = absurd h
 funds_not (Some (Work number count)) shelf shelf' sink sink' h = (h.0, h.1, h.2 tt)
 
 pub funds_open : (c : Option Command) (shelf shelf' : ShelfView) (sink sink' : SinkView) → IfSome c (λ d. EndsUnfinished (Unit {0}) (Unit {0}) d shelf shelf' sink sink') → IfSome c (λ d. FundsOpen d shelf shelf' sink sink')
 funds_open None shelf shelf' sink sink' h = tt
 funds_open (Some (Coins s)) shelf shelf' sink sink' h = absurd h
 funds_open (Some (Fund s p)) shelf shelf' sink sink' h = (h.0, h.1, h.2 tt, h.3 tt)
+funds_open (Some (Check s p report)) shelf shelf' sink sink' h = absurd h
 funds_open (Some (Work number count)) shelf shelf' sink sink' h = (h.0, h.1, h.2 tt)
 
 pub sums : (c : Option Command) (sink sink' : SinkView) → WhereWorking c (λ number count. loads.EndsSummed (Unit {0}) number count statuses.Done sink sink') → WhereWorking c (λ number count. Sums statuses.Done number count sink sink')
 sums None sink sink' h = tt
 sums (Some (Coins s)) sink sink' h = tt
 sums (Some (Fund s p)) sink sink' h = tt
+sums (Some (Check s p report)) sink sink' h = tt
 sums (Some (Work number count)) sink sink' h = (h.0, h.1, h.2 tt)
+
+pub accepts : (c : Option Command) (shelf : ShelfView) (sink sink' : SinkView) → WhereChecking c (λ s p report. checks.EndsAccepted (Unit {0}) (Unit {0}) s p report shelf sink sink') → WhereChecking c (λ s p report. Accepts s p report shelf sink sink')
+accepts None shelf sink sink' h = tt
+accepts (Some (Coins s)) shelf sink sink' h = tt
+accepts (Some (Fund s p)) shelf sink sink' h = tt
+accepts (Some (Check s p report)) shelf sink sink' h = (h.0, h.1, h.2 tt)
+accepts (Some (Work number count)) shelf sink sink' h = tt
 
 -- ---- where no count is above nothing, none rose
 
@@ -48,22 +65,33 @@ pub record IsSure (shelf : ShelfView) : Type 0 where
 flat : (m n : ℕ) → m ≡ 0 → n ≡ 0 → Rose m n → ⊥
 flat m n a b h = omega arith
 
-none_unread : (c : Command) (shelf shelf' : ShelfView) → IsSure shelf → IsSure shelf' → (file : File) → IsUnread c file shelf shelf' → ⊥
-none_unread (Coins s) shelf shelf' a b Wallet h = flat (shelf.reads s.wallet) (shelf'.reads s.wallet) (a.reads s.wallet) (b.reads s.wallet) h
-none_unread (Coins s) shelf shelf' a b Blocks h = flat (shelf.reads s.blocks) (shelf'.reads s.blocks) (a.reads s.blocks) (b.reads s.blocks) h
-none_unread (Coins s) shelf shelf' a b Request h = h
-none_unread (Fund s p) shelf shelf' a b file h = flat (shelf.reads (name_of s p file)) (shelf'.reads (name_of s p file)) (a.reads (name_of s p file)) (b.reads (name_of s p file)) h
-none_unread (Work number count) shelf shelf' a b file h = h
+listing_unread : (s : Sources) (shelf shelf' : ShelfView) → IsSure shelf → IsSure shelf' → (file : File) → files.IsUnread s.wallet s.blocks file shelf shelf' → ⊥
+listing_unread s shelf shelf' a b Wallet h = flat (shelf.reads s.wallet) (shelf'.reads s.wallet) (a.reads s.wallet) (b.reads s.wallet) h
+listing_unread s shelf shelf' a b Blocks h = flat (shelf.reads s.blocks) (shelf'.reads s.blocks) (a.reads s.blocks) (b.reads s.blocks) h
+listing_unread s shelf shelf' a b Request h = h
+
+payment_unread : (s : Sources) (p : Payment) (shelf shelf' : ShelfView) → IsSure shelf → IsSure shelf' → (file : File) → inputs.IsUnread s p file shelf shelf' → ⊥
+payment_unread s p shelf shelf' a b file h = flat (shelf.reads (name_of s p file)) (shelf'.reads (name_of s p file)) (a.reads (name_of s p file)) (b.reads (name_of s p file)) h
+
+none_unread : (c : Command) (shelf shelf' : ShelfView) → IsSure shelf → IsSure shelf' → NoneUnread c shelf shelf'
+none_unread (Coins s) shelf shelf' a b = listing_unread s shelf shelf' a b
+none_unread (Fund s p) shelf shelf' a b = payment_unread s p shelf shelf' a b
+none_unread (Check s p report) shelf shelf' a b = record {
+  payment = payment_unread s p shelf shelf' a b;
+  evidence = λ file h. flat (shelf.reads (evidence_name p report file)) (shelf'.reads (evidence_name p report file)) (a.reads (evidence_name p report file)) (b.reads (evidence_name p report file)) h;
+}
+none_unread (Work number count) shelf shelf' a b = tt
 
 none_unwritten : (c : Command) (shelf shelf' : ShelfView) → IsSure shelf → IsSure shelf' → IsLogUnwritten c shelf shelf' → ⊥
 none_unwritten (Coins s) shelf shelf' a b h = h
 none_unwritten (Fund s p) shelf shelf' a b h = flat (shelf.writes p.log) (shelf'.writes p.log) (a.writes p.log) (b.writes p.log) h
+none_unwritten (Check s p report) shelf shelf' a b h = h
 none_unwritten (Work number count) shelf shelf' a b h = h
 
 none_failed : (c : Command) (shelf shelf' : ShelfView) (sink sink' : SinkView) → IsSure shelf → IsSure shelf' → sink.faults ≡ 0 → sink'.faults ≡ 0 → NoneFailed c shelf shelf' sink sink'
 none_failed c shelf shelf' sink sink' a b d e = record { reads = none_unread c shelf shelf' a b; log = none_unwritten c shelf shelf' a b; sinks = flat sink.faults sink'.faults d e }
 
 pub completes : (c : Option Command) (shelf shelf' : ShelfView) (sink sink' : SinkView) (status : Status) → IsSure shelf → IsSure shelf' → sink.faults ≡ 0 → sink'.faults ≡ 0
-    → IfSome c (λ d. Unit {0} → NoneFailed d shelf shelf' sink sink' → (status ≡ status_of (outcome_of shelf.files d)) ⊎ (status ≡ statuses.Memory)) → IfSome c (λ d. (status ≡ status_of (outcome_of shelf.files d)) ⊎ (status ≡ statuses.Memory))
+    → IfSome c (λ d. Unit {0} → NoneFailed d shelf shelf' sink sink' → (due : Outcome) → ComesTo shelf.files d due → (status ≡ status_of due) ⊎ (status ≡ statuses.Memory)) → IfSome c (λ d. (due : Outcome) → ComesTo shelf.files d due → (status ≡ status_of due) ⊎ (status ≡ statuses.Memory))
 completes None shelf shelf' sink sink' status a b d e h = tt
 completes (Some c) shelf shelf' sink sink' status a b d e h = h tt (none_failed c shelf shelf' sink sink' a b d e)

@@ -1,23 +1,31 @@
 -- What the files of a command come to, and what a refusal of them means.
-use Rattle.std.specs.Prelude.{ℕ, List, Result, Ok, Err}
+use Rattle.std.specs.Prelude.{ℕ, ◌≡◌, List, Result, Ok, Err}
 use Rattle.fund_files.specs.Cause.{FileCause}
 use Rattle.fund_files.specs.Refusals.{IsChainMeant}
+use Rattle.fund_report.specs.declared.report.Report.{Report}
+use Rattle.report_check.specs.declared.fault.CheckFault.{CheckFault}
+use Rattle.command_check.specs.Due as checks
+use Rattle.command_check.specs.declared.stop.Evidence.{Evidence}
 use Rattle.command_coins.specs.Due as listings
 use Rattle.command_fund.specs.Cause.{Cause, Files, BumpNotYet, Plan}
 use Rattle.command_fund.specs.Due as payments
 use Rattle.command_fund.specs.Meant as payment_causes
 use Rattle.command_work.specs.Due as loads
 use Rattle.command_end.specs.declared.status.Status.{Status}
-use Rattle.fund_top.specs.Words.{Command, Coins, Fund, Work}
+use Rattle.fund_top.specs.Words.{Command, Coins, Fund, Check, Work}
 
 -- a refusal; the listing; a report with which the tries are used up; a report and a log, where nothing pays or of a
--- payment; or the summary of a run with this status
+-- payment; a file that is judged and too long, the first rule that a report breaks, or a report that is accepted; or the
+-- summary of a run with this status
 pub data Outcome : Type 0 where
   Refused : Cause → Outcome
   Listed : (listing : List ℕ) → Outcome
   Unfinished : (report : List ℕ) → Outcome
   NoSelection : (report log : List ℕ) → Outcome
   Funded : (report log : List ℕ) → Outcome
+  TooLong : Evidence → Outcome
+  Broken : CheckFault → Outcome
+  Accepted : Report → Outcome
   Summed : (status : Status) → (summary : List ℕ) → Outcome
 
 -- that of a listing
@@ -32,16 +40,36 @@ payment_outcome (payments.Unfinished report) = Unfinished report
 payment_outcome (payments.NoSelection report log) = NoSelection report log
 payment_outcome (payments.Funded report log) = Funded report log
 
+-- that of a report that is judged
+abbrev pub check_outcome : checks.Outcome → Outcome
+check_outcome (checks.Refused cause) = Refused cause
+check_outcome (checks.TooLong file) = TooLong file
+check_outcome (checks.Broken fault) = Broken fault
+check_outcome (checks.Accepted report) = Accepted report
+
 -- that of a workload
 abbrev pub load_outcome : loads.Outcome → Outcome
 load_outcome (loads.Refused cause) = Refused cause
 load_outcome (loads.Summed status summary) = Summed status summary
 
 -- what a command comes to, by the content of files; a workload is made without any
-abbrev pub outcome_of : (List ℕ → List ℕ) → Command → Outcome
-outcome_of files (Coins s) = listing_outcome (listings.due_of files s)
-outcome_of files (Fund s p) = payment_outcome (payments.due_of files s p)
-outcome_of files (Work number count) = load_outcome (loads.due_of number count)
+abbrev pub ComesTo : (List ℕ → List ℕ) → Command → Outcome → Type 0
+ComesTo files (Coins s) o = o ≡ listing_outcome (listings.due_of files s)
+ComesTo files (Fund s p) o = o ≡ payment_outcome (payments.due_of files s p)
+ComesTo files (Check s p report) o = (due : checks.Outcome) × checks.ComesTo files s p report due × (o ≡ check_outcome due)
+ComesTo files (Work number count) o = o ≡ load_outcome (loads.due_of number count)
+
+-- the files are refused, or what is judged is
+abbrev pub IsRefusal : Outcome → Type 0
+IsRefusal (Refused cause) = Unit {0}
+IsRefusal (Listed listing) = ⊥
+IsRefusal (Unfinished report) = ⊥
+IsRefusal (NoSelection report log) = ⊥
+IsRefusal (Funded report log) = ⊥
+IsRefusal (TooLong file) = Unit {0}
+IsRefusal (Broken fault) = Unit {0}
+IsRefusal (Accepted report) = ⊥
+IsRefusal (Summed status summary) = ⊥
 
 -- what the cause of a listing's refusal means by itself: its files are the wallet and the blocks alone
 abbrev pub IsListingMeant : (wallet blocks : List ℕ) → Cause → Type 0
@@ -53,4 +81,5 @@ IsListingMeant wallet blocks (Plan fault) = ⊥
 abbrev pub IsMeant : (List ℕ → List ℕ) → Command → Cause → Type 0
 IsMeant files (Coins s) cause = IsListingMeant (files s.wallet) (files s.blocks) cause
 IsMeant files (Fund s p) cause = payment_causes.IsMeant files s p cause
+IsMeant files (Check s p report) cause = payment_causes.IsMeant files s p cause
 IsMeant files (Work number count) cause = loads.IsCollision number count cause

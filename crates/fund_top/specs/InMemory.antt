@@ -2,13 +2,14 @@
 use Rattle.std.specs.Prelude.{ℕ, ◌≡◌, List, ◌++◌}
 use Rattle.fund_base.specs.Causes.{ShelfView, SinkView}
 use Rattle.command_end.specs.Names.{Sources}
+use Rattle.command_check.specs.Statuses.{IsVouched}
 use Rattle.command_coins.specs.Statuses.{IsListed}
 use Rattle.command_fund.specs.Names.{Payment}
 use Rattle.command_fund.specs.Statuses.{IsFunded, IsNotFunded, IsUnfinished}
 use Rattle.command_end.specs.declared.status.Status.{Status}
 use Rattle.command_end.specs.declared.status.Status.TheVariants as statuses
 use Rattle.command_work.specs.Statuses.{IsSummary}
-use Rattle.fund_top.specs.Words.{Command, Coins, Fund, Work}
+use Rattle.fund_top.specs.Words.{Command, Coins, Fund, Check, Work}
 
 -- the listing is printed whole
 abbrev pub Lists : Sources → ShelfView → SinkView → SinkView → Type 0
@@ -19,6 +20,10 @@ abbrev pub Funds : Sources → Payment → ShelfView → ShelfView → SinkView 
 Funds s p shelf shelf' sink sink' =
     (report : List ℕ) × (log : List ℕ) × IsFunded (Unit {0}) shelf.files s p report log × (shelf'.files p.log ≡ log) × (sink'.written ≡ sink.written ++ report)
 
+-- that a report is accepted, and its first line, are printed whole
+abbrev pub Accepts : Sources → Payment → (report : List ℕ) → ShelfView → SinkView → SinkView → Type 0
+Accepts s p report shelf sink sink' = (text : List ℕ) × IsVouched (Unit {0}) shelf.files s p report text × (sink'.written ≡ sink.written ++ text)
+
 -- the summary of a run with this status is printed whole
 abbrev pub Sums : Status → ℕ → ℕ → SinkView → SinkView → Type 0
 Sums status number count sink sink' = (summary : List ℕ) × IsSummary number count status summary × (sink'.written ≡ sink.written ++ summary)
@@ -28,6 +33,7 @@ abbrev pub FundsNot : Command → ShelfView → ShelfView → SinkView → SinkV
 FundsNot (Coins s) shelf shelf' sink sink' = ⊥
 FundsNot (Fund s p) shelf shelf' sink sink' =
     (report : List ℕ) × (log : List ℕ) × IsNotFunded (Unit {0}) shelf.files s p report log × (shelf'.files p.log ≡ log) × (sink'.written ≡ sink.written ++ report)
+FundsNot (Check s p report) shelf shelf' sink sink' = ⊥
 FundsNot (Work number count) shelf shelf' sink sink' = Sums statuses.NoSelection number count sink sink'
 
 -- no file is written, and the report of the open search, or the summary, is printed whole
@@ -35,4 +41,5 @@ abbrev pub FundsOpen : Command → ShelfView → ShelfView → SinkView → Sink
 FundsOpen (Coins s) shelf shelf' sink sink' = ⊥
 FundsOpen (Fund s p) shelf shelf' sink sink' =
     (report : List ℕ) × IsUnfinished (Unit {0}) shelf.files s p report × (shelf'.files ≡ shelf.files) × (sink'.written ≡ sink.written ++ report)
+FundsOpen (Check s p report) shelf shelf' sink sink' = ⊥
 FundsOpen (Work number count) shelf shelf' sink sink' = Sums statuses.Unfinished number count sink sink'

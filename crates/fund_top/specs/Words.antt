@@ -5,10 +5,11 @@ use Rattle.fund_base.specs.Decimal.{number_of}
 use Rattle.command_end.specs.Names.{Sources}
 use Rattle.command_fund.specs.Names.{Payment}
 
--- to list payments and coins, to fund a payment, or to fund one from a workload
+-- to list payments and coins, to fund a payment, to check the report of one, or to fund one from a workload
 pub data Command : Type 0 where
   Coins : Sources → Command
   Fund : Sources → Payment → Command
+  Check : Sources → Payment → (report : List ℕ) → Command
   Work : (number count : ℕ) → Command
 
 -- no name is empty
@@ -21,6 +22,10 @@ names_stand s p =
     are_named s
     && ((nat_lt 0 (length p.request) && nat_lt 0 (length p.log))
     && (not (bytes_eq p.log s.wallet) && (not (bytes_eq p.log s.blocks) && not (bytes_eq p.log p.request))))
+
+-- no name is empty
+abbrev pub are_judged : Sources → Payment → (report : List ℕ) → Bool
+are_judged s p report = are_named s && (nat_lt 0 (length p.request) && (nat_lt 0 (length report) && nat_lt 0 (length p.log)))
 
 -- a command, where its names stand
 abbrev pub where_stands : Bool → Command → Option Command
@@ -38,6 +43,11 @@ payment request log = record { request = string_bytes request; log = string_byte
 abbrev pub listing_of : List ℕ → List ℕ → Option Command
 listing_of wallet blocks = where_stands (are_named (record { wallet = wallet; blocks = blocks })) (Coins (record { wallet = wallet; blocks = blocks }))
 
+-- the check of files, where their names stand
+abbrev pub check_of : (wallet blocks request report log : List ℕ) → Option Command
+check_of wallet blocks request report log =
+    where_stands (are_judged (record { wallet = wallet; blocks = blocks }) (record { request = request; log = log }) report) (Check (record { wallet = wallet; blocks = blocks }) (record { request = request; log = log }) report)
+
 -- a workload of some coins, of two numbers that were read
 abbrev pub work_by : Option ℕ → Option ℕ → Option Command
 work_by None count = None
@@ -53,9 +63,11 @@ work_of number count = work_by (number_of 9_223_372_036_854_775_807 number) (num
 abbrev pub IsInRange : Command → Type 0
 IsInRange (Coins s) = Unit {0}
 IsInRange (Fund s p) = Unit {0}
+IsInRange (Check s p report) = Unit {0}
 IsInRange (Work number count) = (1 ≤ count) × (count ≤ 10_000)
 
--- the command that the words are: coins WALLET BLOCKS, work NUMBER COUNT, or fund WALLET BLOCKS REQUEST LOG
+-- the command that the words are: coins WALLET BLOCKS, work NUMBER COUNT, fund WALLET BLOCKS REQUEST LOG, or check WALLET
+-- BLOCKS REQUEST REPORT LOG
 abbrev pub command_of : List (String Global) → Option Command
 command_of (verb ∷ first ∷ second ∷ []) =
     if bytes_eq (string_bytes verb) (codes "coins")
@@ -64,5 +76,9 @@ command_of (verb ∷ first ∷ second ∷ []) =
 command_of (verb ∷ wallet ∷ blocks ∷ request ∷ log ∷ []) =
     if bytes_eq (string_bytes verb) (codes "fund")
     then where_stands (names_stand (sources wallet blocks) (payment request log)) (Fund (sources wallet blocks) (payment request log))
+    else None
+command_of (verb ∷ wallet ∷ blocks ∷ request ∷ report ∷ log ∷ []) =
+    if bytes_eq (string_bytes verb) (codes "check")
+    then check_of (string_bytes wallet) (string_bytes blocks) (string_bytes request) (string_bytes report) (string_bytes log)
     else None
 command_of _ = None

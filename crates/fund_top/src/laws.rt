@@ -14,6 +14,7 @@ ghost use Rattle.fund_files.specs.Chain.{held_of, history_of};
 ghost use Rattle.fund_files.specs.Contents.{HasChain};
 ghost use Rattle.fund_payment.specs.Report.{report_of};
 ghost use Rattle.command_end.specs.Names.{Sources};
+ghost use Rattle.command_check.specs.Due as checks;
 ghost use Rattle.command_coins.specs.Due.{listing_in};
 ghost use Rattle.command_fund.specs.Cause.{Cause};
 ghost use Rattle.command_fund.specs.Due.{log_text_at, none_report_at, open_report_at, plan_of};
@@ -24,22 +25,25 @@ ghost use Rattle.workload.specs.Load.{earlier_of, request_of, wallet_of};
 ghost use Rattle.workload.specs.Summary.{summary_text};
 ghost use Rattle.command_end.specs.declared.status.Status.TheVariants as statuses;
 ghost use Rattle.command_work.specs.Due.{load_of, load_plan};
-ghost use Rattle.fund_top.specs.Due.{Refused, Listed, Unfinished, NoSelection, Funded, Summed, IsMeant, outcome_of};
-ghost use Rattle.fund_top.specs.Words.{Command, Coins, Fund, Work, command_of};
+ghost use Rattle.fund_top.specs.Due.{Refused, Listed, Unfinished, NoSelection, Funded, Summed, ComesTo, IsMeant, Outcome, check_outcome};
+ghost use Rattle.fund_top.specs.Words.{Command, Coins, Fund, Check, Work, command_of};
 
 /// The law of what the files of a command come to: a cause for a refusal which they mean is the one that they come to;
 /// where they hold a wallet and blocks, they come to the listing of these; and where they hold a request too, of which the
-/// plan keeps its rules, they come to what that plan comes to with the request's tries. A workload of which no two
+/// plan keeps its rules, they come to what that plan comes to with the request's tries. What a report comes to that is
+/// checked, its command comes to; and no command comes to two things. A workload of which no two
 /// transactions have one txid comes to the summary of what its plan comes to. A call does nothing.
 pub fn outcomes_are_due()
-    ensures refused { (files : List ℕ → List ℕ) (c : Command) (cause : Cause) → IsMeant files c cause → outcome_of files c ≡ Refused cause }
-    ensures listed { (files : List ℕ → List ℕ) (s : Sources) (w : PlainWallet) (blocks : List ChainBlock) → HasChain (files s.wallet) (files s.blocks) w blocks → outcome_of files (Coins s) ≡ Listed (listing_in (held_of w blocks)) }
-    ensures funded { (files : List ℕ → List ℕ) (s : Sources) (p : Payment) (w : PlainWallet) (blocks : List ChainBlock) (r : PlainRequest) (f : PlainFunded) → AreInputs files s p w blocks r → IsPlan (plan_of (held_of w blocks) r) → outcome_at (plan_of (held_of w blocks) r) r.tries ≡ answers.Funded f → outcome_of files (Fund s p) ≡ Funded (report_of (history_of w blocks) r w.change (tries_at (plan_of (held_of w blocks) r) r.tries) f) (log_text_at (plan_of (held_of w blocks) r) r.tries) }
-    ensures none { (files : List ℕ → List ℕ) (s : Sources) (p : Payment) (w : PlainWallet) (blocks : List ChainBlock) (r : PlainRequest) → AreInputs files s p w blocks r → IsPlan (plan_of (held_of w blocks) r) → outcome_at (plan_of (held_of w blocks) r) r.tries ≡ answers.NoSelection → outcome_of files (Fund s p) ≡ NoSelection (none_report_at (plan_of (held_of w blocks) r) r.tries) (log_text_at (plan_of (held_of w blocks) r) r.tries) }
-    ensures unfinished { (files : List ℕ → List ℕ) (s : Sources) (p : Payment) (w : PlainWallet) (blocks : List ChainBlock) (r : PlainRequest) → AreInputs files s p w blocks r → IsPlan (plan_of (held_of w blocks) r) → outcome_at (plan_of (held_of w blocks) r) r.tries ≡ answers.Unfinished → outcome_of files (Fund s p) ≡ Unfinished (open_report_at (plan_of (held_of w blocks) r) r.tries) }
-    ensures summed { (files : List ℕ → List ℕ) (number count : ℕ) (f : PlainFunded) → 1 ≤ count → count ≤ 10_000 → AreDistinctEarlier (earlier_of number count) → outcome_at (load_plan number count) 100_000 ≡ answers.Funded f → outcome_of files (Work number count) ≡ Summed statuses.Done (summary_text number count (report_of (load_of number count).book (request_of number count) (wallet_of number count).change (tries_at (load_plan number count) 100_000) f)) }
-    ensures summed_none { (files : List ℕ → List ℕ) (number count : ℕ) → 1 ≤ count → count ≤ 10_000 → AreDistinctEarlier (earlier_of number count) → outcome_at (load_plan number count) 100_000 ≡ answers.NoSelection → outcome_of files (Work number count) ≡ Summed statuses.NoSelection (summary_text number count (none_report_at (load_plan number count) 100_000)) }
-    ensures summed_open { (files : List ℕ → List ℕ) (number count : ℕ) → 1 ≤ count → count ≤ 10_000 → AreDistinctEarlier (earlier_of number count) → outcome_at (load_plan number count) 100_000 ≡ answers.Unfinished → outcome_of files (Work number count) ≡ Summed statuses.Unfinished (summary_text number count (open_report_at (load_plan number count) 100_000)) }
+    ensures refused { (files : List ℕ → List ℕ) (c : Command) (cause : Cause) → IsMeant files c cause → ComesTo files c (Refused cause) }
+    ensures listed { (files : List ℕ → List ℕ) (s : Sources) (w : PlainWallet) (blocks : List ChainBlock) → HasChain (files s.wallet) (files s.blocks) w blocks → ComesTo files (Coins s) (Listed (listing_in (held_of w blocks))) }
+    ensures funded { (files : List ℕ → List ℕ) (s : Sources) (p : Payment) (w : PlainWallet) (blocks : List ChainBlock) (r : PlainRequest) (f : PlainFunded) → AreInputs files s p w blocks r → IsPlan (plan_of (held_of w blocks) r) → outcome_at (plan_of (held_of w blocks) r) r.tries ≡ answers.Funded f → ComesTo files (Fund s p) (Funded (report_of (history_of w blocks) r w.change (tries_at (plan_of (held_of w blocks) r) r.tries) f) (log_text_at (plan_of (held_of w blocks) r) r.tries)) }
+    ensures none { (files : List ℕ → List ℕ) (s : Sources) (p : Payment) (w : PlainWallet) (blocks : List ChainBlock) (r : PlainRequest) → AreInputs files s p w blocks r → IsPlan (plan_of (held_of w blocks) r) → outcome_at (plan_of (held_of w blocks) r) r.tries ≡ answers.NoSelection → ComesTo files (Fund s p) (NoSelection (none_report_at (plan_of (held_of w blocks) r) r.tries) (log_text_at (plan_of (held_of w blocks) r) r.tries)) }
+    ensures unfinished { (files : List ℕ → List ℕ) (s : Sources) (p : Payment) (w : PlainWallet) (blocks : List ChainBlock) (r : PlainRequest) → AreInputs files s p w blocks r → IsPlan (plan_of (held_of w blocks) r) → outcome_at (plan_of (held_of w blocks) r) r.tries ≡ answers.Unfinished → ComesTo files (Fund s p) (Unfinished (open_report_at (plan_of (held_of w blocks) r) r.tries)) }
+    ensures judged { (files : List ℕ → List ℕ) (s : Sources) (p : Payment) (report : List ℕ) (due : checks.Outcome) → checks.ComesTo files s p report due → ComesTo files (Check s p report) (check_outcome due) }
+    ensures one { (files : List ℕ → List ℕ) (c : Command) (a b : Outcome) → ComesTo files c a → ComesTo files c b → a ≡ b }
+    ensures summed { (files : List ℕ → List ℕ) (number count : ℕ) (f : PlainFunded) → 1 ≤ count → count ≤ 10_000 → AreDistinctEarlier (earlier_of number count) → outcome_at (load_plan number count) 100_000 ≡ answers.Funded f → ComesTo files (Work number count) (Summed statuses.Done (summary_text number count (report_of (load_of number count).book (request_of number count) (wallet_of number count).change (tries_at (load_plan number count) 100_000) f))) }
+    ensures summed_none { (files : List ℕ → List ℕ) (number count : ℕ) → 1 ≤ count → count ≤ 10_000 → AreDistinctEarlier (earlier_of number count) → outcome_at (load_plan number count) 100_000 ≡ answers.NoSelection → ComesTo files (Work number count) (Summed statuses.NoSelection (summary_text number count (none_report_at (load_plan number count) 100_000))) }
+    ensures summed_open { (files : List ℕ → List ℕ) (number count : ℕ) → 1 ≤ count → count ≤ 10_000 → AreDistinctEarlier (earlier_of number count) → outcome_at (load_plan number count) 100_000 ≡ answers.Unfinished → ComesTo files (Work number count) (Summed statuses.Unfinished (summary_text number count (open_report_at (load_plan number count) 100_000))) }
 {}
 
 /// The law of the words of a workload: they ask for one exactly where the second is the decimal spelling of a number below

@@ -2,16 +2,17 @@
 
 ghost use Rattle.std.specs.Prelude.{◌≡◌, ◌↔◌, ◌⊎◌, Some, None, codes, IfSome};
 ghost use Rattle.command_end.specs.Lines.{GotLine, fault_line};
+ghost use Rattle.command_check.specs.Statuses.{EndsAccepted};
 ghost use Rattle.command_coins.specs.Statuses.{EndsListed};
-ghost use Rattle.command_fund.specs.Cause.{Cause, status_of_cause};
 ghost use Rattle.command_fund.specs.Statuses.{EndsFunded, IsBeforeTheLog};
 ghost use Rattle.fund_top.specs.Command.{plain};
-ghost use Rattle.fund_top.specs.Due.{Refused, outcome_of};
+ghost use Rattle.fund_top.specs.Due.{ComesTo, IsRefusal, Outcome};
 ghost use Rattle.command_work.specs.Statuses.{EndsSummed};
-ghost use Rattle.fund_top.specs.Statuses.{Ends, EndsNotFunded, EndsRefused, EndsUnfinished, EndsUnread, EndsUnwritten, EndsWithoutMemory, KeepsOthers, NoneFailed, NoneUnread, WhereFunding, WhereListing, WhereWorking, status_of};
+ghost use Rattle.fund_top.specs.Statuses.{Ends, EndsBroken, EndsInput, EndsLimited, EndsNotFunded, EndsUnfinished, EndsUnread, EndsUnwritten, EndsWithoutMemory, KeepsOthers, NoneFailed, NoneUnread, WhereChecking, WhereFunding, WhereListing, WhereWorking, status_of};
 ghost use Rattle.fund_top.specs.Words.{IsInRange, command_of};
 
 use crate::words::{Command, parse};
+use command_check::check;
 use command_coins::coins;
 use command_end::{Status, put_line};
 use command_fund::fund;
@@ -33,6 +34,9 @@ fn act<H: Shelf, O: Sink>(alloc: Global, command: &Command, shelf: &mut H, out: 
     match command {
         Command::Coins(sources) => coins(alloc, sources, shelf, out),
         Command::Fund(sources, payment) => fund(alloc, sources, payment, shelf, out),
+        Command::Check(sources, payment, report) => {
+            check(alloc, sources, payment, report, shelf, out)
+        }
         Command::Work(number, count) => work(alloc, *number, *count, out),
     }
 }
@@ -41,9 +45,10 @@ fn act<H: Shelf, O: Sink>(alloc: Global, command: &Command, shelf: &mut H, out: 
 /// tip of its chain, its pending payments and their states, and the coins that may be spent. `fund WALLET BLOCKS REQUEST
 /// LOG` funds a payment by the method of the request: it reads the three files, searches with the request's tries, writes
 /// the log, and then prints the report to `out`. Where the run is unfinished, no log is written: the tries are used up, a
-/// search is open, and nothing is taken. `work NUMBER COUNT` reads and writes no file: it makes a wallet of COUNT coins and
-/// a request from the number, funds a payment from them, and prints the summary of that run to `out`. What is refused gets
-/// its fault line there.
+/// search is open, and nothing is taken. `check WALLET BLOCKS REQUEST REPORT LOG` reads the files of a payment, a report and
+/// the log of it, and prints to `out` that the report is accepted, and its first line; it writes no file. `work NUMBER COUNT`
+/// reads and writes no file: it makes a wallet of COUNT coins and a request from the number, funds a payment from them, and
+/// prints the summary of that run to `out`. What is refused gets its fault line there.
 ///
 /// The clauses on content hold where the shelf and the sink tell theirs.
 pub fn run<H: Shelf, O: Sink>(
@@ -64,6 +69,10 @@ pub fn run<H: Shelf, O: Sink>(
     // Done, where coins are listed: the states and the candidates are printed, and nothing else.
     ensures listed { result ≡ Status.Done → WhereListing (command_of words.now.items) (λ s. EndsListed H.tells O.tells s (H.view shelf.old) (O.view out.old) (O.view out.new)) }
 
+    // Done, where a report is checked: it is accepted with its log, so it vouches for the answer that it names. That and its
+    // first line are printed, and nothing else.
+    ensures accepted { result ≡ Status.Done → WhereChecking (command_of words.now.items) (λ s p report. EndsAccepted H.tells O.tells s p report (H.view shelf.old) (O.view out.old) (O.view out.new)) }
+
     // Done, where a workload is summed up: the same is true of the payment from it as of one from files, and the summary
     // of its report is printed, and nothing else.
     ensures summed { result ≡ Status.Done → WhereWorking (command_of words.now.items) (λ number count. EndsSummed O.tells number count Status.Done (O.view out.old) (O.view out.new)) }
@@ -74,9 +83,10 @@ pub fn run<H: Shelf, O: Sink>(
     // No selection: no search and no draw has a result, which the log proves, and the listed coins alone don't pay.
     ensures none { result ≡ Status.NoSelection → IfSome (command_of words.now.items) (λ c. EndsNotFunded H.tells O.tells c (H.view shelf.old) (H.view shelf.new) (O.view out.old) (O.view out.new)) }
 
-    // Refusals: of the first rule that a file breaks.
-    ensures input { result ≡ Status.Input → IfSome (command_of words.now.items) (λ c. EndsRefused Status.Input H.tells O.tells c (H.view shelf.old) (O.view out.old) (O.view out.new)) }
-    ensures limit { result ≡ Status.Limit → IfSome (command_of words.now.items) (λ c. EndsRefused Status.Limit H.tells O.tells c (H.view shelf.old) (O.view out.old) (O.view out.new)) }
+    // Refusals: of the first rule that a file breaks; then of the first that a report breaks.
+    ensures input { result ≡ Status.Input → IfSome (command_of words.now.items) (λ c. EndsInput H.tells O.tells c (H.view shelf.old) (O.view out.old) (O.view out.new)) }
+    ensures limit { result ≡ Status.Limit → IfSome (command_of words.now.items) (λ c. EndsLimited H.tells O.tells c (H.view shelf.old) (O.view out.old) (O.view out.new)) }
+    ensures check_refused { result ≡ Status.CheckRefused → IfSome (command_of words.now.items) (λ c. EndsBroken H.tells O.tells c (H.view shelf.old) (O.view out.old) (O.view out.new)) }
 
     // Faults: only where a count rose.
     ensures read_fault { result ≡ Status.ReadFault → IfSome (command_of words.now.items) (λ c. EndsUnread H.tells O.tells c (H.view shelf.old) (H.view shelf.new) (O.view out.old) (O.view out.new)) }
@@ -90,11 +100,12 @@ pub fn run<H: Shelf, O: Sink>(
     // A workload is summed up without files: none is asked for or touched.
     ensures apart { WhereWorking (command_of words.now.items) (λ number count. (H.view shelf.new) ≡ (H.view shelf.old)) }
 
-    // Where the files are refused and were read, the status is that of the refusal, even if the sink fails.
-    ensures refused { IfSome (command_of words.now.items) (λ c. H.tells → NoneUnread c (H.view shelf.old) (H.view shelf.new) → (cause : Cause) → outcome_of (H.view shelf.old).files c ≡ Refused cause → (result ≡ status_of_cause cause) ⊎ (result ≡ Status.Memory)) }
+    // Where the files are refused, or the report that is checked, and were read, the status is that of the refusal, even if
+    // the sink fails.
+    ensures refused { IfSome (command_of words.now.items) (λ c. H.tells → NoneUnread c (H.view shelf.old) (H.view shelf.new) → (due : Outcome) → IsRefusal due → ComesTo (H.view shelf.old).files c due → (result ≡ status_of due) ⊎ (result ≡ Status.Memory)) }
 
     // Where no count rose, the status is that of what the files come to, or want of memory.
-    ensures complete { IfSome (command_of words.now.items) (λ c. H.tells → NoneFailed c (H.view shelf.old) (H.view shelf.new) (O.view out.old) (O.view out.new) → (result ≡ status_of (outcome_of (H.view shelf.old).files c)) ⊎ (result ≡ Status.Memory)) }
+    ensures complete { IfSome (command_of words.now.items) (λ c. H.tells → NoneFailed c (H.view shelf.old) (H.view shelf.new) (O.view out.old) (O.view out.new) → (due : Outcome) → ComesTo (H.view shelf.old).files c due → (result ≡ status_of due) ⊎ (result ≡ Status.Memory)) }
 {
     match parse(words.as_slice()) {
         None => {

@@ -4,7 +4,7 @@ ghost use Rattle.std.specs.Prelude.{◌≡◌, IfSome, option_map};
 ghost use Rattle.command_end.specs.Names.{plain_sources};
 ghost use Rattle.command_fund.specs.Names.{plain_payment};
 ghost use Rattle.fund_top.specs.Command.{plain};
-ghost use Rattle.fund_top.specs.Words.{IsInRange, are_named, command_of, listing_of, names_stand, work_of};
+ghost use Rattle.fund_top.specs.Words.{IsInRange, are_judged, are_named, check_of, command_of, listing_of, names_stand, work_of};
 
 use command_end::Sources;
 use command_fund::Payment;
@@ -17,6 +17,8 @@ pub enum Command<'a> {
     Coins(Sources<'a>),
     /// To fund a payment.
     Fund(Sources<'a>, Payment<'a>),
+    /// To check the report of a payment, which is the file of this name, with its log.
+    Check(Sources<'a>, Payment<'a>, &'a str),
     /// To fund a payment from the workload of a number and a count of coins, and to sum it up.
     Work(u64, u32),
 }
@@ -43,6 +45,14 @@ fn names_stand(sources: &Sources, payment: &Payment) -> bool
         && payment.log != sources.blocks
         && payment.log != payment.request;
     are_named(sources) && (named && apart)
+}
+
+/// Whether no name is empty, of a payment whose report is judged.
+fn are_judged(sources: &Sources, payment: &Payment, report: &str) -> bool
+    ensures { result ≡ are_judged (plain_sources sources.now) (plain_payment payment.now) report.now }
+{
+    are_named(sources)
+        && (!payment.request.is_empty() && (!report.is_empty() && !payment.log.is_empty()))
 }
 
 /// The workload that two words ask for: a number of 0 to 9,223,372,036,854,775,807 and a count of 1 to 10,000, each as its
@@ -72,7 +82,28 @@ fn listing_in<'a>(wallet: &'a str, blocks: &'a str) -> Option<Command<'a>>
     }
 }
 
-/// The command that the words are, which is `coins WALLET BLOCKS`, `work NUMBER COUNT` or `fund WALLET BLOCKS REQUEST LOG`.
+/// The check of the files of these names, where none is empty.
+fn check_in<'a>(
+    wallet: &'a str,
+    blocks: &'a str,
+    request: &'a str,
+    report: &'a str,
+    log: &'a str,
+) -> Option<Command<'a>>
+    ensures command { option_map plain result ≡ check_of wallet.now blocks.now request.now report.now log.now }
+    ensures range { IfSome result (λ c. IsInRange (plain c)) }
+{
+    let sources = Sources { wallet, blocks };
+    let payment = Payment { request, log };
+    if are_judged(&sources, &payment, report) {
+        Some(Command::Check(sources, payment, report))
+    } else {
+        None
+    }
+}
+
+/// The command that the words are, which is `coins WALLET BLOCKS`, `work NUMBER COUNT`, `fund WALLET BLOCKS REQUEST LOG` or
+/// `check WALLET BLOCKS REQUEST REPORT LOG`.
 pub fn parse(words: &[String]) -> Option<Command<'_>>
     ensures command { option_map plain result ≡ command_of words.now }
     ensures range { IfSome result (λ c. IsInRange (plain c)) }
@@ -98,6 +129,19 @@ pub fn parse(words: &[String]) -> Option<Command<'_>>
             };
             if verb.as_str() == "fund" && names_stand(&sources, &payment) {
                 Some(Command::Fund(sources, payment))
+            } else {
+                None
+            }
+        }
+        [verb, wallet, blocks, request, report, log] => {
+            if verb.as_str() == "check" {
+                check_in(
+                    wallet.as_str(),
+                    blocks.as_str(),
+                    request.as_str(),
+                    report.as_str(),
+                    log.as_str(),
+                )
             } else {
                 None
             }

@@ -1,5 +1,6 @@
+use Rattle.std.proofs.Common.{refl}
 use Rattle.fund_plan.specs.declared.outcome.Outcome.TheVariants as answers
-use Rattle.fund_top.proofs.DueLaws.{answer_due, listing_due, load_due, refusal_due}
+use Rattle.fund_top.proofs.DueLaws.{answer_due, listing_due, load_due, one_due, refusal_due}
 use Rattle.fund_top.proofs.laws.outcomes_are_due.Goals as goal
 
 pub returns-clause-refused : goal.returns-clause-refused
@@ -25,3 +26,9 @@ returns-clause-summed_none c = λ files number count some most distinct is. load
 
 pub returns-clause-summed_open : goal.returns-clause-summed_open
 returns-clause-summed_open c = λ files number count some most distinct is. load_due files number count answers.Unfinished some most distinct is
+
+pub returns-clause-judged : goal.returns-clause-judged
+returns-clause-judged c = λ files s p report due d. (due, d, refl)
+
+pub returns-clause-one : goal.returns-clause-one
+returns-clause-one c = one_due

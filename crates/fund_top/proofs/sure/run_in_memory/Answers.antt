@@ -2,7 +2,7 @@ use Rattle.std.proofs.Common.{refl}
 use Rattle.fund_base.specs.SureShelf.{view_of as shelf_view}
 use Rattle.fund_base.specs.SureSink.{view_of as sink_view}
 use Rattle.fund_top.specs.Words.{command_of}
-use Rattle.fund_top.proofs.SureLaws.{completes, funds, funds_not, funds_open, sums}
+use Rattle.fund_top.proofs.SureLaws.{accepts, completes, funds, funds_not, funds_open, sums}
 use Rattle.fund_top.proofs.sure.run_in_memory.Goals as goal
 
 pub returns-clause-done : goal.returns-clause-done
@@ -16,6 +16,9 @@ returns-clause-none c = λ is. funds_not (command_of c.args.words.now.items) (sh
 
 pub returns-clause-summed : goal.returns-clause-summed
 returns-clause-summed c = λ is. sums (command_of c.args.words.now.items) (sink_view c.args.out.now) (sink_view c.run.new.out) (c.run.ensures.summed is)
+
+pub returns-clause-accepted : goal.returns-clause-accepted
+returns-clause-accepted c = λ is. accepts (command_of c.args.words.now.items) (shelf_view c.args.shelf.now) (sink_view c.args.out.now) (sink_view c.run.new.out) (c.run.ensures.accepted is)
 
 pub returns-clause-complete : goal.returns-clause-complete
 returns-clause-complete c =

@@ -1,9 +1,8 @@
 use Rattle.std.proofs.Common.{◌≡◌, ◌∙◌, IfSome, Option, ap, subst}
 use Rattle.std.specs.Prelude.{◌⊎◌}
 use Rattle.command_end.specs.declared.status.Status.TheVariants as statuses
-use Rattle.command_fund.specs.Cause.{Cause, status_of_cause}
 use Rattle.fund_top.specs.Command.{plain}
-use Rattle.fund_top.specs.Due.{Refused, outcome_of}
+use Rattle.fund_top.specs.Due.{ComesTo, IsRefusal, Outcome}
 use Rattle.fund_top.specs.Statuses.{NoneFailed, NoneUnread, status_of}
 use Rattle.fund_top.specs.Words.{Command, command_of}
 use Rattle.fund_top.proofs.EndsLaws.{ends_complete, ends_refused}
@@ -15,9 +14,9 @@ returns-in-Some-clause-complete g c =
     let shelf' = g.H.Shelf.view c.act.new.shelf in
     let sink = g.O.Sink.view c.args.out.now in
     let sink' = g.O.Sink.view c.act.new.out in
-    let P : Command → Type 0 = λ d. g.H.Shelf.tells → NoneFailed d shelf shelf' sink sink' → (c.act.result ≡ status_of (outcome_of shelf.files d)) ⊎ (c.act.result ≡ statuses.Memory) in
+    let P : Command → Type 0 = λ d. g.H.Shelf.tells → NoneFailed d shelf shelf' sink sink' → (due : Outcome) → ComesTo shelf.files d due → (c.act.result ≡ status_of due) ⊎ (c.act.result ≡ statuses.Memory) in
     subst (λ (o : Option Command). IfSome o P) (c.in-Some.ensures.command ∙ ap command_of c.as_slice.ensures.value)
-    (λ told none. ends_complete _ _ (plain c.in-Some.command) shelf shelf' sink sink' c.act.result c.act.ensures.ends told none)
+    (λ told none due is. ends_complete _ _ (plain c.in-Some.command) shelf shelf' sink sink' c.act.result c.act.ensures.ends told none due is)
 
 pub returns-in-Some-clause-refused : goal.returns-in-Some-clause-refused
 returns-in-Some-clause-refused g c =
@@ -25,6 +24,6 @@ returns-in-Some-clause-refused g c =
     let shelf' = g.H.Shelf.view c.act.new.shelf in
     let sink = g.O.Sink.view c.args.out.now in
     let sink' = g.O.Sink.view c.act.new.out in
-    let P : Command → Type 0 = λ d. g.H.Shelf.tells → NoneUnread d shelf shelf' → (cause : Cause) → outcome_of shelf.files d ≡ Refused cause → (c.act.result ≡ status_of_cause cause) ⊎ (c.act.result ≡ statuses.Memory) in
+    let P : Command → Type 0 = λ d. g.H.Shelf.tells → NoneUnread d shelf shelf' → (due : Outcome) → IsRefusal due → ComesTo shelf.files d due → (c.act.result ≡ status_of due) ⊎ (c.act.result ≡ statuses.Memory) in
     subst (λ (o : Option Command). IfSome o P) (c.in-Some.ensures.command ∙ ap command_of c.as_slice.ensures.value)
-    (λ told none cause is. ends_refused _ _ (plain c.in-Some.command) shelf shelf' sink sink' c.act.result c.act.ensures.ends told none cause is)
+    (λ told none due refusal is. ends_refused _ _ (plain c.in-Some.command) shelf shelf' sink sink' c.act.result c.act.ensures.ends told none due refusal is)
