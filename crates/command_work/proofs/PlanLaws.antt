@@ -16,7 +16,7 @@ use Rattle.coin_book.specs.declared.coin.Coin.{Coin}
 use Rattle.payment_states.proofs.FitSteps.{fit}
 use Rattle.payment_states.specs.BookOf.{IsBookOf}
 use Rattle.payment_states.specs.Candidates.{candidate_at, candidate_of, candidates_of, is_candidate}
-use Rattle.payment_states.specs.World.{place_in}
+use Rattle.payment_states.specs.PendingView.{place_in}
 use Rattle.output_groups.specs.Forming.{alone}
 use Rattle.output_groups.specs.Measures.{is_useful}
 use Rattle.output_groups.specs.Pool.{CountsKept, keeps}
