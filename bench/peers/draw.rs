@@ -5,9 +5,9 @@
 use std::collections::BinaryHeap;
 use std::time::Instant;
 
-struct Item {
-    value: u64,
-    weight: u64,
+pub struct Item {
+    pub value: u64,
+    pub weight: u64,
 }
 
 fn quarter(s: &mut [u32; 16], a: usize, b: usize, c: usize, d: usize) {
@@ -17,7 +17,7 @@ fn quarter(s: &mut [u32; 16], a: usize, b: usize, c: usize, d: usize) {
     }
 }
 
-fn block(key: &[u32; 8], number: u64) -> [u32; 16] {
+pub fn block(key: &[u32; 8], number: u64) -> [u32; 16] {
     let mut start = [0x61707865, 0x3320646e, 0x79622d32, 0x6b206574, 0, 0, 0, 0, 0, 0, 0, 0, 0, 0, 0, 0];
     start[4..12].copy_from_slice(key);
     start[12] = number as u32;
@@ -52,7 +52,7 @@ fn order(count: usize, seed: u64) -> Vec<u32> {
     places
 }
 
-fn draw(items: &[Item], lo: u64, limit: u64, seed: u64) -> Option<Vec<u32>> {
+pub fn draw(items: &[Item], lo: u64, limit: u64, seed: u64) -> Option<Vec<u32>> {
     let (mut kept, mut value, mut weight) = (BinaryHeap::new(), 0u128, 0u64);
     for place in order(items.len(), seed) {
         kept.push(place);

@@ -14,18 +14,18 @@ use std::env;
 use std::fs;
 
 #[derive(Clone, Copy)]
-struct Item {
-    value: u64,
-    weight: u64,
-    cost: i64,
+pub struct Item {
+    pub value: u64,
+    pub weight: u64,
+    pub cost: i64,
 }
 
-struct Problem {
-    items: Vec<Item>,
-    lo: u64,
-    hi: u64,
-    limit: u64,
-    lean: bool,
+pub struct Problem {
+    pub items: Vec<Item>,
+    pub lo: u64,
+    pub hi: u64,
+    pub limit: u64,
+    pub lean: bool,
 }
 
 /// What there is from a place on: the sum of the values, the least weight, the end of the place's run of twins.
@@ -86,10 +86,11 @@ impl Problem {
 }
 
 /// What both forms share: the letters, and where the walk stands.
-struct Done {
-    tries: u64,
-    letters: Vec<u8>,
-    best: Option<Vec<u32>>,
+pub struct Done {
+    pub tries: u64,
+    pub letters: Vec<u8>,
+    pub best: Option<Vec<u32>>,
+    pub done: bool,
 }
 
 /// Running sums of value, weight and cost.
@@ -250,12 +251,12 @@ impl<'a> Plain<'a> {
             self.turn();
             made += 1;
         }
-        Done { tries: made, letters: self.letters, best: self.has_best.then_some(self.best) }
+        Done { tries: made, letters: self.letters, best: self.has_best.then_some(self.best), done: self.done }
     }
 }
 
 /// What is missing to the least value, in place of the value: the chosen places of an open walk are below it.
-struct Gap<'a> {
+pub struct Gap<'a> {
     problem: &'a Problem,
     tails: Vec<Tail>,
     prunes_waste: bool,
@@ -274,7 +275,7 @@ struct Gap<'a> {
 }
 
 impl<'a> Gap<'a> {
-    fn new(problem: &'a Problem, tries: u64) -> Gap<'a> {
+    pub fn new(problem: &'a Problem, tries: u64) -> Gap<'a> {
         let tails = problem.tails();
         let mut walk = Gap {
             problem,
@@ -410,13 +411,13 @@ impl<'a> Gap<'a> {
         }
     }
 
-    fn walk(mut self, tries: u64) -> Done {
+    pub fn walk(mut self, tries: u64) -> Done {
         let mut made = 0;
         while made < tries && !self.done {
             self.turn();
             made += 1;
         }
-        Done { tries: made, letters: self.letters, best: self.has_best.then_some(self.best) }
+        Done { tries: made, letters: self.letters, best: self.has_best.then_some(self.best), done: self.done }
     }
 }
 
@@ -425,7 +426,7 @@ fn main() {
     let problem = read(&words[2]);
     let tries: u64 = words[3].parse().unwrap();
     let rounds: u64 = words[4].parse().unwrap();
-    let mut last = Done { tries: 0, letters: Vec::new(), best: None };
+    let mut last = Done { tries: 0, letters: Vec::new(), best: None, done: false };
     for _ in 0..rounds {
         last = match words[1].as_str() {
             "plain" => Plain::new(&problem, tries).walk(tries),

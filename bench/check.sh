@@ -1,0 +1,57 @@
+#!/usr/bin/env bash
+# Times `check` of a report and its log by crates/fund_cli beside the `fund` that made them: of a payment that nothing pays,
+# where next to all is search, and of payments from 10,000 coins over 1 MiB and 64 MiB of blocks. Prints the report's first
+# lines, the best processor time of five runs of each, and their ratio. A step that fails ends it with a non-zero status; a
+# time never does.
+#
+# usage: bench/check.sh
+set -euo pipefail
+export LC_ALL=C
+
+top=$(cd "$(dirname "$0")/.." && pwd)
+program=$top/crates/fund_cli/out/fund_cli
+folder=$(mktemp -d)
+trap 'rm -rf "$folder"' EXIT
+
+# Proves and builds the program, and runs it on a small file of its folder data/.
+cd "$top/crates/fund_cli"
+rt run -- coins data/wallet.json data/blocks.dat >"$folder/small.txt" 2>"$folder/build.log" || { cat "$folder/build.log" >&2; exit 1; }
+[ -s "$folder/small.txt" ]
+cd "$folder"
+
+# best NAME STATUS COMMAND..: the least processor time of five runs in milliseconds; NAME has what they print
+best() {
+    python3 - "$@" <<'PYTHON'
+import os, sys
+
+name, status, *words = sys.argv[1:]
+least = 1e9
+for _ in range(5):
+    child = os.fork()
+    if child == 0:
+        os.dup2(os.open(name, os.O_WRONLY | os.O_CREAT | os.O_TRUNC), 1)
+        os.execv(words[0], words)
+    _, ended, used = os.wait4(child, 0)
+    assert os.waitstatus_to_exitcode(ended) == int(status), words
+    least = min(least, 1000 * (used.ru_utime + used.ru_stime))
+print(f"{least:.1f}")
+PYTHON
+}
+
+# judge WHAT STATUS: times both, where `fund` ends with this status
+judge() {
+    local fund check
+    fund=$(best report "$2" "$program" fund wallet.json blocks.dat request.json log)
+    check=$(best said 0 "$program" check wallet.json blocks.dat request.json report log)
+    [ "$(head -1 said)" = accepted ]
+    awk -v what="$1" -v report="$(grep -E '^(none|funded|tries)' report | paste -sd' ')" -v fund="$fund" -v check="$check" \
+        'BEGIN { printf "%s, %s: fund %.1f ms, check %.1f ms, ratio %.2f\n", what, report, fund, check, check / fund }'
+}
+
+echo "load: $(cut -d' ' -f1-3 /proc/loadavg) on $(nproc) processors"
+python3 "$top/bench/make_none.py" wallet.json blocks.dat request.json 23
+judge "23 coins" 11
+for bytes in 1048576 67108864; do
+    python3 "$top/bench/make_fund.py" wallet.json blocks.dat request.json --method changeless --tries 10000000 --bytes "$bytes" >made.txt
+    judge "10,000 coins, $bytes bytes of blocks" 0
+done

@@ -1,0 +1,44 @@
+#!/usr/bin/env bash
+# Times `work 1 COUNT` by crates/fund_cli for 100, 1,000 and 10,000 coins, beside a plain Rust program that makes the same
+# wallet, searches, payment and summary (bench/peers/work.rs). Both must print the same. Prints the best processor
+# time of twenty runs of each, and their ratio. A step that fails ends it with a non-zero status; a time never does.
+#
+# usage: bench/work.sh
+set -euo pipefail
+export LC_ALL=C
+
+top=$(cd "$(dirname "$0")/.." && pwd)
+program=$top/crates/fund_cli/out/fund_cli
+folder=$(mktemp -d)
+trap 'rm -rf "$folder"' EXIT
+
+# Proves and builds the program, and builds the peer.
+cd "$top/crates/fund_cli"
+rt run -- work 1 100 >"$folder/small.txt" 2>"$folder/build.log" || { cat "$folder/build.log" >&2; exit 1; }
+rustc --edition 2021 -O "$top/bench/peers/work.rs" -o "$folder/peer"
+
+python3 - "$program" "$folder/peer" "$folder/printed.txt" <<'PYTHON'
+import os, sys
+
+def best(words):
+    """The least processor time of twenty runs in milliseconds, and what they print."""
+    least, printed = 1e9, set()
+    for _ in range(20):
+        child = os.fork()
+        if child == 0:
+            os.dup2(os.open(sys.argv[3], os.O_WRONLY | os.O_CREAT | os.O_TRUNC), 1)
+            os.execv(words[0], words)
+        _, status, used = os.wait4(child, 0)
+        assert status == 0, words
+        least = min(least, 1000 * (used.ru_utime + used.ru_stime))
+        printed.add(open(sys.argv[3]).read())
+    assert len(printed) == 1, words
+    return least, printed.pop()
+
+print(f"load {os.getloadavg()[0]:.1f} on {os.cpu_count()} processors")
+for count in (100, 1_000, 10_000):
+    ours, text = best([sys.argv[1], "work", "1", str(count)])
+    peer, same = best([sys.argv[2], "1", str(count)])
+    assert text == same, count
+    print(f"{count} coins: {ours:.1f} ms, plain {peer:.1f} ms, ratio {ours / peer:.2f}")
+PYTHON
