@@ -115,11 +115,13 @@ fn main(rt: HostRuntime) -> io::Result<()> {
     )?;
     no_commands(&rt)?;
     failing(&rt, "none fails", &[], &[], &[])?;
-    // The wallet and the request are read twice each, the second time at their end, and the empty block file once.
+    // The wallet and the request are read twice each, the second time at their end. The empty block file is read three times:
+    // for a record's head, for the zero bytes at its end, and for a byte above the limit.
     failing(&rt, "first read fails", &[0], &[], &[])?;
     failing(&rt, "third read fails", &[2], &[], &[])?;
     failing(&rt, "fifth read fails", &[4], &[], &[])?;
     failing(&rt, "sixth read fails", &[5], &[], &[])?;
+    failing(&rt, "eighth read fails", &[7], &[], &[])?;
     failing(&rt, "first write fails", &[], &[0], &[])?;
     failing(&rt, "first put fails", &[], &[], &[0])?;
     Ok(())
