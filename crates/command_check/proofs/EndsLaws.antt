@@ -56,6 +56,7 @@ module _ (told_files told : Type 0) (s : Sources) (p : Payment) (report : List �
   payment_ends (payments.Read file) result h (inr w) = wanting_ends result w
   payment_ends (payments.Refused refusal) result h (inl a) = subst EndsAs (sym a.0) (refused_ends refusal h a.1 (refusal_status (cause_of refusal)))
   payment_ends (payments.Refused refusal) result h (inr w) = wanting_ends result w
+  payment_ends payments.Keep result h w = absurd h
   payment_ends payments.Memory result h w = wanting_ends result w
 
   pub stop_ends : (stop : Stop) (result : Status) → StopsFor told_files s p report shelf shelf' stop → IsStopped told s p report stop sink sink' result → Ends told_files told s p report shelf shelf' sink sink' result
@@ -87,7 +88,9 @@ module _ (told_files told : Type 0) (s : Sources) (p : Payment) (report : List �
     ends_due none statuses.ReadFault (inl h) = absurd (none.payment h.0 h.1)
     ends_due none statuses.ReadFault (inr h) = absurd (none.evidence h.0 h.1)
     ends_due none statuses.WriteFault h = inr (accepted_by h.0 h.1, h.2)
+    ends_due none statuses.KeepFault h = absurd h
     ends_due none statuses.Memory h = inl (inr refl)
+    ends_due none statuses.Saved h = absurd h
     ends_due none statuses.Limit (inl h) = inl (inl (sym h.1 ∙ status_by (Refused (cause_of h.0)) (h.2 t)))
     ends_due none statuses.Limit (inr h) = inl (inl (status_by (TooLong h.0) (h.1 t)))
     ends_due none statuses.Unfinished h = absurd h

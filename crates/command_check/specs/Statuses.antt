@@ -92,7 +92,9 @@ Ends told_files told s p report shelf shelf' sink sink' statuses.Input = payment
 Ends told_files told s p report shelf shelf' sink sink' statuses.Limit = EndsLimited told_files told s p report shelf sink sink'
 Ends told_files told s p report shelf shelf' sink sink' statuses.ReadFault = EndsUnread told_files told s p report shelf shelf' sink sink'
 Ends told_files told s p report shelf shelf' sink sink' statuses.WriteFault = EndsUnwritten told_files told s p report shelf sink sink'
+Ends told_files told s p report shelf shelf' sink sink' statuses.KeepFault = ⊥
 Ends told_files told s p report shelf shelf' sink sink' statuses.Memory = EndsWithoutMemory told_files told s p report shelf sink sink'
+Ends told_files told s p report shelf shelf' sink sink' statuses.Saved = ⊥
 Ends told_files told s p report shelf shelf' sink sink' statuses.CheckRefused = EndsBroken told_files told s p report shelf sink sink'
 
 -- ---- where nothing failed

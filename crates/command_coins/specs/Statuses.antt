@@ -93,5 +93,7 @@ Ends told_files told s shelf shelf' sink sink' statuses.Input = EndsRefused stat
 Ends told_files told s shelf shelf' sink sink' statuses.Limit = EndsRefused statuses.Limit told_files told s shelf sink sink'
 Ends told_files told s shelf shelf' sink sink' statuses.ReadFault = EndsUnread told_files told s shelf shelf' sink sink'
 Ends told_files told s shelf shelf' sink sink' statuses.WriteFault = EndsUnwritten told_files told s shelf sink sink'
+Ends told_files told s shelf shelf' sink sink' statuses.KeepFault = ⊥
 Ends told_files told s shelf shelf' sink sink' statuses.Memory = EndsWithoutMemory told_files told s shelf sink sink'
+Ends told_files told s shelf shelf' sink sink' statuses.Saved = ⊥
 Ends told_files told s shelf shelf' sink sink' statuses.CheckRefused = ⊥

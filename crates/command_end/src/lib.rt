@@ -8,6 +8,6 @@ mod refusals;
 mod status;
 
 pub use names::Sources;
-pub use output::{finish, put_fault, put_line, put_report, want_of_memory};
+pub use output::{finish, put_fault, put_line, put_report, refuse_keep, want_of_memory};
 pub use refusals::{file_refusal_words, file_status, refuse_file, refuse_read};
 pub use status::Status;

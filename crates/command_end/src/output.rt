@@ -13,6 +13,9 @@ use std::alloc::Global;
 /// The line of want of memory.
 const MEMORY_LINE: &[u8] = b"fault memory\n";
 
+/// The line of a keeper of jobs that failed.
+const KEEP_LINE: &[u8] = b"fault keep\n";
+
 /// Puts a line. Where the sink fails it has got a part.
 pub fn put_line<O: Sink>(line: &[u8], out: &mut O)
     ensures line { O.tells → GotLine line.now (O.view out.old) (O.view out.new) }
@@ -36,6 +39,16 @@ pub fn want_of_memory<O: Sink>(out: &mut O) -> Status
 {
     put_line(MEMORY_LINE, out);
     Status::Memory
+}
+
+/// Puts the line of a keeper of jobs that failed.
+pub fn refuse_keep<O: Sink>(out: &mut O) -> Status
+    ensures is { result ≡ Status.KeepFault }
+    ensures line { O.tells → GotLine (fault_line (codes "keep")) (O.view out.old) (O.view out.new) }
+    ensures counts { CountsNeverFall (O.view out.old) (O.view out.new) }
+{
+    put_line(KEEP_LINE, out);
+    Status::KeepFault
 }
 
 /// Puts the fault line of these words, and answers the status; or that of want of memory.

@@ -15,9 +15,14 @@ pub enum Status {
     ReadFault,
     /// The log wasn't written, or the report, the listing or the summary wasn't printed whole.
     WriteFault,
+    /// The keeper of jobs failed.
+    KeepFault,
     /// There was not enough memory.
     Memory,
-    /// A file is longer than its limit, or there are more coins than a book holds.
+    /// The kept job is refused: it isn't there, isn't that of the files, or doesn't bear what it says.
+    Saved,
+    /// A file or the parts of a job are longer than their limit, there are more coins than a book holds, or a job has made
+    /// all its tries.
     Limit,
     /// The tries are used up, a search is open, and nothing is taken.
     Unfinished,
@@ -40,7 +45,9 @@ impl Status {
             Status::Input => 3,
             Status::ReadFault => 4,
             Status::WriteFault => 5,
+            Status::KeepFault => 6,
             Status::Memory => 7,
+            Status::Saved => 8,
             Status::Limit => 9,
             Status::Unfinished => 10,
             Status::NoSelection => 11,

@@ -1,16 +1,12 @@
 -- The log of a plan's run that came to its end, or of which a result was taken, is ended and reads as it was written.
-use Rattle.std.proofs.Common.{◌≡◌, ◌∙◌, ℕ, ◌≤◌, min, Bool, true, false, cond, List, [], ◌∷◌, ◌++◌, Option, Some, None, refl, sym, ap, subst, arith, Contains}
+use Rattle.std.proofs.Common.{◌≡◌, ◌∙◌, ℕ, min, Bool, true, false, cond, List, [], ◌∷◌, ◌++◌, Option, Some, None, refl, sym, ap, subst}
 use Rattle.std.specs.List.{AllByRecursion}
-use Rattle.std.proofs.lemmas.List.Elements.{All-contains, All-from_recursion}
 use Rattle.closing_log.specs.Log.{PlainLog}
 use Rattle.closing_log.specs.LogText.{IsLogText, text_of}
-use Rattle.fund_plan.proofs.RowLaws.{step_of}
 use Rattle.fund_plan.specs.Outcome.{by_end, end_at, is_partial, log_at, most_tries, outcome_at, stand_after}
 use Rattle.fund_plan.specs.Steps.{steps_of}
 use Rattle.fund_plan.specs.declared.outcome.Outcome.TheVariants as answers
-use Rattle.fund_steps.specs.Plan.{PlainPlan, ladder_in}
-use Rattle.output_groups.specs.Ladder.{ladder_of}
-use Rattle.output_groups.specs.declared.rows.Row.{Row}
+use Rattle.fund_steps.specs.Plan.{PlainPlan}
 use Rattle.search_run.specs.Found.{PlainFound, taken}
 use Rattle.search_run.specs.Kept.{is_over, log_of, tail_of}
 use Rattle.search_run.specs.Run.{Stand, at_hand, end_by, or_unfinished}
@@ -23,23 +19,7 @@ use Rattle.closing_log.specs.declared.log.Stage.{Stage}
 use Rattle.closing_log.specs.declared.log.Stage.TheVariants.{Presets, Changeless, LeanBig, Draw, LeanSmall, Wide}
 use Rattle.search_run.specs.declared.ending.End.{End}
 use Rattle.search_run.specs.declared.ending.End.TheVariants as ends
-use Rattle.command_fund.proofs.LogLaws.{ended_reads}
-
--- ---- rows
-
-small_by : (zero_conf include_unsafe : Bool) → AllByRecursion (λ (r : Row). r.number ≤ 255) (ladder_of zero_conf include_unsafe)
-small_by false u = (omega arith, (omega arith, tt))
-small_by true false = (omega arith, (omega arith, (omega arith, (omega arith, (omega arith, (omega arith, tt))))))
-small_by true true = (omega arith, (omega arith, (omega arith, (omega arith, (omega arith, (omega arith, (omega arith, tt)))))))
-
--- the number of a step's row fits a byte
-small_row : (p : PlainPlan) (x : PlainStep) → Contains (steps_of p) x → x.row ≤ 255
-small_row p x h =
-    let at = step_of p x h in
-    let P : Row → Type 0 = λ r. r.number ≤ 255 in
-    let small : at.row.number ≤ 255 = All-contains P (ladder_in p) at.row (All-from_recursion P (ladder_in p) (small_by p.request.zero_conf p.request.include_unsafe)) at.in_ladder in
-    let same : x.row ≡ at.row.number = ap (λ (y : PlainStep). y.row) at.is in
-    omega (arith, small, same)
+use Rattle.kept_job.proofs.LogLaws.{ended_reads, small_row}
 
 -- ---- ends
 

@@ -1,11 +1,31 @@
 -- How the writing and the printing end is how the command ends.
-use Rattle.std.proofs.Common.{◌≡◌, ◌∙◌, ◌++◌, ℕ, List, Option, Some, None, inl, inr, refl, sym, subst}
+use Rattle.std.proofs.Common.{◌≡◌, ◌∙◌, ◌++◌, ℕ, List, Option, Some, None, inl, inr, refl, sym, ap, subst, arith}
 use Rattle.std.specs.Prelude.{◌⊎◌}
-use Rattle.fund_base.specs.Causes.{ShelfView, SinkView, Rose}
+use Rattle.fund_base.proofs.Outside.{rose_earlier}
+use Rattle.fund_base.specs.Causes.{OnlyReads, ShelfView, SinkView, Rose}
+use Rattle.block_feed.specs.Block.{ChainBlock}
+use Rattle.fund_outside.specs.Kept.{KeeperView}
+use Rattle.fund_plan.specs.State.{PlanState, moved}
+use Rattle.fund_plan.specs.Steps.{steps_of}
+use Rattle.request_text.specs.PlainRequest.{PlainRequest}
+use Rattle.search_run.specs.Step.{AreSteps}
+use Rattle.wallet_text.specs.PlainWallet.{PlainWallet}
+use Rattle.fund_files.specs.Chain.{held_of}
+use Rattle.fund_files.specs.declared.refusal.File.{File}
+use Rattle.fund_files.specs.declared.refusal.File.TheVariants.{Wallet, Blocks, Request}
+use Rattle.kept_job.proofs.SavingLaws.{first_kept}
+use Rattle.kept_job.specs.Kept.{new_of}
+use Rattle.kept_job.specs.Saving.{IsSavedBehind}
+use Rattle.command_fund.specs.Digest.{AreWithin, digest_in}
+use Rattle.command_fund.specs.Inputs.{AreInputs, Reaches, name_of}
+use Rattle.command_fund.specs.Jobs.{IsLeft}
+use Rattle.command_fund.specs.Leaving.{HasLeft, IsNotLeft, IsSavedAnew}
+use Rattle.command_fund.specs.PlanEnds.{IsLeftAt}
+use Rattle.command_fund.specs.declared.funding.Left.{Left}
 use Rattle.command_end.specs.declared.status.Status.{Status}
 use Rattle.command_end.specs.declared.status.Status.TheVariants as statuses
 use Rattle.command_fund.specs.Statuses.{Ends, EndsUnwritten, EndsWithoutMemory, IsLogLost, IsReport, IsUnfinished}
-use Rattle.command_fund.specs.Due.{Refused, due_of}
+use Rattle.command_fund.specs.Due.{Refused, due_of, plan_of}
 use Rattle.command_end.specs.Printed.{IsEnd, IsPut, IsUnwritten, IsWithoutMemory}
 use Rattle.command_end.specs.Names.{Sources}
 use Rattle.command_fund.specs.Names.{Payment}
@@ -34,10 +54,10 @@ pub log_lost : (p : Payment) (log : Option (List ℕ)) (shelf shelf' : ShelfView
 log_lost p (Some log) shelf shelf' h = h
 log_lost p None shelf shelf' h = absurd h
 
-unwritten : (told_files told : Type 0) (s : Sources) (p : Payment) (report log : List ℕ) (shelf middle shelf' : ShelfView) (sink sink' : SinkView) → middle.writes ≡ shelf.writes → IsReport told_files shelf.files s p report (Some log)
-    → IsUnwritten told_files told p.log log report middle shelf' sink sink' → EndsUnwritten told_files told s p shelf shelf' sink sink'
-unwritten told_files told s p report log shelf middle shelf' sink sink' writes is (inl h) = (report, Some log, is, inl (subst (λ (w : List ℕ → ℕ). Rose (w p.log) (shelf'.writes p.log)) writes h.0, h.1))
-unwritten told_files told s p report log shelf middle shelf' sink sink' writes is (inr h) = (report, Some log, is, inr (h.0, h.1, h.2))
+unwritten : (told_files told told_jobs : Type 0) (s : Sources) (p : Payment) (job : Option (List ℕ)) (keeper : KeeperView) (report log : List ℕ) (shelf middle shelf' : ShelfView) (sink sink' : SinkView) → middle.writes ≡ shelf.writes → IsReport told_files shelf.files s p report (Some log)
+    → IsUnwritten told_files told p.log log report middle shelf' sink sink' → EndsUnwritten told_files told told_jobs s p job shelf shelf' sink sink' keeper keeper
+unwritten told_files told told_jobs s p job keeper report log shelf middle shelf' sink sink' writes is (inl h) = (report, Some log, is, inl (subst (λ (w : List ℕ → ℕ). Rose (w p.log) (shelf'.writes p.log)) writes h.0, h.1, λ t. refl))
+unwritten told_files told told_jobs s p job keeper report log shelf middle shelf' sink sink' writes is (inr h) = (report, Some log, is, inr (h.0, h.1, h.2, λ t. refl))
 
 -- the log is as before, or its write failed
 log_stays : (told_files : Type 0) (s : Sources) (p : Payment) (report log : List ℕ) (shelf middle shelf' : ShelfView) → middle.writes ≡ shelf.writes → middle.files ≡ shelf.files → IsReport told_files shelf.files s p report (Some log)
@@ -46,33 +66,78 @@ log_stays : (told_files : Type 0) (s : Sources) (p : Payment) (report log : List
 log_stays told_files s p report log shelf middle shelf' writes same is (inl h) = inl (h ∙ same)
 log_stays told_files s p report log shelf middle shelf' writes same is (inr h) = inr (report, Some log, is, subst (λ (w : List ℕ → ℕ). Rose (w p.log) (shelf'.writes p.log)) writes h)
 
-without_memory : (told_files told : Type 0) (s : Sources) (p : Payment) (report log : List ℕ) (shelf middle shelf' : ShelfView) (sink sink' : SinkView) → middle.writes ≡ shelf.writes → (told_files → middle.files ≡ shelf.files)
-    → IsReport told_files shelf.files s p report (Some log) → IsWithoutMemory told_files told p.log log report middle shelf' sink sink' → EndsWithoutMemory told_files told s p shelf shelf' sink sink'
-without_memory told_files told s p report log shelf middle shelf' sink sink' writes same is (inl h) = inl (h.0, λ f. log_stays told_files s p report log shelf middle shelf' writes (same f) is (h.1 f))
-without_memory told_files told s p report log shelf middle shelf' sink sink' writes same is (inr h) = inr (report, Some log, is, h.0, h.1, h.2)
+without_memory : (told_files told told_jobs : Type 0) (s : Sources) (p : Payment) (job : Option (List ℕ)) (keeper : KeeperView) (report log : List ℕ) (shelf middle shelf' : ShelfView) (sink sink' : SinkView) → middle.writes ≡ shelf.writes → (told_files → middle.files ≡ shelf.files)
+    → IsReport told_files shelf.files s p report (Some log) → IsWithoutMemory told_files told p.log log report middle shelf' sink sink' → EndsWithoutMemory told_files told told_jobs s p job shelf shelf' sink sink' keeper keeper
+without_memory told_files told told_jobs s p job keeper report log shelf middle shelf' sink sink' writes same is (inl h) = inl (h.0, λ t. refl, λ f. log_stays told_files s p report log shelf middle shelf' writes (same f) is (h.1 f))
+without_memory told_files told told_jobs s p job keeper report log shelf middle shelf' sink sink' writes same is (inr h) = inr (report, Some log, is, h.0, h.1, h.2, λ t. refl)
 
-pub finish_ends : (told_files told : Type 0) (s : Sources) (p : Payment) (report log : List ℕ) (status : Status) (shelf middle shelf' : ShelfView) (sink sink' : SinkView) (result : Status) → IsEnd status → middle.writes ≡ shelf.writes → (told_files → middle.files ≡ shelf.files)
+pub finish_ends : (told_files told told_jobs : Type 0) (s : Sources) (p : Payment) (job : Option (List ℕ)) (keeper : KeeperView) (report log : List ℕ) (status : Status) (shelf middle shelf' : ShelfView) (sink sink' : SinkView) (result : Status) → IsEnd status → middle.writes ≡ shelf.writes → (told_files → middle.files ≡ shelf.files)
     → IsReport told_files shelf.files s p report (Some log)
-    → ((told_files → shelf'.files p.log ≡ log) → (told → sink'.written ≡ sink.written ++ report) → Ends told_files told s p shelf shelf' sink sink' status)
+    → ((told_files → shelf'.files p.log ≡ log) → (told → sink'.written ≡ sink.written ++ report) → Ends told_files told told_jobs s p job shelf shelf' sink sink' keeper keeper status)
     → (result ≡ status) ⊎ ((result ≡ statuses.WriteFault) ⊎ (result ≡ statuses.Memory))
     → (told_files → result ≡ status → IsEnd status → shelf'.files p.log ≡ log)
     → (told → result ≡ status → IsEnd status → sink'.written ≡ sink.written ++ report)
     → (result ≡ statuses.WriteFault → IsEnd status → IsUnwritten told_files told p.log log report middle shelf' sink sink')
     → (result ≡ statuses.Memory → IsEnd status → IsWithoutMemory told_files told p.log log report middle shelf' sink sink')
-    → Ends told_files told s p shelf shelf' sink sink' result
-finish_ends told_files told s p report log status shelf middle shelf' sink sink' result end writes same is whole (inl e) written put fault memory =
-    subst (λ (x : Status). Ends told_files told s p shelf shelf' sink sink' x) (sym e) (whole (λ f. written f e end) (λ t. put t e end))
-finish_ends told_files told s p report log status shelf middle shelf' sink sink' result end writes same is whole (inr (inl e)) written put fault memory =
-    subst (λ (x : Status). Ends told_files told s p shelf shelf' sink sink' x) (sym e) (unwritten told_files told s p report log shelf middle shelf' sink sink' writes is (fault e end))
-finish_ends told_files told s p report log status shelf middle shelf' sink sink' result end writes same is whole (inr (inr e)) written put fault memory =
-    subst (λ (x : Status). Ends told_files told s p shelf shelf' sink sink' x) (sym e) (without_memory told_files told s p report log shelf middle shelf' sink sink' writes same is (memory e end))
+    → Ends told_files told told_jobs s p job shelf shelf' sink sink' keeper keeper result
+finish_ends told_files told told_jobs s p job keeper report log status shelf middle shelf' sink sink' result end writes same is whole (inl e) written put fault memory =
+    subst (λ (x : Status). Ends told_files told told_jobs s p job shelf shelf' sink sink' keeper keeper x) (sym e) (whole (λ f. written f e end) (λ t. put t e end))
+finish_ends told_files told told_jobs s p job keeper report log status shelf middle shelf' sink sink' result end writes same is whole (inr (inl e)) written put fault memory =
+    subst (λ (x : Status). Ends told_files told told_jobs s p job shelf shelf' sink sink' keeper keeper x) (sym e) (unwritten told_files told told_jobs s p job keeper report log shelf middle shelf' sink sink' writes is (fault e end))
+finish_ends told_files told told_jobs s p job keeper report log status shelf middle shelf' sink sink' result end writes same is whole (inr (inr e)) written put fault memory =
+    subst (λ (x : Status). Ends told_files told told_jobs s p job shelf shelf' sink sink' keeper keeper x) (sym e) (without_memory told_files told told_jobs s p job keeper report log shelf middle shelf' sink sink' writes same is (memory e end))
 
--- the report of a run that goes on, before which no file is written
-pub open_ends : (told_files told : Type 0) (s : Sources) (p : Payment) (report : List ℕ) (shelf shelf' : ShelfView) (sink sink' : SinkView) (result : Status) → (told_files → shelf'.files ≡ shelf.files) → IsUnfinished told_files shelf.files s p report
-    → IsPut told report statuses.Unfinished sink sink' result → Ends told_files told s p shelf shelf' sink sink' result
-open_ends told_files told s p report shelf shelf' sink sink' result same is (inl h) = subst (λ (x : Status). Ends told_files told s p shelf shelf' sink sink' x) (sym h.0) (report, is, same, h.1)
-open_ends told_files told s p report shelf shelf' sink sink' result same is (inr (inl h)) = subst (λ (x : Status). Ends told_files told s p shelf shelf' sink sink' x) (sym h.0) (report, None, is, inr (h.1, same, h.2))
-open_ends told_files told s p report shelf shelf' sink sink' result same is (inr (inr h)) = subst (λ (x : Status). Ends told_files told s p shelf shelf' sink sink' x) (sym h.0) (inr (report, None, is, h.1, same, h.2))
+-- ---- a run that goes on
+
+-- what is saved anew of the run's plan is kept as the run was left
+left_is : (told_files told_jobs : Type 0) (files : List ℕ → List ℕ) (s : Sources) (p : Payment) (job : Option (List ℕ)) (left : Left) (keeper keeper' : KeeperView) (w : PlainWallet) (blocks : List ChainBlock) (r : PlainRequest) → (told_files → AreInputs files s p w blocks r)
+    → IsLeftAt (held_of w blocks) r left.plan → AreSteps (steps_of (plan_of (held_of w blocks) r)) → IsSavedAnew told_files told_jobs files s p left job keeper keeper' → told_jobs → IsLeft told_files files s p (plan_of (held_of w blocks) r) r.tries job keeper keeper'
+left_is told_files told_jobs files s p None left keeper keeper' w blocks r inputs at steps saved t = ap (λ (k : KeeperView). k.jobs) saved
+left_is told_files told_jobs files s p (Some job) left keeper keeper' w blocks r inputs at steps saved t = (
+  (saved t).0,
+  λ f.
+      let i = inputs f in
+      let within : AreWithin files s p = record { wallet = omega (arith, i.chain.wallet.fits); blocks = i.chain.blocks.fits; request = omega (arith, i.request.fits) } in
+      let behind : IsSavedBehind (digest_in files s p) (moved (new_of (plan_of (held_of w blocks) r)) r.tries) 0 0 (keeper.jobs job) (keeper'.jobs job) =
+      subst (λ (x : PlanState). IsSavedBehind (digest_in files s p) x 0 0 (keeper.jobs job) (keeper'.jobs job)) at.stands ((saved t).1 f within) in
+      (first_kept (plan_of (held_of w blocks) r) r.tries (digest_in files s p) (keeper.jobs job) (keeper'.jobs job) steps behind, behind),
+)
+
+-- the files before one are in order, where all are
+pub reached : (files : List ℕ → List ℕ) (s : Sources) (p : Payment) (w : PlainWallet) (blocks : List ChainBlock) (r : PlainRequest) (file : File) → AreInputs files s p w blocks r → Reaches files s file
+reached files s p w blocks r Wallet i = tt
+reached files s p w blocks r Blocks i = (w, i.chain.wallet)
+reached files s p w blocks r Request i = (w, blocks, i.chain)
+
+module _ (told_files told told_jobs : Type 0) (s : Sources) (p : Payment) (job : Option (List ℕ)) (left : Left) (shelf middle shelf' : ShelfView) (sink sink' : SinkView) (keeper keeper' : KeeperView) (result : Status)
+    (read : OnlyReads told_files shelf middle) (reads_on : OnlyReads told_files middle shelf') (u : IsUnfinished told_files shelf.files s p left.report.items) where
+  unchanged : told_files → shelf'.files ≡ shelf.files
+  unchanged f = reads_on.same f ∙ read.same f
+
+  put_ends : (told_jobs → IsLeft told_files shelf.files s p (plan_of (held_of u.wallet u.blocks) u.asked) u.asked.tries job keeper keeper') → IsPut told left.report.items statuses.Unfinished sink sink' result
+      → Ends told_files told told_jobs s p job shelf shelf' sink sink' keeper keeper' result
+  put_ends kept (inl h) = subst (λ (x : Status). Ends told_files told told_jobs s p job shelf shelf' sink sink' keeper keeper' x) (sym h.0) (left.report.items, u, unchanged, h.1, kept)
+  put_ends kept (inr (inl h)) = subst (λ (x : Status). Ends told_files told told_jobs s p job shelf shelf' sink sink' keeper keeper' x) (sym h.0) (left.report.items, None, u, inr (h.1, unchanged, h.2, kept))
+  put_ends kept (inr (inr h)) = subst (λ (x : Status). Ends told_files told told_jobs s p job shelf shelf' sink sink' keeper keeper' x) (sym h.0) (inr (left.report.items, None, u, h.1, unchanged, h.2, kept))
+
+  not_left_ends : IsNotLeft told s p job middle shelf' sink sink' keeper keeper' result → (told_jobs → keeper'.jobs ≡ keeper.jobs) → Ends told_files told told_jobs s p job shelf shelf' sink sink' keeper keeper' result
+  not_left_ends (inl h) same = subst (λ (x : Status). Ends told_files told told_jobs s p job shelf shelf' sink sink' keeper keeper' x) (sym h.1)
+      (h.0, rose_earlier _ _ _ (read.reads (name_of s p h.0)) h.2, λ f. reached shelf.files s p u.wallet u.blocks u.asked h.0 (u.inputs f), h.3)
+  not_left_ends (inr (inl h)) same = subst (λ (x : Status). Ends told_files told told_jobs s p job shelf shelf' sink sink' keeper keeper' x) (sym h.0) (left.report.items, u, h.1, h.2, h.3)
+  not_left_ends (inr (inr h)) same = subst (λ (x : Status). Ends told_files told told_jobs s p job shelf shelf' sink sink' keeper keeper' x) (sym h.0) (inl (h.1, same, λ f. inl (unchanged f)))
+
+  pub leave_ends : AreSteps (steps_of (plan_of (held_of u.wallet u.blocks) u.asked)) → IsLeftAt (held_of u.wallet u.blocks) u.asked left.plan
+      → HasLeft told_files told told_jobs s p job left middle shelf' sink sink' keeper keeper' result → Ends told_files told told_jobs s p job shelf shelf' sink sink' keeper keeper' result
+  leave_ends steps at (inl h) =
+      put_ends (λ t. left_is told_files told_jobs shelf.files s p job left keeper keeper' u.wallet u.blocks u.asked u.inputs at steps (saved_before h.1) t) h.0
+    where
+      saved_before : IsSavedAnew told_files told_jobs middle.files s p left job keeper keeper' → IsSavedAnew told_files told_jobs shelf.files s p left job keeper keeper'
+      saved_before a = by job a
+        where
+          by : (o : Option (List ℕ)) → IsSavedAnew told_files told_jobs middle.files s p left o keeper keeper' → IsSavedAnew told_files told_jobs shelf.files s p left o keeper keeper'
+          by None a = a
+          by (Some name) a = λ t. ((a t).0, λ f. subst (λ (files : List ℕ → List ℕ). AreWithin files s p → IsSavedBehind (digest_in files s p) left.plan 0 0 (keeper.jobs name) (keeper'.jobs name)) (read.same f) ((a t).1 f))
+  leave_ends steps at (inr h) = not_left_ends h.0 h.1
 
 -- ---- a stop
 
@@ -96,19 +161,20 @@ refusal_status (Files cause) = file_status cause
 refusal_status BumpNotYet = inl refl
 refusal_status (Plan fault) = plan_status fault
 
-refused_ends : (told_files told : Type 0) (s : Sources) (p : Payment) (refusal : Refusal) (shelf shelf' : ShelfView) (sink sink' : SinkView) → (told_files → IsDue shelf.files s p (cause_of refusal)) → (told → GotLine (fault_line (refusal_words refusal)) sink sink')
-    → (status_of_cause (cause_of refusal) ≡ statuses.Input) ⊎ (status_of_cause (cause_of refusal) ≡ statuses.Limit) → Ends told_files told s p shelf shelf' sink sink' (status_of_cause (cause_of refusal))
-refused_ends told_files told s p refusal shelf shelf' sink sink' due line (inl e) = subst (λ (x : Status). Ends told_files told s p shelf shelf' sink sink' x) (sym e) (refusal, e, due, line)
-refused_ends told_files told s p refusal shelf shelf' sink sink' due line (inr e) = subst (λ (x : Status). Ends told_files told s p shelf shelf' sink sink' x) (sym e) (refusal, e, due, line)
+refused_ends : (told_files told told_jobs : Type 0) (s : Sources) (p : Payment) (job : Option (List ℕ)) (keeper : KeeperView) (refusal : Refusal) (shelf shelf' : ShelfView) (sink sink' : SinkView) → (told_files → IsDue shelf.files s p (cause_of refusal)) → (told → GotLine (fault_line (refusal_words refusal)) sink sink')
+    → (status_of_cause (cause_of refusal) ≡ statuses.Input) ⊎ (status_of_cause (cause_of refusal) ≡ statuses.Limit) → Ends told_files told told_jobs s p job shelf shelf' sink sink' keeper keeper (status_of_cause (cause_of refusal))
+refused_ends told_files told told_jobs s p job keeper refusal shelf shelf' sink sink' due line (inl e) = subst (λ (x : Status). Ends told_files told told_jobs s p job shelf shelf' sink sink' keeper keeper x) (sym e) (refusal, e, due, line)
+refused_ends told_files told told_jobs s p job keeper refusal shelf shelf' sink sink' due line (inr e) = subst (λ (x : Status). Ends told_files told told_jobs s p job shelf shelf' sink sink' keeper keeper x) (sym e) (refusal, e, due, line)
 
-wanting_ends : (told_files told : Type 0) (s : Sources) (p : Payment) (shelf shelf' : ShelfView) (sink sink' : SinkView) (result : Status) → (told_files → shelf'.files ≡ shelf.files) → IsWanting told sink sink' result → Ends told_files told s p shelf shelf' sink sink' result
-wanting_ends told_files told s p shelf shelf' sink sink' result same w = subst (λ (x : Status). Ends told_files told s p shelf shelf' sink sink' x) (sym w.0) (inl (w.1, λ f. inl (same f)))
+wanting_ends : (told_files told told_jobs : Type 0) (s : Sources) (p : Payment) (job : Option (List ℕ)) (keeper : KeeperView) (shelf shelf' : ShelfView) (sink sink' : SinkView) (result : Status) → (told_files → shelf'.files ≡ shelf.files) → IsWanting told sink sink' result → Ends told_files told told_jobs s p job shelf shelf' sink sink' keeper keeper result
+wanting_ends told_files told told_jobs s p job keeper shelf shelf' sink sink' result same w = subst (λ (x : Status). Ends told_files told told_jobs s p job shelf shelf' sink sink' keeper keeper x) (sym w.0) (inl (w.1, λ t. refl, λ f. inl (same f)))
 
-pub stop_ends : (told_files told : Type 0) (s : Sources) (p : Payment) (stop : Stop) (shelf shelf' : ShelfView) (sink sink' : SinkView) (result : Status) → StopsFor told_files s p shelf shelf' stop → (told_files → shelf'.files ≡ shelf.files) → IsStopped told s p stop sink sink' result
-    → Ends told_files told s p shelf shelf' sink sink' result
-stop_ends told_files told s p (stops.Read file) shelf shelf' sink sink' result h same (inl a) = subst (λ (x : Status). Ends told_files told s p shelf shelf' sink sink' x) (sym a.0) (file, h.0, h.1, a.1)
-stop_ends told_files told s p (stops.Read file) shelf shelf' sink sink' result h same (inr w) = wanting_ends told_files told s p shelf shelf' sink sink' result same w
-stop_ends told_files told s p (stops.Refused refusal) shelf shelf' sink sink' result h same (inl a) =
-    subst (λ (x : Status). Ends told_files told s p shelf shelf' sink sink' x) (sym a.0) (refused_ends told_files told s p refusal shelf shelf' sink sink' h a.1 (refusal_status (cause_of refusal)))
-stop_ends told_files told s p (stops.Refused refusal) shelf shelf' sink sink' result h same (inr w) = wanting_ends told_files told s p shelf shelf' sink sink' result same w
-stop_ends told_files told s p stops.Memory shelf shelf' sink sink' result h same w = wanting_ends told_files told s p shelf shelf' sink sink' result same w
+pub stop_ends : (told_files told told_jobs : Type 0) (s : Sources) (p : Payment) (job : Option (List ℕ)) (keeper : KeeperView) (stop : Stop) (shelf shelf' : ShelfView) (sink sink' : SinkView) (result : Status) → StopsFor told_files s p shelf shelf' stop → (told_files → shelf'.files ≡ shelf.files) → IsStopped told s p stop sink sink' result
+    → Ends told_files told told_jobs s p job shelf shelf' sink sink' keeper keeper result
+stop_ends told_files told told_jobs s p job keeper (stops.Read file) shelf shelf' sink sink' result h same (inl a) = subst (λ (x : Status). Ends told_files told told_jobs s p job shelf shelf' sink sink' keeper keeper x) (sym a.0) (file, h.0, h.1, a.1)
+stop_ends told_files told told_jobs s p job keeper (stops.Read file) shelf shelf' sink sink' result h same (inr w) = wanting_ends told_files told told_jobs s p job keeper shelf shelf' sink sink' result same w
+stop_ends told_files told told_jobs s p job keeper (stops.Refused refusal) shelf shelf' sink sink' result h same (inl a) =
+    subst (λ (x : Status). Ends told_files told told_jobs s p job shelf shelf' sink sink' keeper keeper x) (sym a.0) (refused_ends told_files told told_jobs s p job keeper refusal shelf shelf' sink sink' h a.1 (refusal_status (cause_of refusal)))
+stop_ends told_files told told_jobs s p job keeper (stops.Refused refusal) shelf shelf' sink sink' result h same (inr w) = wanting_ends told_files told told_jobs s p job keeper shelf shelf' sink sink' result same w
+stop_ends told_files told told_jobs s p job keeper stops.Keep shelf shelf' sink sink' result h same w = absurd h
+stop_ends told_files told told_jobs s p job keeper stops.Memory shelf shelf' sink sink' result h same w = wanting_ends told_files told told_jobs s p job keeper shelf shelf' sink sink' result same w

@@ -2,5 +2,5 @@ pub mod DueLaws
 pub mod EndedLaws
 pub mod Finished
 pub mod InputLaws
-pub mod LogLaws
+pub mod LeavingLaws
 pub mod PlanLaws

@@ -1,5 +1,5 @@
 -- How a plan's run ends is what is due, and what the files of the command come to.
-use Rattle.std.proofs.Common.{◌≡◌, ◌∙◌, ℕ, ◌-◌, min, List, ◌∷◌, None, Result, Ok, Err, refl, sym, ap, subst, All, Contains}
+use Rattle.std.proofs.Common.{◌≡◌, ◌∙◌, ℕ, ◌-◌, min, List, ◌∷◌, Option, Some, None, Result, Ok, Err, refl, sym, ap, subst, arith, All, Contains}
 use Rattle.std.specs.Prelude.{◌≢◌, IfErr, IfOk}
 use Rattle.block_feed.specs.Block.{ChainBlock}
 use Rattle.closing_log.specs.Log.{PlainLog}
@@ -9,6 +9,11 @@ use Rattle.fund_base.specs.declared.candidate.Candidate.{Candidate}
 use Rattle.fund_plan.proofs.ClaimLaws.{funded_claims, none_claims, open_claims}
 use Rattle.fund_plan.proofs.EligibleLaws.{payment_eligible}
 use Rattle.fund_plan.proofs.EndLaws.{end_back, moved_none, new_told}
+use Rattle.fund_plan.proofs.KeepLaws.{written_on}
+use Rattle.fund_plan.specs.Resumed.{saved_at}
+use Rattle.search_run.proofs.MadeLaws.{kept_begins}
+use Rattle.search_run.specs.Found.{PlainFound}
+use Rattle.kept_job.specs.Kept.{new_of}
 use Rattle.fund_plan.specs.Answer.{ArePayments, HasSelection, IsPayment, IsSelection}
 use Rattle.fund_plan.specs.Claims.{IsUsedUp}
 use Rattle.fund_plan.specs.Outcome.{beginning_of, end_at, is_partial, led, log_at, most_tries, outcome_at, stand_after, tries_at}
@@ -40,7 +45,7 @@ use Rattle.command_fund.specs.Due.{Unfinished, NoSelection, Funded, candidates_i
 use Rattle.command_fund.specs.Inputs.{AreAsked, AreInputs}
 use Rattle.command_fund.specs.Meant.{IsMeant}
 use Rattle.command_fund.specs.Names.{Payment}
-use Rattle.command_fund.specs.PlanEnds.{IsAfter, IsConcluded, IsEnded, IsNew, IsOpen, IsOpenAt, IsOpenReport, IsPaid, IsUnpaid, MeansFault, StopsPlan, plan_stop_of}
+use Rattle.command_fund.specs.PlanEnds.{IsAfter, IsConcluded, IsEnded, IsLeftAt, IsNew, IsOpen, IsOpenAt, IsOpenReport, IsPaid, IsUnpaid, MeansFault, StopsPlan, plan_stop_of}
 use Rattle.command_fund.specs.Stops.{StopsFor}
 use Rattle.command_fund.specs.declared.funding.Ending.{Ending}
 use Rattle.command_fund.specs.declared.funding.Ending.TheVariants as endings
@@ -72,6 +77,11 @@ new_is k r change coins s own all is stand partial = record { plan = is ∙ same
 
 -- ---- a plan behind its tries
 
+is_new : (s : PlanState) → s.stand ≡ beginning_of s.plan → s.partial ≡ None → s ≡ new_of s.plan
+is_new s stand partial =
+    ap (λ (x : Stand). record { plan = s.plan; stand = x; partial = s.partial }) stand
+    ∙ ap (λ (o : Option PlainFound). record { plan = s.plan; stand = beginning_of s.plan; partial = o }) partial
+
 state_at : PlainPlan → ℕ → PlanState
 state_at p n = record { plan = p; stand = stand_after p n; partial = partial_of (end_at p (stand_after p n)) }
 
@@ -100,6 +110,7 @@ gone old new n o stand partial rules steps is says pays fits =
       tries = ap (λ (s : PlanState). s.stand.past.tries) e;
       left = ap (λ (s : PlanState). s.stand.left) e;
       log = ap (λ (s : PlanState). log_of (is_partial (end_in s)) s.stand) e ∙ log_there old.plan n;
+      stands = is ∙ ap (λ (s : PlanState). moved s n) (is_new old stand partial);
     }
 
 pub after : (k : Held) (r : PlainRequest) (old new : PlanState) (n : ℕ) (o : Answer) → IsNew k r old → n ≡ r.tries → IsPlan old.plan → AreSteps (steps_of old.plan) → new ≡ moved old n → o ≡ told new → ArePayments old.plan o → HasSelection old.plan.request o
@@ -121,7 +132,22 @@ is_open p n s o a is =
     let u = used_up p n s o a is in
     open_left s.stand.left u.step u.rest (a.left ∙ u.left) (open_stage p n u.step u.rest a.steps u.left)
 
-pub concluded_open : (k : Held) (r : PlainRequest) (s : PlanState) (o : Answer) (text : List ℕ) → IsAfter (plan_of k r) r.tries s o → o ≡ answers.Unfinished → text ≡ open_report s.stand.past.tries s.stand.left → IsOpenReport text s.stand.past.tries s.stand.left → IsPlan (plan_of k r) × IsOpen k r text
+-- what is left can be kept
+left_there : (k : Held) (r : PlainRequest) (s : PlanState) (o : Answer) → IsAfter (plan_of k r) r.tries s o → o ≡ answers.Unfinished → IsLeftAt k r s
+left_there k r s o a is =
+    let p : PlainPlan = plan_of k r in
+    record {
+      steps = a.steps;
+      stands = a.stands;
+      can = record {
+        unfinished = ap told a.stands ∙ (new_told (new_of p) r.tries refl refl ∙ (sym a.outcome ∙ is));
+        text = λ digest saved e.
+            written_on (new_of p) r.tries digest 1 saved a.steps (kept_begins p.request.seed (steps_of p) a.steps)
+            (subst (λ (x : PlanState). saved_at digest 1 x ≡ Some saved) a.stands e) (omega arith) (omega arith);
+      };
+    }
+
+pub concluded_open : (k : Held) (r : PlainRequest) (s : PlanState) (o : Answer) (text : List ℕ) → IsAfter (plan_of k r) r.tries s o → o ≡ answers.Unfinished → text ≡ open_report s.stand.past.tries s.stand.left → IsOpenReport text s.stand.past.tries s.stand.left → IsPlan (plan_of k r) × IsOpen k r text × IsLeftAt k r s
 concluded_open k r s o text a is text_is told =
     let p : PlainPlan = plan_of k r in
     let u = used_up p r.tries s o a is in
@@ -135,6 +161,7 @@ concluded_open k r s o text a is text_is told =
         told = subst (λ (xs : List PlainStep). IsOpenReport text (tries_at p r.tries) xs) (a.left ∙ u.left) (subst (λ (n : ℕ). IsOpenReport text n s.stand.left) a.tries told);
         due = due_is k r answers.Unfinished a.rules out ∙ ap (λ (t : List ℕ). Unfinished t) (sym same);
       },
+      left_there k r s o a is,
     )
 
 -- ---- the run is at its end
@@ -210,18 +237,21 @@ concluded_paid k r s o f tries text log a is tried text_is psbt shows log_is =
 -- ---- what the files come to
 
 ended_on : (told_files : Type 0) (files : List ℕ → List ℕ) (s : Sources) (p : Payment) (w : PlainWallet) (blocks : List ChainBlock) (r : PlainRequest) (e : Ending) → (told_files → AreInputs files s p w blocks r) → IsConcluded (held_of w blocks) r e → IsEnded told_files files s p e
-ended_on told_files files s p w blocks r (endings.Unfinished text) inputs c = record {
-  wallet = w;
-  blocks = blocks;
-  asked = r;
-  inputs = inputs;
-  plan = c.0;
-  outcome = c.1.outcome;
-  used_up = c.1.used_up;
-  reports = c.1.reports;
-  told = c.1.told;
-  comes_to = λ t. inputs_due files s p w blocks r (inputs t) ∙ c.1.due;
-}
+ended_on told_files files s p w blocks r (endings.Unfinished left) inputs c = (
+  record {
+    wallet = w;
+    blocks = blocks;
+    asked = r;
+    inputs = inputs;
+    plan = c.0;
+    outcome = c.1.outcome;
+    used_up = c.1.used_up;
+    reports = c.1.reports;
+    told = c.1.told;
+    comes_to = λ t. inputs_due files s p w blocks r (inputs t) ∙ c.1.due;
+  },
+  c.2,
+)
 ended_on told_files files s p w blocks r (endings.NoSelection texts) inputs c = record {
   wallet = w;
   blocks = blocks;
@@ -266,6 +296,7 @@ pub stops_on : (told_files : Type 0) (s : Sources) (p : Payment) (w : PlainWalle
 stops_on told_files s p w blocks r old new (stops.Read file) inputs is = absurd is
 stops_on told_files s p w blocks r old new (stops.Refused refusal) inputs is = λ t.
     (inputs_due old.files s p w blocks r (inputs t) ∙ is.0, meant old.files s p w blocks r (cause_of refusal) (inputs t) is.1)
+stops_on told_files s p w blocks r old new stops.Keep inputs is = absurd is
 stops_on told_files s p w blocks r old new stops.Memory inputs is = tt
 
 pub if_ends : (told_files : Type 0) (files : List ℕ → List ℕ) (s : Sources) (p : Payment) (k : Held) (r : PlainRequest) (result : Result Ending Stop) → AreAsked told_files files s p k r → IfOk result (IsConcluded k r) → IfOk result (IsEnded told_files files s p)

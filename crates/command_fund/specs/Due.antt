@@ -73,11 +73,15 @@ open_report tries (x ∷ rest) = open_text tries x
 abbrev pub open_report_at : PlainPlan → ℕ → List ℕ
 open_report_at p n = open_report (tries_at p n) (stand_after p n).left
 
--- what a plan with these tries comes to
+-- what a plan with so many tries comes to, in however many pieces they are made
+abbrev pub by_answer_after : Held → PlainRequest → (tries : ℕ) → Answer → Outcome
+by_answer_after k r n answers.Unfinished = Unfinished (open_report_at (plan_of k r) n)
+by_answer_after k r n answers.NoSelection = NoSelection (none_report_at (plan_of k r) n) (log_text_at (plan_of k r) n)
+by_answer_after k r n (answers.Funded f) = Funded (report_of k.book r k.wallet.change (tries_at (plan_of k r) n) f) (log_text_at (plan_of k r) n)
+
+-- what a plan with the request's tries comes to
 abbrev pub by_answer : Held → PlainRequest → Answer → Outcome
-by_answer k r answers.Unfinished = Unfinished (open_report_at (plan_of k r) r.tries)
-by_answer k r answers.NoSelection = NoSelection (none_report_at (plan_of k r) r.tries) (log_text_at (plan_of k r) r.tries)
-by_answer k r (answers.Funded f) = Funded (report_of k.book r k.wallet.change (tries_at (plan_of k r) r.tries) f) (log_text_at (plan_of k r) r.tries)
+by_answer k r o = by_answer_after k r r.tries o
 
 -- what isn't taken of a request yet: a payment to be replaced
 abbrev pub not_taken : PlainRequest → Option Cause
@@ -86,6 +90,10 @@ not_taken r = if is_some r.bump then Some BumpNotYet else None
 -- what is due for a request that replaces no payment
 unfoldable pub planned : Held → PlainRequest → Outcome
 planned k r = by_cause (plan_cause (fault_of (plan_of k r))) (by_answer k r (outcome_at (plan_of k r) r.tries))
+
+-- the same, with so many tries in place of the request's
+unfoldable pub planned_after : Held → PlainRequest → (tries : ℕ) → Outcome
+planned_after k r n = by_cause (plan_cause (fault_of (plan_of k r))) (by_answer_after k r n (outcome_at (plan_of k r) n))
 
 -- ---- the files
 

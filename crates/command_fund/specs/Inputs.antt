@@ -23,6 +23,10 @@ name_of s p Request = p.request
 abbrev pub AsksInOrder : Sources → Payment → ShelfView → ShelfView → Type 0
 AsksInOrder s p old new = Asks (s.wallet ∷ s.blocks ∷ p.request ∷ []) old.asked new.asked
 
+-- The same, and once more in this order for the digest of a job.
+abbrev pub AsksTwice : Sources → Payment → ShelfView → ShelfView → Type 0
+AsksTwice s p old new = Asks (s.wallet ∷ s.blocks ∷ p.request ∷ s.wallet ∷ s.blocks ∷ p.request ∷ []) old.asked new.asked
+
 -- a read of this file failed
 abbrev pub IsUnread : Sources → Payment → File → ShelfView → ShelfView → Type 0
 IsUnread s p file old new = Rose (old.reads (name_of s p file)) (new.reads (name_of s p file))

@@ -5,7 +5,7 @@ use Rattle.fund_plan.specs.Answer.{ArePayments, HasSelection, IsPayment}
 use Rattle.fund_plan.specs.Claims.{Claims, IsProvedNone, IsUsedUp}
 use Rattle.fund_plan.specs.Outcome.{beginning_of, is_partial, log_at, outcome_at, stand_after, tries_at}
 use Rattle.fund_plan.specs.Selection.{PlainFunded}
-use Rattle.fund_plan.specs.State.{PlanState, end_in}
+use Rattle.fund_plan.specs.State.{PlanState, end_in, moved}
 use Rattle.fund_plan.specs.Steps.{steps_of}
 use Rattle.fund_plan.specs.declared.outcome.Outcome.{Outcome as Answer}
 use Rattle.fund_plan.specs.declared.outcome.Outcome.TheVariants as answers
@@ -18,9 +18,12 @@ use Rattle.fund_steps.specs.declared.fault.PlanFault.{PlanFault}
 use Rattle.fund_steps.specs.declared.fault.PlanFault.TheVariants as plans
 use Rattle.psbt_codec.specs.Psbt.{IsPsbt}
 use Rattle.request_text.specs.PlainRequest.{PlainRequest}
+use Rattle.fund_files.specs.Chain.{held_of}
 use Rattle.fund_files.specs.declared.held.Held.{Held}
 use Rattle.fund_payment.specs.Report.{psbt_of, report_of}
 use Rattle.fund_payment.specs.Shown.{ShowsCoins}
+use Rattle.kept_job.specs.Kept.{new_of}
+use Rattle.kept_job.specs.SavingRules.{CanBeKept}
 use Rattle.command_end.specs.Names.{Sources}
 use Rattle.command_fund.specs.Cause.{Cause, Files, BumpNotYet, Plan, cause_of}
 use Rattle.command_fund.specs.Due.{Refused, Unfinished, NoSelection, Funded, log_text_at, none_report_at, open_text, plan_of, planned}
@@ -50,6 +53,7 @@ pub record IsAfter (p : PlainPlan) (n : ℕ) (s : PlanState) (o : Answer) : Type
   pub tries : s.stand.past.tries ≡ tries_at p n
   pub left : s.stand.left ≡ (stand_after p n).left
   pub log : log_of (is_partial (end_in s)) s.stand ≡ log_at p n
+  pub stands : s ≡ moved (new_of p) n
 
 -- a step is left whose stage a report can name
 abbrev pub IsOpenAt : List PlainStep → Type 0
@@ -97,9 +101,15 @@ pub record IsOpen (k : Held) (r : PlainRequest) (report : List ℕ) : Type 0 whe
   pub told : IsReportText report (kinds.Unfinished (tries_at (plan_of k r) r.tries) used_up.step.row used_up.step.stage)
   pub due : planned k r ≡ Unfinished report
 
+-- an unfinished plan stands where the request's tries led
+pub record IsLeftAt (k : Held) (r : PlainRequest) (s : PlanState) : Type 0 where
+  pub steps : AreSteps (steps_of (plan_of k r))
+  pub stands : s ≡ moved (new_of (plan_of k r)) r.tries
+  pub can : CanBeKept s 1
+
 -- how a plan ends
 abbrev pub IsConcluded : Held → PlainRequest → Ending → Type 0
-IsConcluded k r (endings.Unfinished report) = IsPlan (plan_of k r) × IsOpen k r report.items
+IsConcluded k r (endings.Unfinished left) = IsPlan (plan_of k r) × IsOpen k r left.report.items × IsLeftAt k r left.plan
 IsConcluded k r (endings.NoSelection texts) = IsPlan (plan_of k r) × IsUnpaid k r texts.report.items texts.log.items
 IsConcluded k r (endings.Funded texts) = IsPlan (plan_of k r) × IsPaid k r texts.report.items texts.log.items
 
@@ -113,6 +123,7 @@ MeansFault k r (Plan fault) = IsFault (plan_of k r) fault × (fault ≢ plans.Me
 abbrev pub StopsPlan : Held → PlainRequest → Stop → Type 0
 StopsPlan k r (stops.Read file) = ⊥
 StopsPlan k r (stops.Refused refusal) = (planned k r ≡ Refused (cause_of refusal)) × MeansFault k r (cause_of refusal)
+StopsPlan k r stops.Keep = ⊥
 StopsPlan k r stops.Memory = Unit {0}
 
 -- the stop of a request for which no plan is made: want of memory comes from that of the plan alone
@@ -122,6 +133,6 @@ plan_stop_of fault = stops.Refused (refusals.Plan fault)
 
 -- this is how the request of the files ends
 abbrev pub IsEnded : Type 0 → (List ℕ → List ℕ) → Sources → Payment → Ending → Type 0
-IsEnded told files s p (endings.Unfinished report) = IsUnfinished told files s p report.items
+IsEnded told files s p (endings.Unfinished left) = (u : IsUnfinished told files s p left.report.items) × IsLeftAt (held_of u.wallet u.blocks) u.asked left.plan
 IsEnded told files s p (endings.NoSelection texts) = IsNotFunded told files s p texts.report.items texts.log.items
 IsEnded told files s p (endings.Funded texts) = IsFunded told files s p texts.report.items texts.log.items

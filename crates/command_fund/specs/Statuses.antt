@@ -1,6 +1,7 @@
 -- How a payment ends, by its status.
-use Rattle.std.specs.Prelude.{ℕ, ◌≡◌, ◌⊎◌, true, List, ◌++◌, All, codes, Option, Some, None}
+use Rattle.std.specs.Prelude.{ℕ, ◌≡◌, ◌⊎◌, true, List, ◌++◌, All, codes, Option, Some, None, IsSome}
 use Rattle.fund_base.specs.Causes.{ShelfView, SinkView, Rose, HasPart}
+use Rattle.fund_outside.specs.Kept.{KeeperView}
 use Rattle.block_feed.specs.Block.{ChainBlock}
 use Rattle.closing_log.specs.LogText.{IsLogText}
 use Rattle.fund_plan.specs.Answer.{IsPayment}
@@ -25,6 +26,7 @@ use Rattle.command_end.specs.declared.status.Status.TheVariants as statuses
 use Rattle.command_fund.specs.Cause.{cause_of, status_of_cause}
 use Rattle.command_fund.specs.Due.{Outcome, Refused, Unfinished, NoSelection, Funded, due_of, log_text_at, none_report_at, open_text, plan_of}
 use Rattle.command_fund.specs.Inputs.{AreInputs, IsUnread, Reaches, name_of}
+use Rattle.command_fund.specs.Jobs.{IsLeft}
 use Rattle.command_fund.specs.Meant.{IsDue}
 use Rattle.command_fund.specs.Names.{Payment}
 use Rattle.command_fund.specs.Words.{refusal_words}
@@ -102,10 +104,12 @@ abbrev pub EndsNotFunded : Type 0 → Type 0 → Sources → Payment → ShelfVi
 EndsNotFunded told_files told s p shelf shelf' sink sink' =
     (report : List ℕ) × (log : List ℕ) × IsNotFunded told_files shelf.files s p report log × (told_files → shelf'.files p.log ≡ log) × (told → sink'.written ≡ sink.written ++ report)
 
--- unfinished: no file is written, and after what was in the sink stands the report of the open search
-abbrev pub EndsUnfinished : Type 0 → Type 0 → Sources → Payment → ShelfView → ShelfView → SinkView → SinkView → Type 0
-EndsUnfinished told_files told s p shelf shelf' sink sink' =
-    (report : List ℕ) × IsUnfinished told_files shelf.files s p report × (told_files → shelf'.files ≡ shelf.files) × (told → sink'.written ≡ sink.written ++ report)
+-- unfinished: no file is written, the job is kept where there is one, and after what was in the sink stands the report of the
+-- open search
+abbrev pub EndsUnfinished : Type 0 → Type 0 → Type 0 → Sources → Payment → Option (List ℕ) → ShelfView → ShelfView → SinkView → SinkView → KeeperView → KeeperView → Type 0
+EndsUnfinished told_files told told_jobs s p job shelf shelf' sink sink' keeper keeper' =
+    (report : List ℕ) × (u : IsUnfinished told_files shelf.files s p report) × (told_files → shelf'.files ≡ shelf.files) × (told → sink'.written ≡ sink.written ++ report)
+    × (told_jobs → IsLeft told_files shelf.files s p (plan_of (held_of u.wallet u.blocks) u.asked) u.asked.tries job keeper keeper')
 
 -- A refusal of this status, whose cause the files come to where they are told, with its line.
 abbrev pub EndsRefused : Status → Type 0 → Type 0 → Sources → Payment → ShelfView → SinkView → SinkView → Type 0
@@ -118,6 +122,12 @@ EndsUnread told_files told s p shelf shelf' sink sink' =
     (file : File) × IsUnread s p file shelf shelf' × (told_files → Reaches shelf.files s file)
     × (told → GotLine (fault_line (codes "read " ++ name_of s p file)) sink sink')
 
+-- The run is unfinished, there is a job to keep it as, and the keeper failed.
+abbrev pub EndsUnkept : Type 0 → Type 0 → Sources → Payment → Option (List ℕ) → ShelfView → SinkView → SinkView → KeeperView → KeeperView → Type 0
+EndsUnkept told_files told s p job shelf sink sink' keeper keeper' =
+    (report : List ℕ) × IsUnfinished told_files shelf.files s p report × IsSome job × Rose keeper.faults keeper'.faults
+    × (told → GotLine (fault_line (codes "keep")) sink sink')
+
 -- this is a report, and the log that is written before it, if one is
 abbrev pub IsReport : Type 0 → (List ℕ → List ℕ) → Sources → Payment → List ℕ → Option (List ℕ) → Type 0
 IsReport told_files files s p report (Some log) = IsFunded told_files files s p report log ⊎ IsNotFunded told_files files s p report log
@@ -128,46 +138,59 @@ abbrev pub IsLogged : Payment → Option (List ℕ) → ShelfView → ShelfView 
 IsLogged p (Some log) shelf shelf' = shelf'.files p.log ≡ log
 IsLogged p None shelf shelf' = shelf'.files ≡ shelf.files
 
+-- what is kept before a report is printed: where a log is written nothing, and else what is kept of the unfinished run
+abbrev pub IsKeptBefore : (told_files told_jobs : Type 0) (files : List ℕ → List ℕ) (s : Sources) (p : Payment) (report : List ℕ) (log : Option (List ℕ)) → IsReport told_files files s p report log → Option (List ℕ) → KeeperView → KeeperView → Type 0
+IsKeptBefore told_files told_jobs files s p report (Some log) is job keeper keeper' = told_jobs → keeper'.jobs ≡ keeper.jobs
+IsKeptBefore told_files told_jobs files s p report None is job keeper keeper' =
+    told_jobs → IsLeft told_files files s p (plan_of (held_of is.wallet is.blocks) is.asked) is.asked.tries job keeper keeper'
+
 -- a log was to be written, and wasn't
 abbrev pub IsLogLost : Payment → Option (List ℕ) → ShelfView → ShelfView → Type 0
 IsLogLost p (Some log) shelf shelf' = Rose (shelf.writes p.log) (shelf'.writes p.log)
 IsLogLost p None shelf shelf' = ⊥
 
 -- Nothing is refused. The log wasn't written, and the line names it; or it was, or none is due, and the sink failed and has
--- got a part of the report.
-abbrev pub EndsUnwritten : Type 0 → Type 0 → Sources → Payment → ShelfView → ShelfView → SinkView → SinkView → Type 0
-EndsUnwritten told_files told s p shelf shelf' sink sink' =
-    (report : List ℕ) × (log : Option (List ℕ)) × IsReport told_files shelf.files s p report log
-    × ((IsLogLost p log shelf shelf' × (told → GotLine (fault_line (codes "write " ++ p.log)) sink sink'))
-    ⊎ (Rose sink.faults sink'.faults × (told_files → IsLogged p log shelf shelf') × (told → HasPart sink.written report sink'.written)))
+-- got a part of the report. In the second case a job that was to be kept is kept.
+abbrev pub EndsUnwritten : Type 0 → Type 0 → Type 0 → Sources → Payment → Option (List ℕ) → ShelfView → ShelfView → SinkView → SinkView → KeeperView → KeeperView → Type 0
+EndsUnwritten told_files told told_jobs s p job shelf shelf' sink sink' keeper keeper' =
+    (report : List ℕ) × (log : Option (List ℕ)) × (is : IsReport told_files shelf.files s p report log)
+    × ((IsLogLost p log shelf shelf' × (told → GotLine (fault_line (codes "write " ++ p.log)) sink sink') × (told_jobs → keeper'.jobs ≡ keeper.jobs))
+    ⊎ (Rose sink.faults sink'.faults × (told_files → IsLogged p log shelf shelf') × (told → HasPart sink.written report sink'.written)
+    × IsKeptBefore told_files told_jobs shelf.files s p report log is job keeper keeper'))
 
--- There was not enough memory, and the line says so, the log being as before or its write having failed; or the log
--- was written, or none is due, and the sink found no memory and has got a part of the report.
-abbrev pub EndsWithoutMemory : Type 0 → Type 0 → Sources → Payment → ShelfView → ShelfView → SinkView → SinkView → Type 0
-EndsWithoutMemory told_files told s p shelf shelf' sink sink' =
-    ((told → GotLine (fault_line (codes "memory")) sink sink')
+-- There was not enough memory, and the line says so, the log being as before or its write having failed, and the jobs as
+-- before; or the log was written, or none is due, and the sink found no memory and has got a part of the report. Then a job
+-- that was to be kept is kept.
+abbrev pub EndsWithoutMemory : Type 0 → Type 0 → Type 0 → Sources → Payment → Option (List ℕ) → ShelfView → ShelfView → SinkView → SinkView → KeeperView → KeeperView → Type 0
+EndsWithoutMemory told_files told told_jobs s p job shelf shelf' sink sink' keeper keeper' =
+    ((told → GotLine (fault_line (codes "memory")) sink sink') × (told_jobs → keeper'.jobs ≡ keeper.jobs)
     × (told_files → (shelf'.files ≡ shelf.files) ⊎ ((report : List ℕ) × (log : Option (List ℕ)) × IsReport told_files shelf.files s p report log × IsLogLost p log shelf shelf')))
-    ⊎ ((report : List ℕ) × (log : Option (List ℕ)) × IsReport told_files shelf.files s p report log
-    × Rose sink.refusals sink'.refusals × (told_files → IsLogged p log shelf shelf') × (told → HasPart sink.written report sink'.written))
+    ⊎ ((report : List ℕ) × (log : Option (List ℕ)) × (is : IsReport told_files shelf.files s p report log)
+    × Rose sink.refusals sink'.refusals × (told_files → IsLogged p log shelf shelf') × (told → HasPart sink.written report sink'.written)
+    × IsKeptBefore told_files told_jobs shelf.files s p report log is job keeper keeper')
 
 -- by the status
-abbrev pub Ends : Type 0 → Type 0 → Sources → Payment → ShelfView → ShelfView → SinkView → SinkView → Status → Type 0
-Ends told_files told s p shelf shelf' sink sink' statuses.Done = EndsFunded told_files told s p shelf shelf' sink sink'
-Ends told_files told s p shelf shelf' sink sink' statuses.NoSelection = EndsNotFunded told_files told s p shelf shelf' sink sink'
-Ends told_files told s p shelf shelf' sink sink' statuses.Unfinished = EndsUnfinished told_files told s p shelf shelf' sink sink'
-Ends told_files told s p shelf shelf' sink sink' statuses.Usage = ⊥
-Ends told_files told s p shelf shelf' sink sink' statuses.Input = EndsRefused statuses.Input told_files told s p shelf sink sink'
-Ends told_files told s p shelf shelf' sink sink' statuses.Limit = EndsRefused statuses.Limit told_files told s p shelf sink sink'
-Ends told_files told s p shelf shelf' sink sink' statuses.ReadFault = EndsUnread told_files told s p shelf shelf' sink sink'
-Ends told_files told s p shelf shelf' sink sink' statuses.WriteFault = EndsUnwritten told_files told s p shelf shelf' sink sink'
-Ends told_files told s p shelf shelf' sink sink' statuses.Memory = EndsWithoutMemory told_files told s p shelf shelf' sink sink'
-Ends told_files told s p shelf shelf' sink sink' statuses.CheckRefused = ⊥
+abbrev pub Ends : Type 0 → Type 0 → Type 0 → Sources → Payment → Option (List ℕ) → ShelfView → ShelfView → SinkView → SinkView → KeeperView → KeeperView → Status → Type 0
+Ends told_files told told_jobs s p job shelf shelf' sink sink' keeper keeper' statuses.Done = EndsFunded told_files told s p shelf shelf' sink sink'
+Ends told_files told told_jobs s p job shelf shelf' sink sink' keeper keeper' statuses.NoSelection = EndsNotFunded told_files told s p shelf shelf' sink sink'
+Ends told_files told told_jobs s p job shelf shelf' sink sink' keeper keeper' statuses.Unfinished = EndsUnfinished told_files told told_jobs s p job shelf shelf' sink sink' keeper keeper'
+Ends told_files told told_jobs s p job shelf shelf' sink sink' keeper keeper' statuses.Usage = ⊥
+Ends told_files told told_jobs s p job shelf shelf' sink sink' keeper keeper' statuses.Input = EndsRefused statuses.Input told_files told s p shelf sink sink'
+Ends told_files told told_jobs s p job shelf shelf' sink sink' keeper keeper' statuses.Limit = EndsRefused statuses.Limit told_files told s p shelf sink sink'
+Ends told_files told told_jobs s p job shelf shelf' sink sink' keeper keeper' statuses.ReadFault = EndsUnread told_files told s p shelf shelf' sink sink'
+Ends told_files told told_jobs s p job shelf shelf' sink sink' keeper keeper' statuses.WriteFault = EndsUnwritten told_files told told_jobs s p job shelf shelf' sink sink' keeper keeper'
+Ends told_files told told_jobs s p job shelf shelf' sink sink' keeper keeper' statuses.KeepFault = EndsUnkept told_files told s p job shelf sink sink' keeper keeper'
+Ends told_files told told_jobs s p job shelf shelf' sink sink' keeper keeper' statuses.Memory = EndsWithoutMemory told_files told told_jobs s p job shelf shelf' sink sink' keeper keeper'
+Ends told_files told told_jobs s p job shelf shelf' sink sink' keeper keeper' statuses.Saved = ⊥
+Ends told_files told told_jobs s p job shelf shelf' sink sink' keeper keeper' statuses.CheckRefused = ⊥
 
 -- a status before the log is written
 abbrev pub IsBeforeTheLog : Status → Type 0
 IsBeforeTheLog statuses.Usage = Unit {0}
 IsBeforeTheLog statuses.Input = Unit {0}
 IsBeforeTheLog statuses.ReadFault = Unit {0}
+IsBeforeTheLog statuses.KeepFault = Unit {0}
+IsBeforeTheLog statuses.Saved = Unit {0}
 IsBeforeTheLog statuses.Limit = Unit {0}
 IsBeforeTheLog statuses.Unfinished = Unit {0}
 IsBeforeTheLog statuses.Done = ⊥

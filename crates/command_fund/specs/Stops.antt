@@ -1,7 +1,10 @@
 -- Why a payment stops before it writes or prints.
-use Rattle.fund_base.specs.Causes.{ShelfView}
+use Rattle.fund_base.specs.Causes.{Rose, ShelfView}
 use Rattle.fund_files.specs.declared.stop.Stop.{Stop as FileStop}
 use Rattle.fund_files.specs.declared.stop.Stop.TheVariants as files
+use Rattle.fund_outside.specs.Kept.{KeeperView}
+use Rattle.fund_outside.specs.declared.keeper.KeepFault.{KeepFault}
+use Rattle.fund_outside.specs.declared.keeper.KeepFault.TheVariants as keeps
 use Rattle.command_end.specs.Names.{Sources}
 use Rattle.command_fund.specs.Cause.{cause_of}
 use Rattle.command_fund.specs.Inputs.{IsUnread, Reaches}
@@ -21,4 +24,17 @@ lifted files.Memory = stops.Memory
 abbrev pub StopsFor : Type 0 → Sources → Payment → ShelfView → ShelfView → Stop → Type 0
 StopsFor told s p old new (stops.Read file) = IsUnread s p file old new × (told → Reaches old.files s file)
 StopsFor told s p old new (stops.Refused refusal) = told → IsDue old.files s p (cause_of refusal)
+StopsFor told s p old new stops.Keep = ⊥
 StopsFor told s p old new stops.Memory = Unit {0}
+
+-- Why a plan isn't kept: a read of a file failed, for the digest of the job; or the keeper did.
+abbrev pub StopsKeeping : Sources → Payment → ShelfView → ShelfView → KeeperView → KeeperView → Stop → Type 0
+StopsKeeping s p old new keeper keeper' (stops.Read file) = IsUnread s p file old new
+StopsKeeping s p old new keeper keeper' (stops.Refused refusal) = ⊥
+StopsKeeping s p old new keeper keeper' stops.Keep = Rose keeper.faults keeper'.faults
+StopsKeeping s p old new keeper keeper' stops.Memory = Unit {0}
+
+-- the stop of a keeper that failed or found no memory
+abbrev pub of_keeper : KeepFault → Stop
+of_keeper keeps.Failed = stops.Keep
+of_keeper keeps.Memory = stops.Memory

@@ -12,7 +12,8 @@ ghost use Rattle.command_fund.specs.Words.{IsStopped, refusal_words};
 use crate::names::Payment;
 use crate::refusal::{Refusal, Stop};
 use command_end::{
-    Sources, Status, file_refusal_words, file_status, put_fault, refuse_read, want_of_memory,
+    Sources, Status, file_refusal_words, file_status, put_fault, refuse_keep, refuse_read,
+    want_of_memory,
 };
 use fault_text::plan_fault_words;
 use fund_base::{Memory, Sink};
@@ -55,7 +56,7 @@ pub fn refuse<O: Sink>(alloc: Global, refusal: &Refusal, out: &mut O) -> Status
 }
 
 /// The name of a file that is read.
-fn name_of<'a>(sources: &Sources<'a>, payment: &Payment<'a>, file: File) -> &'a str
+pub fn name_of<'a>(sources: &Sources<'a>, payment: &Payment<'a>, file: File) -> &'a str
     ensures { result.now ≡ name_of (plain_sources sources.now) (plain_payment payment.now) file }
 {
     match file {
@@ -79,6 +80,7 @@ pub fn answer<O: Sink>(
     match stop {
         Stop::Read(file) => refuse_read(alloc, name_of(sources, payment, file), out),
         Stop::Refused(refusal) => refuse(alloc, &refusal, out),
+        Stop::Keep => refuse_keep(out),
         Stop::Memory => want_of_memory(out),
     }
 }

@@ -1,21 +1,26 @@
 //! The command.
 
-ghost use Rattle.std.specs.Prelude.{◌≡◌, IfErr, IfOk};
+ghost use Rattle.std.specs.Prelude.{◌≡◌, ◌≤◌, None, IfErr, IfOk, option_map};
 ghost use Rattle.fund_base.specs.Causes.{CountsNeverFall, NeverFall, OnlyReads, SameElsewhere};
+ghost use Rattle.kept_job.specs.SavingRules.{CanBeKept};
 ghost use Rattle.command_end.specs.Names.{plain_sources};
-ghost use Rattle.command_fund.specs.Inputs.{AsksInOrder};
-ghost use Rattle.command_fund.specs.Names.{plain_payment};
+ghost use Rattle.command_fund.specs.Inputs.{AsksInOrder, AsksTwice};
+ghost use Rattle.command_fund.specs.Jobs.{KeepsJobs};
+ghost use Rattle.command_fund.specs.Leaving.{HasLeft};
+ghost use Rattle.command_fund.specs.Names.{plain_job, plain_payment};
 ghost use Rattle.command_fund.specs.PlanEnds.{IsEnded};
 ghost use Rattle.command_fund.specs.Statuses.{Ends, IsBeforeTheLog};
 ghost use Rattle.command_fund.specs.Stops.{StopsFor};
 
 use crate::answering::answer;
-use crate::funding::{Ending, conclude};
+use crate::funding::{Ending, Left, conclude};
 use crate::inputs::{Inputs, read_inputs};
+use crate::leaving::keep_anew;
 use crate::names::Payment;
 use crate::refusal::Stop;
 use command_end::{Sources, Status, finish, put_report};
 use fund_base::{Shelf, Sink};
+use fund_outside::Keeper;
 use std::alloc::Global;
 
 /// How a payment ends whose files are read, or why the command stops.
@@ -34,35 +39,76 @@ fn outcome<H: Shelf>(
     conclude(alloc, &held, &request)
 }
 
-/// Funds a payment with the request's tries: it reads the three files, writes the log, and then prints the report to `out`.
-/// Where the run is unfinished, it writes no log: the tries are used up, a search is open, and nothing is taken. What is
-/// refused gets its fault line there.
-///
-/// The clauses on content hold where the shelf and the sink tell theirs.
-pub fn fund<H: Shelf, O: Sink>(
+/// Keeps a run that is unfinished where there is a job to keep it as, and then prints its report, which was made before.
+fn leave<H: Shelf, O: Sink, K: Keeper>(
     alloc: Global,
     sources: &Sources,
     payment: &Payment,
+    job: Option<&str>,
+    left: &Left,
     shelf: &mut H,
     out: &mut O,
+    keeper: &mut K,
 ) -> Status
-    // By the status: what was found in the files, what is in the log, and what the sink has got.
-    ensures ends { Ends H.tells O.tells (plain_sources sources.now) (plain_payment payment.now) (H.view shelf.old) (H.view shelf.new) (O.view out.old) (O.view out.new) result }
+    requires { CanBeKept left.now.plan 1 }
+    ensures left { HasLeft H.tells O.tells K.tells (plain_sources sources.now) (plain_payment payment.now) (plain_job job.entry) left.now (H.view shelf.old) (H.view shelf.new) (O.view out.old) (O.view out.new) (K.view keeper.old) (K.view keeper.new) result }
+    ensures jobs { K.tells → KeepsJobs (plain_job job.entry) result (K.view keeper.old) (K.view keeper.new) }
+    ensures frame { OnlyReads H.tells (H.view shelf.old) (H.view shelf.new) }
+    ensures asked { H.tells → AsksInOrder (plain_sources sources.now) (plain_payment payment.now) (H.view shelf.old) (H.view shelf.new) }
+    ensures unasked { job.entry ≡ None → (H.view shelf.new) ≡ (H.view shelf.old) }
+    ensures counts { CountsNeverFall (O.view out.old) (O.view out.new) }
+    ensures faults { (K.view keeper.old).faults ≤ (K.view keeper.new).faults }
+{
+    match job {
+        Some(job) => {
+            match keep_anew(alloc, sources, payment, job, &left.plan, shelf, keeper) {
+                Ok(()) => put_report(&left.report, Status::Unfinished, out),
+                Err(stop) => answer(alloc, sources, payment, stop, out),
+            }
+        }
+        None => put_report(&left.report, Status::Unfinished, out),
+    }
+}
 
-    // What stays: every file but the log, and the log too before it is written.
+/// Funds a payment with the request's tries: it reads the three files, writes the log, and then prints the report to `out`.
+/// Where the run is unfinished, it writes no log: the tries are used up, a search is open, and nothing is taken. Where there
+/// is a job, it then keeps the run as that, from its first part on, before it prints the report, which is made before. A
+/// finished run keeps nothing. What is refused gets its fault line there.
+///
+/// The clauses on content hold where the shelf, the sink and the keeper tell theirs.
+pub fn fund<H: Shelf, O: Sink, K: Keeper>(
+    alloc: Global,
+    sources: &Sources,
+    payment: &Payment,
+    job: Option<&str>,
+    shelf: &mut H,
+    out: &mut O,
+    keeper: &mut K,
+) -> Status
+    // By the status: what was found in the files, what is in the log, what the sink has got, and what is kept.
+    ensures ends { Ends H.tells O.tells K.tells (plain_sources sources.now) (plain_payment payment.now) (plain_job job.entry) (H.view shelf.old) (H.view shelf.new) (O.view out.old) (O.view out.new) (K.view keeper.old) (K.view keeper.new) result }
+
+    // What stays: every file but the log, and the log too before it is written; and every job, but for this one where it may
+    // have been saved.
     ensures others { H.tells → SameElsewhere (plain_payment payment.now).log (H.view shelf.old).files (H.view shelf.new).files }
     ensures kept { H.tells → IsBeforeTheLog result → (H.view shelf.new).files ≡ (H.view shelf.old).files }
+    ensures jobs { K.tells → KeepsJobs (plain_job job.entry) result (K.view keeper.old) (K.view keeper.new) }
 
-    // It asks for the wallet file, then for the block file, then for the request, and for no other name.
-    ensures asked { H.tells → AsksInOrder (plain_sources sources.now) (plain_payment payment.now) (H.view shelf.old) (H.view shelf.new) }
+    // It asks for the wallet file, then for the block file, then for the request, and for the digest of a job once more in
+    // this order; and for no other name.
+    ensures asked { H.tells → AsksTwice (plain_sources sources.now) (plain_payment payment.now) (H.view shelf.old) (H.view shelf.new) }
+    ensures asked_once { H.tells → job.entry ≡ None → AsksInOrder (plain_sources sources.now) (plain_payment payment.now) (H.view shelf.old) (H.view shelf.new) }
 
     // No count falls.
     ensures reads { NeverFall (H.view shelf.old).reads (H.view shelf.new).reads }
     ensures writes { NeverFall (H.view shelf.old).writes (H.view shelf.new).writes }
     ensures counts { CountsNeverFall (O.view out.old) (O.view out.new) }
+    ensures faults { (K.view keeper.old).faults ≤ (K.view keeper.new).faults }
 {
     match outcome(alloc, sources, payment, shelf) {
-        Ok(Ending::Unfinished(report)) => put_report(&report, Status::Unfinished, out),
+        Ok(Ending::Unfinished(left)) => {
+            leave(alloc, sources, payment, job, &left, shelf, out, keeper)
+        }
         Ok(Ending::NoSelection(texts)) => {
             finish(
                 alloc,

@@ -33,11 +33,18 @@ pub struct Texts {
     pub log: Vec<u8>,
 }
 
+/// A run that goes on: its report, and its plan, which stands where the tries led.
+#[derive(Drop)]
+pub struct Left {
+    pub report: Vec<u8>,
+    pub plan: Plan,
+}
+
 /// How a request ends that isn't refused.
-#[derive(Debug, Drop)]
+#[derive(Drop)]
 pub enum Ending {
-    /// The tries are used up, and a search is open. Here is its report.
-    Unfinished(Vec<u8>),
+    /// The tries are used up, and a search is open.
+    Unfinished(Left),
     /// Nothing pays for what is asked, which the log proves.
     NoSelection(Texts),
     /// A payment, with its report.
@@ -52,7 +59,7 @@ struct Run {
 }
 
 /// The plan of the request, of which no try is made yet.
-fn plan(alloc: Global, held: &Held, request: &Request) -> Result<Plan, Stop>
+pub fn new_plan(alloc: Global, held: &Held, request: &Request) -> Result<Plan, Stop>
     requires held { IsHeld held.now }
     requires taken { not_taken request.now ≡ None }
     ensures plan { IfOk result (IsNew held.now request.now) }
@@ -70,7 +77,7 @@ fn run_plan(alloc: Global, held: &Held, request: &Request) -> Result<Run, Stop>
     ensures run { IfOk result (λ r. IsAfter (plan_of held.now request.now) request.now.tries r.plan r.outcome) }
     ensures stop { IfErr result (StopsPlan held.now request.now) }
 {
-    let mut plan = plan(alloc, held, request)?;
+    let mut plan = new_plan(alloc, held, request)?;
     plan.keeps_rules();
     plan.keeps_steps();
     let outcome = plan.go(request.tries)?;
@@ -87,7 +94,7 @@ fn log_text(alloc: Global, plan: &Plan) -> Result<Vec<u8>, Memory>
 }
 
 /// The report of a run that goes on. The error is out of memory.
-fn open_report(alloc: Global, plan: &Plan) -> Result<Vec<u8>, Memory>
+pub fn open_report(alloc: Global, plan: &Plan) -> Result<Vec<u8>, Memory>
     requires { IsOpenAt plan.now.stand.left }
     ensures text { IfOk result (λ text. text.items ≡ open_report plan.now.stand.past.tries plan.now.stand.left) }
     ensures means { IfOk result (λ text. IsOpenReport text.items plan.now.stand.past.tries plan.now.stand.left) }
@@ -120,7 +127,7 @@ fn none_report(alloc: Global, plan: &Plan) -> Result<Vec<u8>, Memory>
 }
 
 /// What is printed and written where nothing pays. The error is out of memory.
-fn none_texts(alloc: Global, plan: &Plan) -> Result<Texts, Memory>
+pub fn none_texts(alloc: Global, plan: &Plan) -> Result<Texts, Memory>
     ensures report { IfOk result (λ t. t.report.items ≡ none_report plan.now.stand.past.tries) }
     ensures means { IfOk result (λ t. IsReportText t.report.items (Report.NoSelection plan.now.stand.past.tries)) }
     ensures log { IfOk result (λ t. t.log.items ≡ log_text_of (log_of (is_partial (end_in plan.now)) plan.now.stand)) }
@@ -131,7 +138,7 @@ fn none_texts(alloc: Global, plan: &Plan) -> Result<Texts, Memory>
 }
 
 /// What is printed and written of a payment. The error is out of memory.
-fn paid_texts(
+pub fn paid_texts(
     alloc: Global,
     held: &Held,
     request: &Request,
@@ -152,22 +159,23 @@ fn paid_texts(
 }
 
 /// How a request ends after this run of its plan. The error is out of memory.
-fn ends(alloc: Global, held: &Held, request: &Request, run: &Run) -> Result<Ending, Memory>
+fn ends(alloc: Global, held: &Held, request: &Request, run: Run) -> Result<Ending, Memory>
     requires held { IsHeld held.now }
-    requires run { IsAfter (plan_of held.now request.now) request.now.tries run.now.plan run.now.outcome }
+    requires run { IsAfter (plan_of held.now request.now) request.now.tries run.plan run.outcome }
     ensures { IfOk result (IsConcluded held.now request.now) }
 {
-    match &run.outcome {
+    let Run { plan, outcome } = run;
+    match outcome {
         Outcome::Unfinished => {
-            let report = open_report(alloc, &run.plan)?;
-            Ok(Ending::Unfinished(report))
+            let report = open_report(alloc, &plan)?;
+            Ok(Ending::Unfinished(Left { report, plan }))
         }
         Outcome::NoSelection => {
-            let texts = none_texts(alloc, &run.plan)?;
+            let texts = none_texts(alloc, &plan)?;
             Ok(Ending::NoSelection(texts))
         }
         Outcome::Funded(funded) => {
-            let texts = paid_texts(alloc, held, request, &run.plan, funded)?;
+            let texts = paid_texts(alloc, held, request, &plan, &funded)?;
             Ok(Ending::Funded(texts))
         }
     }
@@ -181,6 +189,6 @@ pub fn conclude(alloc: Global, held: &Held, request: &Request) -> Result<Ending,
     ensures stop { IfErr result (StopsPlan held.now request.now) }
 {
     let run = run_plan(alloc, held, request)?;
-    let ending = ends(alloc, held, request, &run)?;
+    let ending = ends(alloc, held, request, run)?;
     Ok(ending)
 }

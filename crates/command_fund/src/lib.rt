@@ -3,15 +3,18 @@
 
 mod answering;
 mod command;
+mod digest;
 mod funding;
 mod inputs;
 mod laws;
+mod leaving;
 mod names;
 mod refusal;
 
-pub use answering::{answer, refuse};
+pub use answering::{answer, name_of, refuse};
 pub use command::fund;
-pub use funding::{Ending, Texts, conclude};
+pub use digest::read_digest;
+pub use funding::{Ending, Left, Texts, conclude, new_plan, none_texts, open_report, paid_texts};
 pub use inputs::{Inputs, read_inputs};
 pub use laws::payments_are_due;
 pub use names::Payment;

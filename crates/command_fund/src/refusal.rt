@@ -4,6 +4,7 @@ ghost use Rattle.std.specs.Prelude.{◌≡◌};
 
 use fund_base::Memory;
 use fund_files::{File, FileRefusal, Stop as FileStop};
+use fund_outside::KeepFault;
 use fund_steps::PlanFault;
 
 /// What is refused.
@@ -24,6 +25,8 @@ pub enum Stop {
     Read(File),
     /// A file, or what it asks for, is refused.
     Refused(Refusal),
+    /// The keeper of jobs failed.
+    Keep,
     /// There was not enough memory.
     Memory,
 }
@@ -38,6 +41,19 @@ impl From<FileStop> for Stop {
             FileStop::Read(file) => Stop::Read(file),
             FileStop::Refused(refusal) => Stop::Refused(Refusal::Files(refusal)),
             FileStop::Memory => Stop::Memory,
+        }
+    }
+}
+
+impl From<KeepFault> for Stop {
+    ghost use Rattle.command_fund.specs.Stops.{of_keeper};
+
+    ghost from_gives = { λ fault stop. stop ≡ of_keeper fault };
+
+    fn from(fault: KeepFault) -> Stop {
+        match fault {
+            KeepFault::Failed => Stop::Keep,
+            KeepFault::Memory => Stop::Memory,
         }
     }
 }

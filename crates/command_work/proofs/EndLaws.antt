@@ -28,7 +28,9 @@ whole told number count statuses.Input summary sink sink' h put = absurd h
 whole told number count statuses.Limit summary sink sink' h put = absurd h
 whole told number count statuses.ReadFault summary sink sink' h put = absurd h
 whole told number count statuses.WriteFault summary sink sink' h put = absurd h
+whole told number count statuses.KeepFault summary sink sink' h put = absurd h
 whole told number count statuses.Memory summary sink sink' h put = absurd h
+whole told number count statuses.Saved summary sink sink' h put = absurd h
 whole told number count statuses.CheckRefused summary sink sink' h put = absurd h
 
 pub run_ends : (told : Type 0) (number count : ℕ) (status : Status) (summary : List ℕ) (sink sink' : SinkView) (result : Status) → IsSummary number count status summary → IsPut told summary status sink sink' result → Ends told number count sink sink' result
@@ -41,6 +43,7 @@ run_ends told number count status summary sink sink' result h (inr (inr e)) = su
 pub reads_none : (number count : ℕ) (stop : Stop) → StopsLoad number count stop → ReadsNone stop
 reads_none number count (stops.Read file) h = h
 reads_none number count (stops.Refused refusal) h = tt
+reads_none number count stops.Keep h = h
 reads_none number count stops.Memory h = tt
 
 wanting : (told : Type 0) (number count : ℕ) (sink sink' : SinkView) (result : Status) → IsWanting told sink sink' result → Ends told number count sink sink' result
@@ -54,4 +57,5 @@ collided told number count refusal sink sink' result h (inr w) = wanting told nu
 pub stop_ends : (told : Type 0) (number count : ℕ) (stop : Stop) (sink sink' : SinkView) (result : Status) → StopsLoad number count stop → IsStopped told stop sink sink' result → Ends told number count sink sink' result
 stop_ends told number count (stops.Read file) sink sink' result h answered = absurd h
 stop_ends told number count (stops.Refused refusal) sink sink' result h answered = collided told number count refusal sink sink' result h answered
+stop_ends told number count stops.Keep sink sink' result h answered = absurd h
 stop_ends told number count stops.Memory sink sink' result h answered = wanting told number count sink sink' result answered

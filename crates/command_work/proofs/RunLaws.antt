@@ -113,6 +113,9 @@ load_stops number count fault (stops.Refused refusal) is h =
     let e : stops.Refused refusal ≡ stops.Refused (wallet_refusal fault) = r.1 in
     let same : refusal ≡ wallet_refusal fault = cc in
     subst (λ (x : Refusal). IsCollision number count (cause_of x)) (sym same) (collision_told number count fault is r.0)
+load_stops number count fault stops.Keep is h =
+    let e : stops.Keep ≡ stops.Refused (wallet_refusal fault) = (h (λ e. absurd cc)).1 in
+    absurd cc
 load_stops number count fault stops.Memory is h = tt
 
 -- ---- a book holds its coins
@@ -135,6 +138,7 @@ no_means number count (Plan fault) some most distinct m = load_unrefused number 
 stops_at : (number count : ℕ) (stop : Stop) → 1 ≤ count → count ≤ 10_000 → AreDistinctEarlier (earlier_of number count) → StopsPlan (load_of number count) (request_of number count) stop → StopsLoad number count stop
 stops_at number count (stops.Read file) some most distinct h = absurd h
 stops_at number count (stops.Refused refusal) some most distinct h = absurd (no_means number count (cause_of refusal) some most distinct h.1)
+stops_at number count stops.Keep some most distinct h = absurd h
 stops_at number count stops.Memory some most distinct h = tt
 
 pub if_stops : (number count : ℕ) (k : Held) (r : PlainRequest) (result : Result Ending Stop) → 1 ≤ count → count ≤ 10_000 → AreDistinctEarlier (earlier_of number count) → k ≡ load_of number count → r ≡ request_of number count → IfErr result (StopsPlan k r) → IfErr result (StopsLoad number count)

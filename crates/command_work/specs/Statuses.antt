@@ -101,7 +101,7 @@ EndsWithoutMemory told number count sink sink' =
     (told → GotLine (fault_line (codes "memory")) sink sink')
     ⊎ ((status : Status) × (summary : List ℕ) × IsSummary number count status summary × Rose sink.refusals sink'.refusals × (told → HasPart sink.written summary sink'.written))
 
--- By the status. It is never one of files, of words, of a limit or of a check.
+-- By the status. It is never one of files, of words, of a limit, of kept jobs or of a check.
 abbrev pub Ends : Type 0 → ℕ → ℕ → SinkView → SinkView → Status → Type 0
 Ends told number count sink sink' statuses.Done = EndsSummed told number count statuses.Done sink sink'
 Ends told number count sink sink' statuses.NoSelection = EndsSummed told number count statuses.NoSelection sink sink'
@@ -111,5 +111,7 @@ Ends told number count sink sink' statuses.Input = EndsRefused statuses.Input to
 Ends told number count sink sink' statuses.Limit = EndsRefused statuses.Limit told number count sink sink'
 Ends told number count sink sink' statuses.ReadFault = ⊥
 Ends told number count sink sink' statuses.WriteFault = EndsUnwritten told number count sink sink'
+Ends told number count sink sink' statuses.KeepFault = ⊥
 Ends told number count sink sink' statuses.Memory = EndsWithoutMemory told number count sink sink'
+Ends told number count sink sink' statuses.Saved = ⊥
 Ends told number count sink sink' statuses.CheckRefused = ⊥

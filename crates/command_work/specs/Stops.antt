@@ -19,16 +19,19 @@ IsRun number count r = IsSummary number count r.status r.summary.items
 abbrev pub StopsLoad : ℕ → ℕ → Stop → Type 0
 StopsLoad number count (stops.Read file) = ⊥
 StopsLoad number count (stops.Refused refusal) = IsCollision number count (cause_of refusal)
+StopsLoad number count stops.Keep = ⊥
 StopsLoad number count stops.Memory = Unit {0}
 
--- no read of a file failed
+-- no read of a file failed, and no keeper of jobs
 abbrev pub ReadsNone : Stop → Type 0
 ReadsNone (stops.Read file) = ⊥
 ReadsNone (stops.Refused refusal) = Unit {0}
+ReadsNone stops.Keep = ⊥
 ReadsNone stops.Memory = Unit {0}
 
 -- the answer to a stop
 abbrev pub IsStopped : Type 0 → Stop → SinkView → SinkView → Status → Type 0
 IsStopped told (stops.Read file) old new result = ⊥
 IsStopped told (stops.Refused refusal) old new result = IsAnswered told (refusal_words refusal) (status_of_cause (cause_of refusal)) old new result
+IsStopped told stops.Keep old new result = ⊥
 IsStopped told stops.Memory old new result = IsWanting told old new result

@@ -11,7 +11,7 @@ use command_fund::{Stop, refuse};
 use fund_base::Sink;
 use std::alloc::Global;
 
-/// Puts the line of a stop. No file is read, so none can fail.
+/// Puts the line of a stop. No file is read and no job is kept, so neither can fail.
 fn answer<O: Sink>(alloc: Global, stop: Stop, out: &mut O) -> Status
     requires { ReadsNone stop }
     ensures line { IsStopped O.tells stop (O.view out.old) (O.view out.new) result }
@@ -20,6 +20,7 @@ fn answer<O: Sink>(alloc: Global, stop: Stop, out: &mut O) -> Status
     match stop {
         Stop::Read(_) => unreachable!(),
         Stop::Refused(refusal) => refuse(alloc, &refusal, out),
+        Stop::Keep => unreachable!(),
         Stop::Memory => want_of_memory(out),
     }
 }

@@ -89,7 +89,9 @@ fn summed(alloc: Global, number: u64, count: u32, ending: &Ending) -> Result<Run
     ensures { IfOk result (IsRun number count) }
 {
     match ending {
-        Ending::Unfinished(report) => with_status(alloc, number, count, report, Status::Unfinished),
+        Ending::Unfinished(left) => {
+            with_status(alloc, number, count, &left.report, Status::Unfinished)
+        }
         Ending::NoSelection(texts) => {
             with_status(alloc, number, count, &texts.report, Status::NoSelection)
         }

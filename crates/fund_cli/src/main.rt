@@ -1,8 +1,9 @@
-//! The program: it makes the files and the standard output of the machine, and does the command of its words.
+//! The program: it makes the files, the standard output and the job file of the machine, and does the command of its words.
 #![tactic(auto)]
 
 use fund_base::{FileShelf, StdSink};
 use fund_top::{Status, run};
+use keep_sqlite::SqliteKeeper;
 use std::env;
 use std::io::ErrorKind;
 use std::process::ExitCode;
@@ -29,7 +30,8 @@ fn main(rt: HostRuntime) -> ExitCode {
         Ok(words) => {
             let mut shelf = FileShelf::new(&rt);
             let mut out = StdSink::new(&rt);
-            run(rt.alloc(), &words, &mut shelf, &mut out)
+            let mut keeper = SqliteKeeper::new(&rt);
+            run(rt.alloc(), &words, &mut shelf, &mut out, &mut keeper)
         }
         Err(status) => status,
     };

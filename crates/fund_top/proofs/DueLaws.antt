@@ -1,6 +1,7 @@
 -- What the files of a command mean is what they come to.
-use Rattle.std.proofs.Common.{◌≡◌, ◌≤◌, ℕ, List, ap, refl, sym, ◌∙◌}
+use Rattle.std.proofs.Common.{◌≡◌, ◌≤◌, ◌∙◌, ℕ, List, Option, sym, ap, refl}
 use Rattle.block_feed.specs.Block.{ChainBlock}
+use Rattle.fund_outside.specs.Kept.{KeptJob}
 use Rattle.fund_plan.specs.Outcome.{outcome_at}
 use Rattle.fund_steps.specs.Plan.{IsPlan}
 use Rattle.fund_plan.specs.declared.outcome.Outcome.{Outcome as Answer}
@@ -20,35 +21,39 @@ use Rattle.command_fund.specs.Inputs.{AreInputs}
 use Rattle.command_fund.specs.Names.{Payment}
 use Rattle.wallet_text.specs.WalletRules.{AreDistinctEarlier}
 use Rattle.workload.specs.Load.{earlier_of, request_of}
+use Rattle.command_resume.proofs.OneLaws as jobs_of
+use Rattle.command_resume.specs.Due as resumes
 use Rattle.command_work.proofs.DueLaws as loads
 use Rattle.command_work.specs.Due.{load_of, load_plan, summed}
-use Rattle.fund_top.specs.Due.{ComesTo, Outcome, Refused, Listed, check_outcome, IsListingMeant, IsMeant, listing_outcome, load_outcome, payment_outcome}
-use Rattle.fund_top.specs.Words.{Command, Coins, Fund, Check, Work}
+use Rattle.fund_top.specs.Due.{ComesTo, Outcome, Refused, Listed, check_outcome, IsListingMeant, IsMeant, listing_outcome, load_outcome, payment_outcome, resume_outcome}
+use Rattle.fund_top.specs.Words.{Command, Coins, Fund, Resume, Check, Work}
 
-listing_refused : (files : List ℕ → List ℕ) (s : Sources) (cause : Cause) → IsListingMeant (files s.wallet) (files s.blocks) cause → ComesTo files (Coins s) (Refused cause)
-listing_refused files s (Files cause) h = sym (ap listing_outcome (listings.refused_due files s cause h))
-listing_refused files s BumpNotYet h = absurd h
-listing_refused files s (Plan fault) h = absurd h
+listing_refused : (files : List ℕ → List ℕ) (jobs : List ℕ → Option KeptJob) (s : Sources) (cause : Cause) → IsListingMeant (files s.wallet) (files s.blocks) cause → ComesTo files jobs (Coins s) (Refused cause)
+listing_refused files jobs s (Files cause) h = sym (ap listing_outcome (listings.refused_due files s cause h))
+listing_refused files jobs s BumpNotYet h = absurd h
+listing_refused files jobs s (Plan fault) h = absurd h
 
-pub refusal_due : (files : List ℕ → List ℕ) (c : Command) (cause : Cause) → IsMeant files c cause → ComesTo files c (Refused cause)
-refusal_due files (Coins s) cause h = listing_refused files s cause h
-refusal_due files (Fund s p) cause h = sym (ap payment_outcome (payments.refusal_due files s p cause h))
-refusal_due files (Check s p report) cause h = (checks.Refused cause, (payments.refusal_due files s p cause h, h), refl)
-refusal_due files (Work number count) cause h = sym (ap load_outcome (loads.collision_due number count cause h))
+pub refusal_due : (files : List ℕ → List ℕ) (jobs : List ℕ → Option KeptJob) (c : Command) (cause : Cause) → IsMeant files c cause → ComesTo files jobs c (Refused cause)
+refusal_due files jobs (Coins s) cause h = listing_refused files jobs s cause h
+refusal_due files jobs (Fund s p job) cause h = sym (ap payment_outcome (payments.refusal_due files s p cause h))
+refusal_due files jobs (Resume s p job) cause h = (resumes.Refused cause, (payments.refusal_due files s p cause h, h), refl)
+refusal_due files jobs (Check s p report) cause h = (checks.Refused cause, (payments.refusal_due files s p cause h, h), refl)
+refusal_due files jobs (Work number count) cause h = sym (ap load_outcome (loads.collision_due number count cause h))
 
-pub listing_due : (files : List ℕ → List ℕ) (s : Sources) (w : PlainWallet) (blocks : List ChainBlock) → HasChain (files s.wallet) (files s.blocks) w blocks → ComesTo files (Coins s) (Listed (listing_in (held_of w blocks)))
-listing_due files s w blocks h = sym (ap listing_outcome (listings.listing_due files s w blocks h))
+pub listing_due : (files : List ℕ → List ℕ) (jobs : List ℕ → Option KeptJob) (s : Sources) (w : PlainWallet) (blocks : List ChainBlock) → HasChain (files s.wallet) (files s.blocks) w blocks → ComesTo files jobs (Coins s) (Listed (listing_in (held_of w blocks)))
+listing_due files jobs s w blocks h = sym (ap listing_outcome (listings.listing_due files s w blocks h))
 
-pub answer_due : (files : List ℕ → List ℕ) (s : Sources) (p : Payment) (w : PlainWallet) (blocks : List ChainBlock) (r : PlainRequest) (a : Answer) → AreInputs files s p w blocks r → IsPlan (plan_of (held_of w blocks) r)
-    → outcome_at (plan_of (held_of w blocks) r) r.tries ≡ a → ComesTo files (Fund s p) (payment_outcome (by_answer (held_of w blocks) r a))
-answer_due files s p w blocks r a has rules is = sym (ap payment_outcome (payments.answer_due files s p w blocks r a has rules is))
+pub answer_due : (files : List ℕ → List ℕ) (jobs : List ℕ → Option KeptJob) (s : Sources) (p : Payment) (job : Option (List ℕ)) (w : PlainWallet) (blocks : List ChainBlock) (r : PlainRequest) (a : Answer) → AreInputs files s p w blocks r → IsPlan (plan_of (held_of w blocks) r)
+    → outcome_at (plan_of (held_of w blocks) r) r.tries ≡ a → ComesTo files jobs (Fund s p job) (payment_outcome (by_answer (held_of w blocks) r a))
+answer_due files jobs s p job w blocks r a has rules is = sym (ap payment_outcome (payments.answer_due files s p w blocks r a has rules is))
 
-pub load_due : (files : List ℕ → List ℕ) (number count : ℕ) (a : Answer) → 1 ≤ count → count ≤ 10_000 → AreDistinctEarlier (earlier_of number count) → outcome_at (load_plan number count) 100_000 ≡ a → ComesTo files (Work number count) (load_outcome (summed number count (by_answer (load_of number count) (request_of number count) a)))
-load_due files number count a some most distinct is = sym (ap load_outcome (loads.answer_due number count a some most distinct is))
+pub load_due : (files : List ℕ → List ℕ) (jobs : List ℕ → Option KeptJob) (number count : ℕ) (a : Answer) → 1 ≤ count → count ≤ 10_000 → AreDistinctEarlier (earlier_of number count) → outcome_at (load_plan number count) 100_000 ≡ a → ComesTo files jobs (Work number count) (load_outcome (summed number count (by_answer (load_of number count) (request_of number count) a)))
+load_due files jobs number count a some most distinct is = sym (ap load_outcome (loads.answer_due number count a some most distinct is))
 
 -- a command comes to one thing
-pub one_due : (files : List ℕ → List ℕ) (c : Command) (a b : Outcome) → ComesTo files c a → ComesTo files c b → a ≡ b
-one_due files (Coins s) a b x y = x ∙ sym y
-one_due files (Fund s p) a b x y = x ∙ sym y
-one_due files (Check s p report) a b x y = x.2 ∙ ap check_outcome (one_outcome files s p report x.0 y.0 x.1 y.1) ∙ sym y.2
-one_due files (Work number count) a b x y = x ∙ sym y
+pub one_due : (files : List ℕ → List ℕ) (jobs : List ℕ → Option KeptJob) (c : Command) (a b : Outcome) → ComesTo files jobs c a → ComesTo files jobs c b → a ≡ b
+one_due files jobs (Coins s) a b x y = x ∙ sym y
+one_due files jobs (Fund s p job) a b x y = x ∙ sym y
+one_due files jobs (Resume s p job) a b x y = x.2 ∙ ap resume_outcome (jobs_of.one_outcome files s p (jobs job) x.0 y.0 x.1 y.1) ∙ sym y.2
+one_due files jobs (Check s p report) a b x y = x.2 ∙ ap check_outcome (one_outcome files s p report x.0 y.0 x.1 y.1) ∙ sym y.2
+one_due files jobs (Work number count) a b x y = x ∙ sym y

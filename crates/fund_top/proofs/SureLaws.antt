@@ -1,10 +1,11 @@
--- What is true of how a command ends whose files and sink are told.
+-- What is true of how a command ends whose files, sink and keeper are told.
 use Rattle.std.proofs.Common.{◌≡◌, ℕ, List, Option, Some, None, IfSome, arith}
 use Rattle.std.specs.Prelude.{◌⊎◌}
 use Rattle.fund_base.specs.Causes.{Rose, ShelfView, SinkView}
 use Rattle.fund_files.specs.FileStops as files
 use Rattle.fund_files.specs.declared.refusal.File.{File}
 use Rattle.fund_files.specs.declared.refusal.File.TheVariants.{Wallet, Blocks, Request}
+use Rattle.fund_outside.specs.Kept.{KeeperView}
 use Rattle.command_check.specs.Evidence.{evidence_name}
 use Rattle.command_check.specs.Statuses as checks
 use Rattle.command_fund.specs.Inputs as inputs
@@ -13,45 +14,60 @@ use Rattle.command_fund.specs.Statuses as payments
 use Rattle.command_end.specs.Names.{Sources}
 use Rattle.command_fund.specs.Names.{Payment}
 use Rattle.command_end.specs.declared.status.Status.TheVariants as statuses
+use Rattle.command_resume.specs.Statuses as resumes
 use Rattle.command_work.specs.Statuses as loads
 use Rattle.command_end.specs.declared.status.Status.{Status}
-use Rattle.fund_top.specs.Due.{ComesTo, Outcome}
-use Rattle.fund_top.specs.InMemory.{Accepts, Funds, FundsNot, FundsOpen, Sums}
-use Rattle.fund_top.specs.Statuses.{EndsNotFunded, EndsUnfinished, IsLogUnwritten, NoneFailed, NoneUnread, WhereChecking, WhereFunding, WhereWorking, status_of}
-use Rattle.fund_top.specs.Words.{Command, Coins, Fund, Check, Work}
+use Rattle.fund_top.specs.Due.{ComesTo, IsTold, Outcome}
+use Rattle.fund_top.specs.InMemory.{Accepts, Funds, FundsNot, FundsOpen, Resumes, Sums}
+use Rattle.fund_top.specs.Statuses.{EndsNotFunded, EndsUnfinished, IsLogUnwritten, NoneFailed, NoneUnread, WhereChecking, WhereFunding, WhereResuming, WhereWorking, status_of}
+use Rattle.fund_top.specs.Words.{Command, Coins, Fund, Resume, Check, Work}
 
 pub funds : (c : Option Command) (shelf shelf' : ShelfView) (sink sink' : SinkView) → WhereFunding c (λ s p. payments.EndsFunded (Unit {0}) (Unit {0}) s p shelf shelf' sink sink') → WhereFunding c (λ s p. Funds s p shelf shelf' sink sink')
 funds None shelf shelf' sink sink' h = tt
 funds (Some (Coins s)) shelf shelf' sink sink' h = tt
-funds (Some (Fund s p)) shelf shelf' sink sink' h = (h.0, h.1, h.2, h.3 tt, h.4 tt)
+funds (Some (Fund s p job)) shelf shelf' sink sink' h = (h.0, h.1, h.2, h.3 tt, h.4 tt)
+funds (Some (Resume s p job)) shelf shelf' sink sink' h = tt
 funds (Some (Check s p report)) shelf shelf' sink sink' h = tt
 funds (Some (Work number count)) shelf shelf' sink sink' h = tt
 
-pub funds_not : (c : Option Command) (shelf shelf' : ShelfView) (sink sink' : SinkView) → IfSome c (λ d. EndsNotFunded (Unit {0}) (Unit {0}) d shelf shelf' sink sink') → IfSome c (λ d. FundsNot d shelf shelf' sink sink')
-funds_not None shelf shelf' sink sink' h = tt
-funds_not (Some (Coins s)) shelf shelf' sink sink' h = absurd h
-funds_not (Some (Fund s p)) shelf shelf' sink sink' h = (h.0, h.1, h.2, h.3 tt, h.4 tt)
-funds_not (Some (Check s p report)) shelf shelf' sink sink' h = absurd h
-funds_not (Some (Work number count)) shelf shelf' sink sink' h = (h.0, h.1, h.2 tt)
+pub resumes_there : (c : Option Command) (shelf shelf' : ShelfView) (sink sink' : SinkView) (keeper : KeeperView) → WhereResuming c (λ s p job. resumes.EndsFunded (Unit {0}) (Unit {0}) (Unit {0}) s p job shelf shelf' sink sink' keeper)
+    → WhereResuming c (λ s p job. Resumes s p job shelf shelf' sink sink' keeper)
+resumes_there None shelf shelf' sink sink' keeper h = tt
+resumes_there (Some (Coins s)) shelf shelf' sink sink' keeper h = tt
+resumes_there (Some (Fund s p job)) shelf shelf' sink sink' keeper h = tt
+resumes_there (Some (Resume s p job)) shelf shelf' sink sink' keeper h = (h.0, h.1, h.2, h.3 tt, h.4 tt)
+resumes_there (Some (Check s p report)) shelf shelf' sink sink' keeper h = tt
+resumes_there (Some (Work number count)) shelf shelf' sink sink' keeper h = tt
 
-pub funds_open : (c : Option Command) (shelf shelf' : ShelfView) (sink sink' : SinkView) → IfSome c (λ d. EndsUnfinished (Unit {0}) (Unit {0}) d shelf shelf' sink sink') → IfSome c (λ d. FundsOpen d shelf shelf' sink sink')
-funds_open None shelf shelf' sink sink' h = tt
-funds_open (Some (Coins s)) shelf shelf' sink sink' h = absurd h
-funds_open (Some (Fund s p)) shelf shelf' sink sink' h = (h.0, h.1, h.2 tt, h.3 tt)
-funds_open (Some (Check s p report)) shelf shelf' sink sink' h = absurd h
-funds_open (Some (Work number count)) shelf shelf' sink sink' h = (h.0, h.1, h.2 tt)
+pub funds_not : (c : Option Command) (shelf shelf' : ShelfView) (sink sink' : SinkView) (keeper : KeeperView) → IfSome c (λ d. EndsNotFunded (Unit {0}) (Unit {0}) (Unit {0}) d shelf shelf' sink sink' keeper) → IfSome c (λ d. FundsNot d shelf shelf' sink sink' keeper)
+funds_not None shelf shelf' sink sink' keeper h = tt
+funds_not (Some (Coins s)) shelf shelf' sink sink' keeper h = absurd h
+funds_not (Some (Fund s p job)) shelf shelf' sink sink' keeper h = (h.0, h.1, h.2, h.3 tt, h.4 tt)
+funds_not (Some (Resume s p job)) shelf shelf' sink sink' keeper h = (h.0, h.1, h.2, h.3 tt, h.4 tt)
+funds_not (Some (Check s p report)) shelf shelf' sink sink' keeper h = absurd h
+funds_not (Some (Work number count)) shelf shelf' sink sink' keeper h = (h.0, h.1, h.2 tt)
+
+pub funds_open : (c : Option Command) (shelf shelf' : ShelfView) (sink sink' : SinkView) (keeper keeper' : KeeperView) → IfSome c (λ d. EndsUnfinished (Unit {0}) (Unit {0}) (Unit {0}) d shelf shelf' sink sink' keeper keeper') → IfSome c (λ d. FundsOpen d shelf shelf' sink sink' keeper keeper')
+funds_open None shelf shelf' sink sink' keeper keeper' h = tt
+funds_open (Some (Coins s)) shelf shelf' sink sink' keeper keeper' h = absurd h
+funds_open (Some (Fund s p job)) shelf shelf' sink sink' keeper keeper' h = (h.0, h.1, h.2 tt, h.3 tt, h.4 tt)
+funds_open (Some (Resume s p job)) shelf shelf' sink sink' keeper keeper' h = (h.0, h.1, h.2 tt, h.3 tt, h.4 tt)
+funds_open (Some (Check s p report)) shelf shelf' sink sink' keeper keeper' h = absurd h
+funds_open (Some (Work number count)) shelf shelf' sink sink' keeper keeper' h = (h.0, h.1, h.2 tt)
 
 pub sums : (c : Option Command) (sink sink' : SinkView) → WhereWorking c (λ number count. loads.EndsSummed (Unit {0}) number count statuses.Done sink sink') → WhereWorking c (λ number count. Sums statuses.Done number count sink sink')
 sums None sink sink' h = tt
 sums (Some (Coins s)) sink sink' h = tt
-sums (Some (Fund s p)) sink sink' h = tt
+sums (Some (Fund s p job)) sink sink' h = tt
+sums (Some (Resume s p job)) sink sink' h = tt
 sums (Some (Check s p report)) sink sink' h = tt
 sums (Some (Work number count)) sink sink' h = (h.0, h.1, h.2 tt)
 
 pub accepts : (c : Option Command) (shelf : ShelfView) (sink sink' : SinkView) → WhereChecking c (λ s p report. checks.EndsAccepted (Unit {0}) (Unit {0}) s p report shelf sink sink') → WhereChecking c (λ s p report. Accepts s p report shelf sink sink')
 accepts None shelf sink sink' h = tt
 accepts (Some (Coins s)) shelf sink sink' h = tt
-accepts (Some (Fund s p)) shelf sink sink' h = tt
+accepts (Some (Fund s p job)) shelf sink sink' h = tt
+accepts (Some (Resume s p job)) shelf sink sink' h = tt
 accepts (Some (Check s p report)) shelf sink sink' h = (h.0, h.1, h.2 tt)
 accepts (Some (Work number count)) shelf sink sink' h = tt
 
@@ -75,7 +91,8 @@ payment_unread s p shelf shelf' a b file h = flat (shelf.reads (name_of s p file
 
 none_unread : (c : Command) (shelf shelf' : ShelfView) → IsSure shelf → IsSure shelf' → NoneUnread c shelf shelf'
 none_unread (Coins s) shelf shelf' a b = listing_unread s shelf shelf' a b
-none_unread (Fund s p) shelf shelf' a b = payment_unread s p shelf shelf' a b
+none_unread (Fund s p job) shelf shelf' a b = payment_unread s p shelf shelf' a b
+none_unread (Resume s p job) shelf shelf' a b = payment_unread s p shelf shelf' a b
 none_unread (Check s p report) shelf shelf' a b = record {
   payment = payment_unread s p shelf shelf' a b;
   evidence = λ file h. flat (shelf.reads (evidence_name p report file)) (shelf'.reads (evidence_name p report file)) (a.reads (evidence_name p report file)) (b.reads (evidence_name p report file)) h;
@@ -84,14 +101,24 @@ none_unread (Work number count) shelf shelf' a b = tt
 
 none_unwritten : (c : Command) (shelf shelf' : ShelfView) → IsSure shelf → IsSure shelf' → IsLogUnwritten c shelf shelf' → ⊥
 none_unwritten (Coins s) shelf shelf' a b h = h
-none_unwritten (Fund s p) shelf shelf' a b h = flat (shelf.writes p.log) (shelf'.writes p.log) (a.writes p.log) (b.writes p.log) h
+none_unwritten (Fund s p job) shelf shelf' a b h = flat (shelf.writes p.log) (shelf'.writes p.log) (a.writes p.log) (b.writes p.log) h
+none_unwritten (Resume s p job) shelf shelf' a b h = flat (shelf.writes p.log) (shelf'.writes p.log) (a.writes p.log) (b.writes p.log) h
 none_unwritten (Check s p report) shelf shelf' a b h = h
 none_unwritten (Work number count) shelf shelf' a b h = h
 
-none_failed : (c : Command) (shelf shelf' : ShelfView) (sink sink' : SinkView) → IsSure shelf → IsSure shelf' → sink.faults ≡ 0 → sink'.faults ≡ 0 → NoneFailed c shelf shelf' sink sink'
-none_failed c shelf shelf' sink sink' a b d e = record { reads = none_unread c shelf shelf' a b; log = none_unwritten c shelf shelf' a b; sinks = flat sink.faults sink'.faults d e }
+none_failed : (c : Command) (shelf shelf' : ShelfView) (sink sink' : SinkView) (keeper keeper' : KeeperView) → IsSure shelf → IsSure shelf' → sink.faults ≡ 0 → sink'.faults ≡ 0 → keeper.faults ≡ 0 → keeper'.faults ≡ 0 → NoneFailed c shelf shelf' sink sink' keeper keeper'
+none_failed c shelf shelf' sink sink' keeper keeper' a b d e f g =
+    record { reads = none_unread c shelf shelf' a b; log = none_unwritten c shelf shelf' a b; sinks = flat sink.faults sink'.faults d e; keepers = flat keeper.faults keeper'.faults f g }
 
-pub completes : (c : Option Command) (shelf shelf' : ShelfView) (sink sink' : SinkView) (status : Status) → IsSure shelf → IsSure shelf' → sink.faults ≡ 0 → sink'.faults ≡ 0
-    → IfSome c (λ d. Unit {0} → NoneFailed d shelf shelf' sink sink' → (due : Outcome) → ComesTo shelf.files d due → (status ≡ status_of due) ⊎ (status ≡ statuses.Memory)) → IfSome c (λ d. (due : Outcome) → ComesTo shelf.files d due → (status ≡ status_of due) ⊎ (status ≡ statuses.Memory))
-completes None shelf shelf' sink sink' status a b d e h = tt
-completes (Some c) shelf shelf' sink sink' status a b d e h = h tt (none_failed c shelf shelf' sink sink' a b d e)
+told : (c : Command) → IsTold (Unit {0}) (Unit {0}) c
+told (Coins s) = tt
+told (Fund s p job) = tt
+told (Resume s p job) = (tt, tt)
+told (Check s p report) = tt
+told (Work number count) = tt
+
+pub completes : (c : Option Command) (shelf shelf' : ShelfView) (sink sink' : SinkView) (keeper keeper' : KeeperView) (status : Status) → IsSure shelf → IsSure shelf' → sink.faults ≡ 0 → sink'.faults ≡ 0 → keeper.faults ≡ 0 → keeper'.faults ≡ 0
+    → IfSome c (λ d. IsTold (Unit {0}) (Unit {0}) d → NoneFailed d shelf shelf' sink sink' keeper keeper' → (due : Outcome) → ComesTo shelf.files keeper.jobs d due → (status ≡ status_of due) ⊎ (status ≡ statuses.Memory))
+    → IfSome c (λ d. (due : Outcome) → ComesTo shelf.files keeper.jobs d due → (status ≡ status_of due) ⊎ (status ≡ statuses.Memory))
+completes None shelf shelf' sink sink' keeper keeper' status a b d e f g h = tt
+completes (Some c) shelf shelf' sink sink' keeper keeper' status a b d e f g h = h (told c) (none_failed c shelf shelf' sink sink' keeper keeper' a b d e f g)

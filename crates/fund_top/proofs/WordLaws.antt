@@ -1,13 +1,12 @@
 -- The words of a workload are the spellings of its number and its count.
-use Rattle.std.proofs.Common.{◌≡◌, ◌∙◌, ℕ, zero, suc, ◌<◌, ◌≤◌, ◌^◌, Bool, true, false, cond, nat_lt, List, [], ◌∷◌, Option, Some, None, refl, sym, ap, subst, arith}
-use Rattle.std.specs.Prelude.{◌↔◌, String, bytes_eq, codes, string_bytes}
+use Rattle.std.proofs.Common.{◌≡◌, ◌∙◌, ℕ, ◌<◌, ◌≤◌, ◌^◌, Bool, true, false, cond, nat_lt, List, [], ◌∷◌, Option, Some, None, refl, sym, ap, arith}
+use Rattle.std.specs.Prelude.{◌↔◌, String, codes, string_bytes}
 use Rattle.std.specs.Fmt.{decimal}
 use Rattle.std.specs.declared.alloc.Global.{Global}
 use Rattle.std.proofs.lemmas.Bool.{lt-ltb, ltb-true}
-use Rattle.std.proofs.lemmas.Slice.Eq.{bytes_eq-Decides}
 use Rattle.fund_base.proofs.Decimals.{found, only}
 use Rattle.fund_base.specs.Decimal.{number_of}
-use Rattle.fund_top.specs.Words.{Command, Work, command_of, work_by, work_of}
+use Rattle.fund_top.specs.Words.{Work, command_of, work_by, work_of}
 
 abbrev most_number : ℕ
 most_number = 9_223_372_036_854_775_807

@@ -1,24 +1,28 @@
--- What the files of a command come to, and what a refusal of them means.
-use Rattle.std.specs.Prelude.{ℕ, ◌≡◌, List, Result, Ok, Err}
+-- What the files of a command, and the jobs of a keeper, come to; and what a refusal of the files means.
+use Rattle.std.specs.Prelude.{ℕ, ◌≡◌, List, Option, Result, Ok, Err}
 use Rattle.fund_files.specs.Cause.{FileCause}
 use Rattle.fund_files.specs.Refusals.{IsChainMeant}
+use Rattle.fund_outside.specs.Kept.{KeptJob}
 use Rattle.fund_report.specs.declared.report.Report.{Report}
 use Rattle.report_check.specs.declared.fault.CheckFault.{CheckFault}
+use Rattle.kept_job.specs.declared.fault.KeptFault.{KeptFault}
 use Rattle.command_check.specs.Due as checks
 use Rattle.command_check.specs.declared.stop.Evidence.{Evidence}
 use Rattle.command_coins.specs.Due as listings
 use Rattle.command_fund.specs.Cause.{Cause, Files, BumpNotYet, Plan}
 use Rattle.command_fund.specs.Due as payments
 use Rattle.command_fund.specs.Meant as payment_causes
+use Rattle.command_resume.specs.Due as resumes
 use Rattle.command_work.specs.Due as loads
 use Rattle.command_end.specs.declared.status.Status.{Status}
-use Rattle.fund_top.specs.Words.{Command, Coins, Fund, Check, Work}
+use Rattle.fund_top.specs.Words.{Command, Coins, Fund, Resume, Check, Work}
 
--- a refusal; the listing; a report with which the tries are used up; a report and a log, where nothing pays or of a
--- payment; a file that is judged and too long, the first rule that a report breaks, or a report that is accepted; or the
--- summary of a run with this status
+-- a refusal of the files, or of a kept job; the listing; a report with which the tries are used up; a report and a log, where
+-- nothing pays or of a payment; a file that is judged and too long, the first rule that a report breaks, or a report that is
+-- accepted; or the summary of a run with this status
 pub data Outcome : Type 0 where
   Refused : Cause → Outcome
+  NotKept : KeptFault → Outcome
   Listed : (listing : List ℕ) → Outcome
   Unfinished : (report : List ℕ) → Outcome
   NoSelection : (report log : List ℕ) → Outcome
@@ -52,16 +56,33 @@ abbrev pub load_outcome : loads.Outcome → Outcome
 load_outcome (loads.Refused cause) = Refused cause
 load_outcome (loads.Summed status summary) = Summed status summary
 
--- what a command comes to, by the content of files; a workload is made without any
-abbrev pub ComesTo : (List ℕ → List ℕ) → Command → Outcome → Type 0
-ComesTo files (Coins s) o = o ≡ listing_outcome (listings.due_of files s)
-ComesTo files (Fund s p) o = o ≡ payment_outcome (payments.due_of files s p)
-ComesTo files (Check s p report) o = (due : checks.Outcome) × checks.ComesTo files s p report due × (o ≡ check_outcome due)
-ComesTo files (Work number count) o = o ≡ load_outcome (loads.due_of number count)
+-- that of a job
+abbrev pub resume_outcome : resumes.Outcome → Outcome
+resume_outcome (resumes.Refused cause) = Refused cause
+resume_outcome (resumes.NotKept fault) = NotKept fault
+resume_outcome (resumes.Gone due) = payment_outcome due
 
--- the files are refused, or what is judged is
+-- What a command comes to, by the content of files, and by the jobs of a keeper where it goes on with one; a workload is made
+-- without any.
+abbrev pub ComesTo : (List ℕ → List ℕ) → (List ℕ → Option KeptJob) → Command → Outcome → Type 0
+ComesTo files jobs (Coins s) o = o ≡ listing_outcome (listings.due_of files s)
+ComesTo files jobs (Fund s p job) o = o ≡ payment_outcome (payments.due_of files s p)
+ComesTo files jobs (Resume s p job) o = (due : resumes.Outcome) × resumes.ComesTo files s p (jobs job) due × (o ≡ resume_outcome due)
+ComesTo files jobs (Check s p report) o = (due : checks.Outcome) × checks.ComesTo files s p report due × (o ≡ check_outcome due)
+ComesTo files jobs (Work number count) o = o ≡ load_outcome (loads.due_of number count)
+
+-- where what a command comes to is told: its files are, and the jobs too where it goes on with one
+abbrev pub IsTold : (told_files told_jobs : Type 0) → Command → Type 0
+IsTold told_files told_jobs (Coins s) = told_files
+IsTold told_files told_jobs (Fund s p job) = told_files
+IsTold told_files told_jobs (Resume s p job) = told_files × told_jobs
+IsTold told_files told_jobs (Check s p report) = told_files
+IsTold told_files told_jobs (Work number count) = Unit {0}
+
+-- the files are refused, or the job is, or what is judged is
 abbrev pub IsRefusal : Outcome → Type 0
 IsRefusal (Refused cause) = Unit {0}
+IsRefusal (NotKept fault) = Unit {0}
 IsRefusal (Listed listing) = ⊥
 IsRefusal (Unfinished report) = ⊥
 IsRefusal (NoSelection report log) = ⊥
@@ -80,6 +101,7 @@ IsListingMeant wallet blocks (Plan fault) = ⊥
 -- what a cause means by itself
 abbrev pub IsMeant : (List ℕ → List ℕ) → Command → Cause → Type 0
 IsMeant files (Coins s) cause = IsListingMeant (files s.wallet) (files s.blocks) cause
-IsMeant files (Fund s p) cause = payment_causes.IsMeant files s p cause
+IsMeant files (Fund s p job) cause = payment_causes.IsMeant files s p cause
+IsMeant files (Resume s p job) cause = payment_causes.IsMeant files s p cause
 IsMeant files (Check s p report) cause = payment_causes.IsMeant files s p cause
 IsMeant files (Work number count) cause = loads.IsCollision number count cause

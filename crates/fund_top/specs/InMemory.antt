@@ -1,15 +1,20 @@
--- How a command ends whose files and sink are in memory and never fail.
+-- How a command ends whose files, sink and keeper are in memory and never fail.
 use Rattle.std.specs.Prelude.{ℕ, ◌≡◌, List, ◌++◌}
 use Rattle.fund_base.specs.Causes.{ShelfView, SinkView}
+use Rattle.fund_files.specs.Chain.{held_of}
+use Rattle.fund_outside.specs.Kept.{KeeperView}
 use Rattle.command_end.specs.Names.{Sources}
 use Rattle.command_check.specs.Statuses.{IsVouched}
 use Rattle.command_coins.specs.Statuses.{IsListed}
+use Rattle.command_fund.specs.Due.{plan_of}
+use Rattle.command_fund.specs.Jobs.{IsLeft}
 use Rattle.command_fund.specs.Names.{Payment}
 use Rattle.command_fund.specs.Statuses.{IsFunded, IsNotFunded, IsUnfinished}
 use Rattle.command_end.specs.declared.status.Status.{Status}
 use Rattle.command_end.specs.declared.status.Status.TheVariants as statuses
+use Rattle.command_resume.specs.Resumed as resumed
 use Rattle.command_work.specs.Statuses.{IsSummary}
-use Rattle.fund_top.specs.Words.{Command, Coins, Fund, Check, Work}
+use Rattle.fund_top.specs.Words.{Command, Coins, Fund, Resume, Check, Work}
 
 -- the listing is printed whole
 abbrev pub Lists : Sources → ShelfView → SinkView → SinkView → Type 0
@@ -20,6 +25,11 @@ abbrev pub Funds : Sources → Payment → ShelfView → ShelfView → SinkView 
 Funds s p shelf shelf' sink sink' =
     (report : List ℕ) × (log : List ℕ) × IsFunded (Unit {0}) shelf.files s p report log × (shelf'.files p.log ≡ log) × (sink'.written ≡ sink.written ++ report)
 
+-- the same of a payment to which a run came that went on from a job
+abbrev pub Resumes : Sources → Payment → List ℕ → ShelfView → ShelfView → SinkView → SinkView → KeeperView → Type 0
+Resumes s p job shelf shelf' sink sink' keeper =
+    (report : List ℕ) × (log : List ℕ) × resumed.IsFunded (Unit {0}) (Unit {0}) shelf.files s p (keeper.jobs job) report log × (shelf'.files p.log ≡ log) × (sink'.written ≡ sink.written ++ report)
+
 -- that a report is accepted, and its first line, are printed whole
 abbrev pub Accepts : Sources → Payment → (report : List ℕ) → ShelfView → SinkView → SinkView → Type 0
 Accepts s p report shelf sink sink' = (text : List ℕ) × IsVouched (Unit {0}) shelf.files s p report text × (sink'.written ≡ sink.written ++ text)
@@ -29,17 +39,23 @@ abbrev pub Sums : Status → ℕ → ℕ → SinkView → SinkView → Type 0
 Sums status number count sink sink' = (summary : List ℕ) × IsSummary number count status summary × (sink'.written ≡ sink.written ++ summary)
 
 -- the log is written, and the report of none is printed whole; or the summary is
-abbrev pub FundsNot : Command → ShelfView → ShelfView → SinkView → SinkView → Type 0
-FundsNot (Coins s) shelf shelf' sink sink' = ⊥
-FundsNot (Fund s p) shelf shelf' sink sink' =
+abbrev pub FundsNot : Command → ShelfView → ShelfView → SinkView → SinkView → KeeperView → Type 0
+FundsNot (Coins s) shelf shelf' sink sink' keeper = ⊥
+FundsNot (Fund s p job) shelf shelf' sink sink' keeper =
     (report : List ℕ) × (log : List ℕ) × IsNotFunded (Unit {0}) shelf.files s p report log × (shelf'.files p.log ≡ log) × (sink'.written ≡ sink.written ++ report)
-FundsNot (Check s p report) shelf shelf' sink sink' = ⊥
-FundsNot (Work number count) shelf shelf' sink sink' = Sums statuses.NoSelection number count sink sink'
+FundsNot (Resume s p job) shelf shelf' sink sink' keeper =
+    (report : List ℕ) × (log : List ℕ) × resumed.IsNotFunded (Unit {0}) (Unit {0}) shelf.files s p (keeper.jobs job) report log × (shelf'.files p.log ≡ log) × (sink'.written ≡ sink.written ++ report)
+FundsNot (Check s p report) shelf shelf' sink sink' keeper = ⊥
+FundsNot (Work number count) shelf shelf' sink sink' keeper = Sums statuses.NoSelection number count sink sink'
 
--- no file is written, and the report of the open search, or the summary, is printed whole
-abbrev pub FundsOpen : Command → ShelfView → ShelfView → SinkView → SinkView → Type 0
-FundsOpen (Coins s) shelf shelf' sink sink' = ⊥
-FundsOpen (Fund s p) shelf shelf' sink sink' =
-    (report : List ℕ) × IsUnfinished (Unit {0}) shelf.files s p report × (shelf'.files ≡ shelf.files) × (sink'.written ≡ sink.written ++ report)
-FundsOpen (Check s p report) shelf shelf' sink sink' = ⊥
-FundsOpen (Work number count) shelf shelf' sink sink' = Sums statuses.Unfinished number count sink sink'
+-- no file is written, the run is kept where there is a job, and the report of the open search, or the summary, is printed whole
+abbrev pub FundsOpen : Command → ShelfView → ShelfView → SinkView → SinkView → KeeperView → KeeperView → Type 0
+FundsOpen (Coins s) shelf shelf' sink sink' keeper keeper' = ⊥
+FundsOpen (Fund s p job) shelf shelf' sink sink' keeper keeper' =
+    (report : List ℕ) × (u : IsUnfinished (Unit {0}) shelf.files s p report) × (shelf'.files ≡ shelf.files) × (sink'.written ≡ sink.written ++ report)
+    × IsLeft (Unit {0}) shelf.files s p (plan_of (held_of u.wallet u.blocks) u.asked) u.asked.tries job keeper keeper'
+FundsOpen (Resume s p job) shelf shelf' sink sink' keeper keeper' =
+    (report : List ℕ) × (u : resumed.IsUnfinished (Unit {0}) (Unit {0}) shelf.files s p (keeper.jobs job) report) × (shelf'.files ≡ shelf.files) × (sink'.written ≡ sink.written ++ report)
+    × resumed.IsLeftOn (Unit {0}) (Unit {0}) shelf.files s p job report keeper keeper' u
+FundsOpen (Check s p report) shelf shelf' sink sink' keeper keeper' = ⊥
+FundsOpen (Work number count) shelf shelf' sink sink' keeper keeper' = Sums statuses.Unfinished number count sink sink'

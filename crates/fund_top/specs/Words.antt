@@ -1,14 +1,17 @@
 -- The words of the command line.
-use Rattle.std.specs.Prelude.{ℕ, ◌≤◌, not, ◌&&◌, nat_lt, List, [], ◌∷◌, length, String, string_bytes, bytes_eq, codes, Bool, Option, Some, None, if◌then◌else◌}
+use Rattle.std.specs.Prelude.{ℕ, ◌≤◌, not, ◌&&◌, ◌||◌, ◌==◌, nat_le, nat_lt, List, [], ◌∷◌, length, String, string_bytes, bytes_eq, codes, Bool, Option, Some, None, if◌then◌else◌}
+use Rattle.std.specs.List.{list_all}
 use Rattle.std.specs.declared.alloc.Global.{Global}
 use Rattle.fund_base.specs.Decimal.{number_of}
 use Rattle.command_end.specs.Names.{Sources}
 use Rattle.command_fund.specs.Names.{Payment}
 
--- to list payments and coins, to fund a payment, to check the report of one, or to fund one from a workload
+-- to list payments and coins; to fund a payment, with a job to keep it as where it isn't finished; to go on with a job; to
+-- check the report of a payment; or to fund one from a workload
 pub data Command : Type 0 where
   Coins : Sources → Command
-  Fund : Sources → Payment → Command
+  Fund : Sources → Payment → (job : Option (List ℕ)) → Command
+  Resume : Sources → Payment → (job : List ℕ) → Command
   Check : Sources → Payment → (report : List ℕ) → Command
   Work : (number count : ℕ) → Command
 
@@ -26,6 +29,14 @@ names_stand s p =
 -- no name is empty
 abbrev pub are_judged : Sources → Payment → (report : List ℕ) → Bool
 are_judged s p report = are_named s && (nat_lt 0 (length p.request) && (nat_lt 0 (length report) && nat_lt 0 (length p.log)))
+
+-- a digit, a letter or a hyphen of ASCII
+abbrev pub is_job_byte : ℕ → Bool
+is_job_byte b = (b == 45) || (((nat_le 48 b) && (nat_le b 57)) || (((nat_le 65 b) && (nat_le b 90)) || ((nat_le 97 b) && (nat_le b 122))))
+
+-- the name of a job: 1 to 32 of these
+abbrev pub is_job : List ℕ → Bool
+is_job name = nat_lt 0 (length name) && (nat_le (length name) 32 && list_all is_job_byte name)
 
 -- a command, where its names stand
 abbrev pub where_stands : Bool → Command → Option Command
@@ -62,12 +73,20 @@ work_of number count = work_by (number_of 9_223_372_036_854_775_807 number) (num
 -- the count of a workload's coins
 abbrev pub IsInRange : Command → Type 0
 IsInRange (Coins s) = Unit {0}
-IsInRange (Fund s p) = Unit {0}
+IsInRange (Fund s p job) = Unit {0}
+IsInRange (Resume s p job) = Unit {0}
 IsInRange (Check s p report) = Unit {0}
 IsInRange (Work number count) = (1 ≤ count) × (count ≤ 10_000)
 
--- the command that the words are: coins WALLET BLOCKS, work NUMBER COUNT, fund WALLET BLOCKS REQUEST LOG, or check WALLET
--- BLOCKS REQUEST REPORT LOG
+-- a command with a job, by its verb
+abbrev pub job_command : Sources → Payment → (verb job : List ℕ) → Option Command
+job_command s p verb job =
+    if bytes_eq verb (codes "fund")
+    then where_stands (names_stand s p && is_job job) (Fund s p (Some job))
+    else (if bytes_eq verb (codes "resume") then where_stands (names_stand s p && is_job job) (Resume s p job) else None)
+
+-- the command that the words are: coins WALLET BLOCKS, work NUMBER COUNT, fund WALLET BLOCKS REQUEST LOG, with or without a
+-- JOB, resume WALLET BLOCKS REQUEST LOG JOB, or check WALLET BLOCKS REQUEST REPORT LOG
 abbrev pub command_of : List (String Global) → Option Command
 command_of (verb ∷ first ∷ second ∷ []) =
     if bytes_eq (string_bytes verb) (codes "coins")
@@ -75,10 +94,10 @@ command_of (verb ∷ first ∷ second ∷ []) =
     else if bytes_eq (string_bytes verb) (codes "work") then work_of (string_bytes first) (string_bytes second) else None
 command_of (verb ∷ wallet ∷ blocks ∷ request ∷ log ∷ []) =
     if bytes_eq (string_bytes verb) (codes "fund")
-    then where_stands (names_stand (sources wallet blocks) (payment request log)) (Fund (sources wallet blocks) (payment request log))
+    then where_stands (names_stand (sources wallet blocks) (payment request log)) (Fund (sources wallet blocks) (payment request log) None)
     else None
-command_of (verb ∷ wallet ∷ blocks ∷ request ∷ report ∷ log ∷ []) =
+command_of (verb ∷ wallet ∷ blocks ∷ request ∷ fourth ∷ fifth ∷ []) =
     if bytes_eq (string_bytes verb) (codes "check")
-    then check_of (string_bytes wallet) (string_bytes blocks) (string_bytes request) (string_bytes report) (string_bytes log)
-    else None
+    then check_of (string_bytes wallet) (string_bytes blocks) (string_bytes request) (string_bytes fourth) (string_bytes fifth)
+    else job_command (sources wallet blocks) (payment request fourth) (string_bytes verb) (string_bytes fifth)
 command_of _ = None

@@ -1,6 +1,6 @@
 //! What the files of a command come to, in words of the files one by one.
 
-ghost use Rattle.std.specs.Prelude.{◌≡◌, ◌↔◌, ◌≤◌, ◌<◌, ◌^◌, [], ◌∷◌, ℕ, List, Some, String, codes, string_bytes};
+ghost use Rattle.std.specs.Prelude.{◌≡◌, ◌↔◌, ◌≤◌, ◌<◌, ◌^◌, [], ◌∷◌, ℕ, List, Option, Some, String, codes, string_bytes};
 ghost use Rattle.std.specs.Fmt.{decimal};
 ghost use Rattle.std.specs.declared.alloc.Global.{Global};
 ghost use Rattle.block_feed.specs.Block.{ChainBlock};
@@ -23,27 +23,34 @@ ghost use Rattle.command_fund.specs.Names.{Payment};
 ghost use Rattle.wallet_text.specs.WalletRules.{AreDistinctEarlier};
 ghost use Rattle.workload.specs.Load.{earlier_of, request_of, wallet_of};
 ghost use Rattle.workload.specs.Summary.{summary_text};
+ghost use Rattle.fund_outside.specs.Kept.{KeptJob};
+ghost use Rattle.kept_job.specs.declared.fault.KeptFault.{KeptFault};
 ghost use Rattle.command_end.specs.declared.status.Status.TheVariants as statuses;
+ghost use Rattle.command_fund.specs.Due as dues;
+ghost use Rattle.command_resume.specs.Due.{IsGone, IsNotKept};
 ghost use Rattle.command_work.specs.Due.{load_of, load_plan};
-ghost use Rattle.fund_top.specs.Due.{Refused, Listed, Unfinished, NoSelection, Funded, Summed, ComesTo, IsMeant, Outcome, check_outcome};
-ghost use Rattle.fund_top.specs.Words.{Command, Coins, Fund, Check, Work, command_of};
+ghost use Rattle.fund_top.specs.Due.{Refused, NotKept, Listed, Unfinished, NoSelection, Funded, Summed, ComesTo, IsMeant, Outcome, check_outcome, payment_outcome};
+ghost use Rattle.fund_top.specs.Words.{Command, Coins, Fund, Resume, Check, Work, command_of};
 
-/// The law of what the files of a command come to: a cause for a refusal which they mean is the one that they come to;
-/// where they hold a wallet and blocks, they come to the listing of these; and where they hold a request too, of which the
-/// plan keeps its rules, they come to what that plan comes to with the request's tries. What a report comes to that is
-/// checked, its command comes to; and no command comes to two things. A workload of which no two
-/// transactions have one txid comes to the summary of what its plan comes to. A call does nothing.
+/// The law of what the files of a command and the jobs of a keeper come to: to one outcome at most. A cause for a refusal which
+/// the files mean is what they come to. Where they hold a wallet and blocks, they come to the listing of these; and where they
+/// hold a request too, of which the plan keeps its rules, to what that plan comes to with the request's tries. Where a job is
+/// gone on with, they come to its fault, or to what the plan comes to that goes on from it. What a report comes to that is
+/// checked, its command comes to. A workload of which no two transactions have one txid comes to the summary of what its plan
+/// comes to. A call does nothing.
 pub fn outcomes_are_due()
-    ensures refused { (files : List ℕ → List ℕ) (c : Command) (cause : Cause) → IsMeant files c cause → ComesTo files c (Refused cause) }
-    ensures listed { (files : List ℕ → List ℕ) (s : Sources) (w : PlainWallet) (blocks : List ChainBlock) → HasChain (files s.wallet) (files s.blocks) w blocks → ComesTo files (Coins s) (Listed (listing_in (held_of w blocks))) }
-    ensures funded { (files : List ℕ → List ℕ) (s : Sources) (p : Payment) (w : PlainWallet) (blocks : List ChainBlock) (r : PlainRequest) (f : PlainFunded) → AreInputs files s p w blocks r → IsPlan (plan_of (held_of w blocks) r) → outcome_at (plan_of (held_of w blocks) r) r.tries ≡ answers.Funded f → ComesTo files (Fund s p) (Funded (report_of (history_of w blocks) r w.change (tries_at (plan_of (held_of w blocks) r) r.tries) f) (log_text_at (plan_of (held_of w blocks) r) r.tries)) }
-    ensures none { (files : List ℕ → List ℕ) (s : Sources) (p : Payment) (w : PlainWallet) (blocks : List ChainBlock) (r : PlainRequest) → AreInputs files s p w blocks r → IsPlan (plan_of (held_of w blocks) r) → outcome_at (plan_of (held_of w blocks) r) r.tries ≡ answers.NoSelection → ComesTo files (Fund s p) (NoSelection (none_report_at (plan_of (held_of w blocks) r) r.tries) (log_text_at (plan_of (held_of w blocks) r) r.tries)) }
-    ensures unfinished { (files : List ℕ → List ℕ) (s : Sources) (p : Payment) (w : PlainWallet) (blocks : List ChainBlock) (r : PlainRequest) → AreInputs files s p w blocks r → IsPlan (plan_of (held_of w blocks) r) → outcome_at (plan_of (held_of w blocks) r) r.tries ≡ answers.Unfinished → ComesTo files (Fund s p) (Unfinished (open_report_at (plan_of (held_of w blocks) r) r.tries)) }
-    ensures judged { (files : List ℕ → List ℕ) (s : Sources) (p : Payment) (report : List ℕ) (due : checks.Outcome) → checks.ComesTo files s p report due → ComesTo files (Check s p report) (check_outcome due) }
-    ensures one { (files : List ℕ → List ℕ) (c : Command) (a b : Outcome) → ComesTo files c a → ComesTo files c b → a ≡ b }
-    ensures summed { (files : List ℕ → List ℕ) (number count : ℕ) (f : PlainFunded) → 1 ≤ count → count ≤ 10_000 → AreDistinctEarlier (earlier_of number count) → outcome_at (load_plan number count) 100_000 ≡ answers.Funded f → ComesTo files (Work number count) (Summed statuses.Done (summary_text number count (report_of (load_of number count).book (request_of number count) (wallet_of number count).change (tries_at (load_plan number count) 100_000) f))) }
-    ensures summed_none { (files : List ℕ → List ℕ) (number count : ℕ) → 1 ≤ count → count ≤ 10_000 → AreDistinctEarlier (earlier_of number count) → outcome_at (load_plan number count) 100_000 ≡ answers.NoSelection → ComesTo files (Work number count) (Summed statuses.NoSelection (summary_text number count (none_report_at (load_plan number count) 100_000))) }
-    ensures summed_open { (files : List ℕ → List ℕ) (number count : ℕ) → 1 ≤ count → count ≤ 10_000 → AreDistinctEarlier (earlier_of number count) → outcome_at (load_plan number count) 100_000 ≡ answers.Unfinished → ComesTo files (Work number count) (Summed statuses.Unfinished (summary_text number count (open_report_at (load_plan number count) 100_000))) }
+    ensures one { (files : List ℕ → List ℕ) (jobs : List ℕ → Option KeptJob) (c : Command) (a b : Outcome) → ComesTo files jobs c a → ComesTo files jobs c b → a ≡ b }
+    ensures refused { (files : List ℕ → List ℕ) (jobs : List ℕ → Option KeptJob) (c : Command) (cause : Cause) → IsMeant files c cause → ComesTo files jobs c (Refused cause) }
+    ensures listed { (files : List ℕ → List ℕ) (jobs : List ℕ → Option KeptJob) (s : Sources) (w : PlainWallet) (blocks : List ChainBlock) → HasChain (files s.wallet) (files s.blocks) w blocks → ComesTo files jobs (Coins s) (Listed (listing_in (held_of w blocks))) }
+    ensures funded { (files : List ℕ → List ℕ) (jobs : List ℕ → Option KeptJob) (s : Sources) (p : Payment) (job : Option (List ℕ)) (w : PlainWallet) (blocks : List ChainBlock) (r : PlainRequest) (f : PlainFunded) → AreInputs files s p w blocks r → IsPlan (plan_of (held_of w blocks) r) → outcome_at (plan_of (held_of w blocks) r) r.tries ≡ answers.Funded f → ComesTo files jobs (Fund s p job) (Funded (report_of (history_of w blocks) r w.change (tries_at (plan_of (held_of w blocks) r) r.tries) f) (log_text_at (plan_of (held_of w blocks) r) r.tries)) }
+    ensures none { (files : List ℕ → List ℕ) (jobs : List ℕ → Option KeptJob) (s : Sources) (p : Payment) (job : Option (List ℕ)) (w : PlainWallet) (blocks : List ChainBlock) (r : PlainRequest) → AreInputs files s p w blocks r → IsPlan (plan_of (held_of w blocks) r) → outcome_at (plan_of (held_of w blocks) r) r.tries ≡ answers.NoSelection → ComesTo files jobs (Fund s p job) (NoSelection (none_report_at (plan_of (held_of w blocks) r) r.tries) (log_text_at (plan_of (held_of w blocks) r) r.tries)) }
+    ensures unfinished { (files : List ℕ → List ℕ) (jobs : List ℕ → Option KeptJob) (s : Sources) (p : Payment) (job : Option (List ℕ)) (w : PlainWallet) (blocks : List ChainBlock) (r : PlainRequest) → AreInputs files s p w blocks r → IsPlan (plan_of (held_of w blocks) r) → outcome_at (plan_of (held_of w blocks) r) r.tries ≡ answers.Unfinished → ComesTo files jobs (Fund s p job) (Unfinished (open_report_at (plan_of (held_of w blocks) r) r.tries)) }
+    ensures gone { (files : List ℕ → List ℕ) (jobs : List ℕ → Option KeptJob) (s : Sources) (p : Payment) (job : List ℕ) (due : dues.Outcome) → IsGone files s p (jobs job) due → ComesTo files jobs (Resume s p job) (payment_outcome due) }
+    ensures not_kept { (files : List ℕ → List ℕ) (jobs : List ℕ → Option KeptJob) (s : Sources) (p : Payment) (job : List ℕ) (fault : KeptFault) → IsNotKept files s p (jobs job) fault → ComesTo files jobs (Resume s p job) (NotKept fault) }
+    ensures judged { (files : List ℕ → List ℕ) (jobs : List ℕ → Option KeptJob) (s : Sources) (p : Payment) (report : List ℕ) (due : checks.Outcome) → checks.ComesTo files s p report due → ComesTo files jobs (Check s p report) (check_outcome due) }
+    ensures summed { (files : List ℕ → List ℕ) (jobs : List ℕ → Option KeptJob) (number count : ℕ) (f : PlainFunded) → 1 ≤ count → count ≤ 10_000 → AreDistinctEarlier (earlier_of number count) → outcome_at (load_plan number count) 100_000 ≡ answers.Funded f → ComesTo files jobs (Work number count) (Summed statuses.Done (summary_text number count (report_of (load_of number count).book (request_of number count) (wallet_of number count).change (tries_at (load_plan number count) 100_000) f))) }
+    ensures summed_none { (files : List ℕ → List ℕ) (jobs : List ℕ → Option KeptJob) (number count : ℕ) → 1 ≤ count → count ≤ 10_000 → AreDistinctEarlier (earlier_of number count) → outcome_at (load_plan number count) 100_000 ≡ answers.NoSelection → ComesTo files jobs (Work number count) (Summed statuses.NoSelection (summary_text number count (none_report_at (load_plan number count) 100_000))) }
+    ensures summed_open { (files : List ℕ → List ℕ) (jobs : List ℕ → Option KeptJob) (number count : ℕ) → 1 ≤ count → count ≤ 10_000 → AreDistinctEarlier (earlier_of number count) → outcome_at (load_plan number count) 100_000 ≡ answers.Unfinished → ComesTo files jobs (Work number count) (Summed statuses.Unfinished (summary_text number count (open_report_at (load_plan number count) 100_000))) }
 {}
 
 /// The law of the words of a workload: they ask for one exactly where the second is the decimal spelling of a number below

@@ -1,10 +1,11 @@
 //! The words of the command line.
 
 ghost use Rattle.std.specs.Prelude.{◌≡◌, IfSome, option_map};
+ghost use Rattle.std.specs.List.{list_all};
 ghost use Rattle.command_end.specs.Names.{plain_sources};
 ghost use Rattle.command_fund.specs.Names.{plain_payment};
 ghost use Rattle.fund_top.specs.Command.{plain};
-ghost use Rattle.fund_top.specs.Words.{IsInRange, are_judged, are_named, check_of, command_of, listing_of, names_stand, work_of};
+ghost use Rattle.fund_top.specs.Words.{IsInRange, are_judged, are_named, check_of, command_of, is_job, is_job_byte, job_command, listing_of, names_stand, work_of};
 
 use command_end::Sources;
 use command_fund::Payment;
@@ -15,8 +16,10 @@ use fund_base::read_decimal;
 pub enum Command<'a> {
     /// To list the pending payments and the coins that may be spent.
     Coins(Sources<'a>),
-    /// To fund a payment.
-    Fund(Sources<'a>, Payment<'a>),
+    /// To fund a payment, and to keep the run as this job where it isn't finished.
+    Fund(Sources<'a>, Payment<'a>, Option<&'a str>),
+    /// To go on with a kept job.
+    Resume(Sources<'a>, Payment<'a>, &'a str),
     /// To check the report of a payment, which is the file of this name, with its log.
     Check(Sources<'a>, Payment<'a>, &'a str),
     /// To fund a payment from the workload of a number and a count of coins, and to sum it up.
@@ -45,6 +48,48 @@ fn names_stand(sources: &Sources, payment: &Payment) -> bool
         && payment.log != sources.blocks
         && payment.log != payment.request;
     are_named(sources) && (named && apart)
+}
+
+/// Whether each byte may stand in the name of a job: it is a digit, a letter or a hyphen of ASCII.
+fn are_job_bytes(name: &[u8]) -> bool
+    ensures { result ≡ list_all is_job_byte name.now }
+{
+    name.iter().all(|byte| {
+        *byte == 45
+            || ((48 <= *byte && *byte <= 57)
+                || ((65 <= *byte && *byte <= 90) || (97 <= *byte && *byte <= 122)))
+    })
+}
+
+/// Whether this is the name of a job: 1 to 32 digits, letters and hyphens.
+fn is_job(name: &str) -> bool
+    ensures { result ≡ is_job name.now }
+{
+    !name.is_empty() && (name.len() <= 32 && are_job_bytes(name.as_bytes()))
+}
+
+/// The command of these names and this verb, which is `fund` or `resume`, with a job.
+fn job_command<'a>(
+    sources: Sources<'a>,
+    payment: Payment<'a>,
+    verb: &str,
+    job: &'a str,
+) -> Option<Command<'a>>
+    ensures command { option_map plain result ≡ job_command (plain_sources sources.entry) (plain_payment payment.entry) verb.now job.now }
+    ensures range { IfSome result (λ c. IsInRange (plain c)) }
+{
+    let stands = names_stand(&sources, &payment) && is_job(job);
+    if verb == "fund" {
+        if stands {
+            Some(Command::Fund(sources, payment, Some(job)))
+        } else {
+            None
+        }
+    } else if verb == "resume" && stands {
+        Some(Command::Resume(sources, payment, job))
+    } else {
+        None
+    }
 }
 
 /// Whether no name is empty, of a payment whose report is judged.
@@ -102,8 +147,9 @@ fn check_in<'a>(
     }
 }
 
-/// The command that the words are, which is `coins WALLET BLOCKS`, `work NUMBER COUNT`, `fund WALLET BLOCKS REQUEST LOG` or
-/// `check WALLET BLOCKS REQUEST REPORT LOG`.
+/// The command that the words are, which is `coins WALLET BLOCKS`, `work NUMBER COUNT`, `fund WALLET BLOCKS REQUEST LOG`, with
+/// or without a `JOB`, `resume WALLET BLOCKS REQUEST LOG JOB` or `check WALLET BLOCKS REQUEST REPORT LOG`. A `JOB` is 1 to 32
+/// digits, letters and hyphens of ASCII.
 pub fn parse(words: &[String]) -> Option<Command<'_>>
     ensures command { option_map plain result ≡ command_of words.now }
     ensures range { IfSome result (λ c. IsInRange (plain c)) }
@@ -128,22 +174,30 @@ pub fn parse(words: &[String]) -> Option<Command<'_>>
                 log: log.as_str(),
             };
             if verb.as_str() == "fund" && names_stand(&sources, &payment) {
-                Some(Command::Fund(sources, payment))
+                Some(Command::Fund(sources, payment, None))
             } else {
                 None
             }
         }
-        [verb, wallet, blocks, request, report, log] => {
+        [verb, wallet, blocks, request, fourth, fifth] => {
             if verb.as_str() == "check" {
                 check_in(
                     wallet.as_str(),
                     blocks.as_str(),
                     request.as_str(),
-                    report.as_str(),
-                    log.as_str(),
+                    fourth.as_str(),
+                    fifth.as_str(),
                 )
             } else {
-                None
+                let sources = Sources {
+                    wallet: wallet.as_str(),
+                    blocks: blocks.as_str(),
+                };
+                let payment = Payment {
+                    request: request.as_str(),
+                    log: fourth.as_str(),
+                };
+                job_command(sources, payment, verb.as_str(), fifth.as_str())
             }
         }
         _ => None,

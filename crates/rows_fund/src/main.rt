@@ -3,6 +3,7 @@
 #![tactic(auto)]
 
 use fund_base::{FileShelf, StdSink, put_all, read_whole};
+use fund_outside::SureKeeper;
 use fund_top::run;
 use std::alloc::Global;
 use std::{env, io};
@@ -31,7 +32,8 @@ fn main(rt: HostRuntime) -> io::Result<()> {
             let words = words(alloc, verb.as_str(), word.as_str())?;
             let mut shelf = FileShelf::new(&rt);
             let mut out = StdSink::new(&rt);
-            let status = run(alloc, &words, &mut shelf, &mut out);
+            let mut keeper = SureKeeper::new(alloc);
+            let status = run(alloc, &words, &mut shelf, &mut out, &mut keeper);
             println!(rt; "status {}", status.code())?;
             if let Some(log) = words.get(4) {
                 if let Ok(log) = read_whole(alloc, &mut shelf, log.as_str(), 1_048_576) {

@@ -3,7 +3,10 @@
 //! this program.
 #![tactic(auto)]
 
+mod jobs;
+
 use fund_base::{FileShelf, MemShelf, MemSink, StdSink, SureShelf, SureSink, put_all, read_whole};
+use fund_outside::SureKeeper;
 use fund_top::{Status, run, run_in_memory};
 use std::alloc::Global;
 use std::io;
@@ -59,7 +62,8 @@ fn surely(
     let words = words(alloc, texts)?;
     let mut shelf = SureShelf::new(alloc, files);
     let mut sink = SureSink::new(alloc);
-    let status = run_in_memory(alloc, &words, &mut shelf, &mut sink);
+    let mut keeper = SureKeeper::new(alloc);
+    let status = run_in_memory(alloc, &words, &mut shelf, &mut sink, &mut keeper);
     show(rt, row, status, sink.written(), shelf.file("log"))
 }
 
@@ -77,7 +81,8 @@ fn failing(
     let writes = Vec::from_slice(alloc, writes)?;
     let mut shelf = MemShelf::new(alloc, files(rt)?, reads, writes);
     let mut sink = MemSink::new(alloc, Vec::from_slice(alloc, puts)?);
-    let status = run(alloc, &words, &mut shelf, &mut sink);
+    let mut keeper = SureKeeper::new(alloc);
+    let status = run(alloc, &words, &mut shelf, &mut sink, &mut keeper);
     show(rt, row, status, sink.written(), shelf.file("log"))
 }
 
@@ -87,7 +92,8 @@ fn without_files(rt: &HostRuntime, row: &str, texts: &[&str]) -> io::Result<()> 
     let words = words(alloc, texts)?;
     let mut shelf = MemShelf::new(alloc, Vec::new(alloc), Vec::new(alloc), Vec::new(alloc));
     let mut sink = MemSink::new(alloc, Vec::new(alloc));
-    let status = run(alloc, &words, &mut shelf, &mut sink);
+    let mut keeper = SureKeeper::new(alloc);
+    let status = run(alloc, &words, &mut shelf, &mut sink, &mut keeper);
     show(rt, row, status, sink.written(), shelf.file("a"))
 }
 
@@ -104,6 +110,61 @@ fn no_commands(rt: &HostRuntime) -> io::Result<()> {
     without_files(rt, "coins with four names", &["coins", "a", "b", "c", "d"])
 }
 
+/// Words with the name of a job, which is one in the last row alone.
+fn names_of_jobs(rt: &HostRuntime) -> io::Result<()> {
+    without_files(rt, "an empty job", &["fund", "a", "b", "c", "d", ""])?;
+    without_files(
+        rt,
+        "a job of 33 letters",
+        &[
+            "fund",
+            "a",
+            "b",
+            "c",
+            "d",
+            "abcdefghijklmnopqrstuvwxyzABCDEFG",
+        ],
+    )?;
+    without_files(
+        rt,
+        "a job with a low line",
+        &["fund", "a", "b", "c", "d", "job_1"],
+    )?;
+    without_files(
+        rt,
+        "a job with a blank",
+        &["resume", "a", "b", "c", "d", "job 1"],
+    )?;
+    without_files(
+        rt,
+        "a job with a letter that isn't of ASCII",
+        &["resume", "a", "b", "c", "d", "j\u{f6}b"],
+    )?;
+    without_files(
+        rt,
+        "a log that is the request",
+        &["resume", "a", "b", "c", "c", "job-1"],
+    )?;
+    without_files(rt, "resume without a job", &["resume", "a", "b", "c", "d"])?;
+    without_files(
+        rt,
+        "a word behind the job",
+        &["fund", "a", "b", "c", "d", "job-1", "e"],
+    )?;
+    without_files(
+        rt,
+        "a job of 32 letters, digits and hyphens",
+        &[
+            "resume",
+            "a",
+            "b",
+            "c",
+            "d",
+            "abcdefghijklmnopqrstuvwxyzAZ-019",
+        ],
+    )
+}
+
 fn main(rt: HostRuntime) -> io::Result<()> {
     surely(&rt, "fund", &FUND, files(&rt)?)?;
     surely(&rt, "coins", &COINS, files(&rt)?)?;
@@ -114,6 +175,7 @@ fn main(rt: HostRuntime) -> io::Result<()> {
         Vec::new(rt.alloc()),
     )?;
     no_commands(&rt)?;
+    names_of_jobs(&rt)?;
     failing(&rt, "none fails", &[], &[], &[])?;
     // The wallet and the request are read twice each, the second time at their end. The empty block file is read three times:
     // for a record's head, for the zero bytes at its end, and for a byte above the limit.
@@ -124,5 +186,5 @@ fn main(rt: HostRuntime) -> io::Result<()> {
     failing(&rt, "eighth read fails", &[7], &[], &[])?;
     failing(&rt, "first write fails", &[], &[0], &[])?;
     failing(&rt, "first put fails", &[], &[], &[0])?;
-    Ok(())
+    jobs::failing_keepers(&rt)
 }

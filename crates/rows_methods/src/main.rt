@@ -4,6 +4,7 @@
 #![tactic(auto)]
 
 use fund_base::{StdSink, SureShelf, SureSink, put_all};
+use fund_outside::SureKeeper;
 use fund_top::run_in_memory;
 use std::alloc::Global;
 use std::io;
@@ -46,7 +47,8 @@ fn fund(rt: &HostRuntime, name: &str, files: Vec<(String, Vec<u8>)>) -> io::Resu
     let words = words(alloc)?;
     let mut shelf = SureShelf::new(alloc, files);
     let mut sink = SureSink::new(alloc);
-    let status = run_in_memory(alloc, &words, &mut shelf, &mut sink);
+    let mut keeper = SureKeeper::new(alloc);
+    let status = run_in_memory(alloc, &words, &mut shelf, &mut sink, &mut keeper);
     println!(rt; "{}: status {}", name, status.code())?;
     let mut out = StdSink::new(rt);
     let _ = put_all(&mut out, sink.written());

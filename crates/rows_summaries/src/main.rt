@@ -3,6 +3,7 @@
 #![tactic(auto)]
 
 use fund_base::{StdSink, SureShelf, SureSink, put_all};
+use fund_outside::SureKeeper;
 use fund_top::run_in_memory;
 use std::alloc::Global;
 use std::io;
@@ -23,7 +24,8 @@ fn row(rt: &HostRuntime, line: &str) -> io::Result<()> {
     let words = words(alloc, line)?;
     let mut shelf = SureShelf::new(alloc, Vec::new(alloc));
     let mut sink = SureSink::new(alloc);
-    let status = run_in_memory(alloc, &words, &mut shelf, &mut sink);
+    let mut keeper = SureKeeper::new(alloc);
+    let status = run_in_memory(alloc, &words, &mut shelf, &mut sink, &mut keeper);
     let mut out = StdSink::new(rt);
     let _ = put_all(&mut out, sink.written());
     println!(rt; "status {}", status.code())

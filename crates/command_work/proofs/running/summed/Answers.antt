@@ -6,7 +6,8 @@ pub returns-in-Unfinished : goal.returns-in-Unfinished
 returns-in-Unfinished c =
     let ends = rw c.in-Unfinished.is at c.requires.ends in
     let w = rw c.deref.ensures.value at c.with_status.ensures in
-    if_run c.args.number c.args.count c.in-Unfinished.report.items statuses.Unfinished c.with_status.result (λ summary is. run_open c.args.number c.args.count c.in-Unfinished.report.items summary c.requires.distinct ends is) w.summary w.status
+    let l = c.in-Unfinished.left in
+    if_run c.args.number c.args.count l.report.items statuses.Unfinished c.with_status.result (λ summary is. run_open c.args.number c.args.count l.report.items summary c.requires.distinct (ends.0, ends.1) is) w.summary w.status
 
 pub returns-in-NoSelection : goal.returns-in-NoSelection
 returns-in-NoSelection c =

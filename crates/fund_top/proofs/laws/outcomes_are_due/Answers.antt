@@ -1,5 +1,6 @@
 use Rattle.std.proofs.Common.{refl}
 use Rattle.fund_plan.specs.declared.outcome.Outcome.TheVariants as answers
+use Rattle.command_resume.specs.Due as resumes
 use Rattle.fund_top.proofs.DueLaws.{answer_due, listing_due, load_due, one_due, refusal_due}
 use Rattle.fund_top.proofs.laws.outcomes_are_due.Goals as goal
 
@@ -10,25 +11,31 @@ pub returns-clause-listed : goal.returns-clause-listed
 returns-clause-listed c = listing_due
 
 pub returns-clause-funded : goal.returns-clause-funded
-returns-clause-funded c = λ files s p w blocks r f has rules is. answer_due files s p w blocks r (answers.Funded f) has rules is
+returns-clause-funded c = λ files jobs s p job w blocks r f has rules is. answer_due files jobs s p job w blocks r (answers.Funded f) has rules is
 
 pub returns-clause-none : goal.returns-clause-none
-returns-clause-none c = λ files s p w blocks r has rules is. answer_due files s p w blocks r answers.NoSelection has rules is
+returns-clause-none c = λ files jobs s p job w blocks r has rules is. answer_due files jobs s p job w blocks r answers.NoSelection has rules is
 
 pub returns-clause-unfinished : goal.returns-clause-unfinished
-returns-clause-unfinished c = λ files s p w blocks r has rules is. answer_due files s p w blocks r answers.Unfinished has rules is
+returns-clause-unfinished c = λ files jobs s p job w blocks r has rules is. answer_due files jobs s p job w blocks r answers.Unfinished has rules is
+
+pub returns-clause-gone : goal.returns-clause-gone
+returns-clause-gone c = λ files jobs s p job due h. (resumes.Gone due, h, refl)
+
+pub returns-clause-not_kept : goal.returns-clause-not_kept
+returns-clause-not_kept c = λ files jobs s p job fault h. (resumes.NotKept fault, h, refl)
 
 pub returns-clause-summed : goal.returns-clause-summed
-returns-clause-summed c = λ files number count f some most distinct is. load_due files number count (answers.Funded f) some most distinct is
+returns-clause-summed c = λ files jobs number count f some most distinct is. load_due files jobs number count (answers.Funded f) some most distinct is
 
 pub returns-clause-summed_none : goal.returns-clause-summed_none
-returns-clause-summed_none c = λ files number count some most distinct is. load_due files number count answers.NoSelection some most distinct is
+returns-clause-summed_none c = λ files jobs number count some most distinct is. load_due files jobs number count answers.NoSelection some most distinct is
 
 pub returns-clause-summed_open : goal.returns-clause-summed_open
-returns-clause-summed_open c = λ files number count some most distinct is. load_due files number count answers.Unfinished some most distinct is
+returns-clause-summed_open c = λ files jobs number count some most distinct is. load_due files jobs number count answers.Unfinished some most distinct is
 
 pub returns-clause-judged : goal.returns-clause-judged
-returns-clause-judged c = λ files s p report due d. (due, d, refl)
+returns-clause-judged c = λ files jobs s p report due d. (due, d, refl)
 
 pub returns-clause-one : goal.returns-clause-one
 returns-clause-one c = one_due

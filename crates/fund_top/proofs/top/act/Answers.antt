@@ -1,19 +1,34 @@
 use Rattle.command_end.specs.Names.{plain_sources}
-use Rattle.command_fund.specs.Names.{plain_payment}
-use Rattle.fund_top.proofs.EndsLaws.{check_ends, listing_ends, load_ends, payment_ends}
+use Rattle.command_fund.specs.Names.{plain_job, plain_payment}
+use Rattle.fund_top.proofs.AskedLaws.{payment_asks}
+use Rattle.fund_top.proofs.CommandEnds.{check_ends, listing_ends, load_ends, payment_ends, resume_ends}
 use Rattle.fund_top.proofs.top.act.Goals as goal
 
 pub returns-in-Coins-clause-ends : goal.returns-in-Coins-clause-ends
 returns-in-Coins-clause-ends g c =
-    rw c.in-Coins.is (listing_ends g.H.Shelf.tells g.O.Sink.tells (plain_sources c.in-Coins.sources) (g.H.Shelf.view c.args.shelf.now) (g.H.Shelf.view c.coins.new.shelf) (g.O.Sink.view c.args.out.now) (g.O.Sink.view c.coins.new.out) c.coins.result c.coins.ensures.ends)
+    rw c.in-Coins.is (listing_ends g.H.Shelf.tells g.O.Sink.tells g.K.Keeper.tells (plain_sources c.in-Coins.sources) (g.H.Shelf.view c.args.shelf.now) (g.H.Shelf.view c.coins.new.shelf) (g.O.Sink.view c.args.out.now) (g.O.Sink.view c.coins.new.out) (g.K.Keeper.view c.args.keeper.now) (g.K.Keeper.view c.args.keeper.now) c.coins.result c.coins.ensures.ends)
 
 pub returns-in-Fund-clause-ends : goal.returns-in-Fund-clause-ends
 returns-in-Fund-clause-ends g c =
-    rw c.in-Fund.is (payment_ends g.H.Shelf.tells g.O.Sink.tells (plain_sources c.in-Fund.sources) (plain_payment c.in-Fund.payment) (g.H.Shelf.view c.args.shelf.now) (g.H.Shelf.view c.fund.new.shelf) (g.O.Sink.view c.args.out.now) (g.O.Sink.view c.fund.new.out) c.fund.result c.fund.ensures.ends)
+    rw c.in-Fund.is (payment_ends g.H.Shelf.tells g.O.Sink.tells g.K.Keeper.tells (plain_sources c.in-Fund.sources) (plain_payment c.in-Fund.payment) (plain_job c.in-Fund.job) (g.H.Shelf.view c.args.shelf.now) (g.H.Shelf.view c.fund.new.shelf) (g.O.Sink.view c.args.out.now) (g.O.Sink.view c.fund.new.out)
+    (g.K.Keeper.view c.args.keeper.now) (g.K.Keeper.view c.fund.new.keeper) c.fund.result c.fund.ensures.ends)
+
+pub returns-in-Fund-clause-asked : goal.returns-in-Fund-clause-asked
+returns-in-Fund-clause-asked g c =
+    rw c.in-Fund.is (λ told. payment_asks (plain_sources c.in-Fund.sources) (plain_payment c.in-Fund.payment) c.in-Fund.job (g.H.Shelf.view c.args.shelf.now) (g.H.Shelf.view c.fund.new.shelf) (c.fund.ensures.asked told) (c.fund.ensures.asked_once told))
+
+pub returns-in-Resume-clause-ends : goal.returns-in-Resume-clause-ends
+returns-in-Resume-clause-ends g c =
+    rw c.in-Resume.is (resume_ends g.H.Shelf.tells g.O.Sink.tells g.K.Keeper.tells (plain_sources c.in-Resume.sources) (plain_payment c.in-Resume.payment) c.in-Resume.job.now (g.H.Shelf.view c.args.shelf.now) (g.H.Shelf.view c.resume.new.shelf) (g.O.Sink.view c.args.out.now) (g.O.Sink.view c.resume.new.out)
+    (g.K.Keeper.view c.args.keeper.now) (g.K.Keeper.view c.resume.new.keeper) c.resume.result c.resume.ensures.ends)
 
 pub returns-in-Check-clause-ends : goal.returns-in-Check-clause-ends
 returns-in-Check-clause-ends g c =
-    rw c.in-Check.is (check_ends g.H.Shelf.tells g.O.Sink.tells (plain_sources c.in-Check.sources) (plain_payment c.in-Check.payment) c.in-Check.report.now (g.H.Shelf.view c.args.shelf.now) (g.H.Shelf.view c.check.new.shelf) (g.O.Sink.view c.args.out.now) (g.O.Sink.view c.check.new.out) c.check.result c.check.ensures.ends)
+    rw c.in-Check.is (check_ends g.H.Shelf.tells g.O.Sink.tells g.K.Keeper.tells (plain_sources c.in-Check.sources) (plain_payment c.in-Check.payment) c.in-Check.report.now (g.H.Shelf.view c.args.shelf.now) (g.H.Shelf.view c.check.new.shelf) (g.O.Sink.view c.args.out.now) (g.O.Sink.view c.check.new.out)
+    (g.K.Keeper.view c.args.keeper.now) (g.K.Keeper.view c.args.keeper.now) c.check.result c.check.ensures.ends)
+
+pub returns-in-Check-clause-asked : goal.returns-in-Check-clause-asked
+returns-in-Check-clause-asked g c = rw c.in-Check.is c.check.ensures.asked
 
 pub work-requires : goal.work-requires
 work-requires g c =
@@ -22,4 +37,5 @@ work-requires g c =
 
 pub returns-in-Work-clause-ends : goal.returns-in-Work-clause-ends
 returns-in-Work-clause-ends g c =
-    rw c.in-Work.is (load_ends g.H.Shelf.tells g.O.Sink.tells c.in-Work.number c.in-Work.count (g.H.Shelf.view c.args.shelf.now) (g.H.Shelf.view c.args.shelf.now) (g.O.Sink.view c.args.out.now) (g.O.Sink.view c.work.new.out) c.work.result c.work.ensures.ends)
+    rw c.in-Work.is (load_ends g.H.Shelf.tells g.O.Sink.tells g.K.Keeper.tells c.in-Work.number c.in-Work.count (g.H.Shelf.view c.args.shelf.now) (g.H.Shelf.view c.args.shelf.now) (g.O.Sink.view c.args.out.now) (g.O.Sink.view c.work.new.out)
+    (g.K.Keeper.view c.args.keeper.now) (g.K.Keeper.view c.args.keeper.now) c.work.result c.work.ensures.ends)

@@ -2,7 +2,7 @@ use Rattle.std.proofs.Common.{ap}
 use Rattle.std.proofs.lemmas.Result.{err_from_is_err_and}
 use Rattle.fund_files.specs.declared.held.Held.{Held}
 use Rattle.command_fund.proofs.PlanLaws.{plan_stops_at}
-use Rattle.command_fund.proofs.funding.plan.Goals as goal
+use Rattle.command_fund.proofs.funding.new_plan.Goals as goal
 
 pub returns-in_err-plan-clause-stop : goal.returns-in_err-plan-clause-stop
 returns-in_err-plan-clause-stop c =

@@ -1,0 +1,33 @@
+use Rattle.std.proofs.Common.{inl, inr, refl}
+use Rattle.command_end.specs.Names.{plain_sources}
+use Rattle.command_fund.specs.Names.{plain_payment}
+use Rattle.command_fund.proofs.LeavingLaws.{not_left, put_jobs, same_jobs}
+use Rattle.command_fund.proofs.command.leave.Goals as goal
+
+pub returns-in-Ok-clause-left : goal.returns-in-Ok-clause-left
+returns-in-Ok-clause-left g c =
+    rw c.in-Some.is (inl (rw c.deref.ensures.value at c.put_report.ensures.ends, λ k. (c.keep_anew.ensures.others k, λ t within. c.in-Ok.ensures.kept t k within)))
+
+pub returns-in-Ok-clause-jobs : goal.returns-in-Ok-clause-jobs
+returns-in-Ok-clause-jobs g c = λ k.
+    rw c.in-Some.is (put_jobs _ c.args.left.now.report.items c.in-Some.job.now (g.O.Sink.view c.args.out.now) (g.O.Sink.view c.put_report.new.out) (g.K.Keeper.view c.args.keeper.now) (g.K.Keeper.view c.keep_anew.new.keeper) c.put_report.result (rw c.deref.ensures.value at c.put_report.ensures.ends) (c.keep_anew.ensures.others k))
+
+pub returns-in-Ok-clause-unasked : goal.returns-in-Ok-clause-unasked
+returns-in-Ok-clause-unasked g c = λ none. absurd (let e = c.in-Some.is in cc)
+
+pub returns-in-Err-clause-left : goal.returns-in-Err-clause-left
+returns-in-Err-clause-left g c =
+    rw c.in-Some.is (inr (not_left _ (plain_sources c.args.sources.now) (plain_payment c.args.payment.now) c.in-Some.job.now c.in-Err.stop (g.H.Shelf.view c.args.shelf.now) (g.H.Shelf.view c.keep_anew.new.shelf) (g.O.Sink.view c.args.out.now) (g.O.Sink.view c.answer.new.out) (g.K.Keeper.view c.args.keeper.now) (g.K.Keeper.view c.keep_anew.new.keeper) c.answer.result c.in-Err.ensures.stop c.answer.ensures.line, λ k. c.in-Err.ensures.same k))
+
+pub returns-in-Err-clause-jobs : goal.returns-in-Err-clause-jobs
+returns-in-Err-clause-jobs g c = λ k. same_jobs _ _ (g.K.Keeper.view c.args.keeper.now) (g.K.Keeper.view c.keep_anew.new.keeper) (c.in-Err.ensures.same k)
+
+pub returns-in-Err-clause-unasked : goal.returns-in-Err-clause-unasked
+returns-in-Err-clause-unasked g c = λ none. absurd (let e = c.in-Some.is in cc)
+
+pub returns-in-None-clause-left : goal.returns-in-None-clause-left
+returns-in-None-clause-left g c =
+    rw c.in-None.is (inl (rw c.deref-in-None.ensures.value at c.put_report-in-None.ensures.ends, refl))
+
+pub returns-in-None-clause-jobs : goal.returns-in-None-clause-jobs
+returns-in-None-clause-jobs g c = λ k. same_jobs _ _ (g.K.Keeper.view c.args.keeper.now) (g.K.Keeper.view c.args.keeper.now) refl

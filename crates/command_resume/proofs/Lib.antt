@@ -1,0 +1,13 @@
+pub mod AnswerLaws
+pub mod EndingLaws
+pub mod EndsLaws
+pub mod Finished
+pub mod GoesLaws
+pub mod GoingLaws
+pub mod InputLaws
+pub mod LeavingLaws
+pub mod OnceLaws
+pub mod OneLaws
+pub mod RefusedLaws
+pub mod StopLaws
+pub mod UninterruptedLaws

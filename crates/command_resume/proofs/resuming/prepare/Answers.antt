@@ -1,0 +1,50 @@
+use Rattle.std.proofs.lemmas.Result.{err_from_is_err_and}
+use Rattle.fund_files.proofs.FrameLaws.{only_reads_on}
+use Rattle.command_end.specs.Names.{plain_sources}
+use Rattle.command_fund.proofs.LeavingLaws.{asked_once, asked_twice}
+use Rattle.command_fund.specs.Names.{plain_payment}
+use Rattle.command_resume.proofs.GoingLaws.{named_on, plan_stopped, reading_stopped}
+use Rattle.command_resume.proofs.resuming.prepare.Goals as goal
+
+pub returns-in_err-held-clause-asked : goal.returns-in_err-held-clause-asked
+returns-in_err-held-clause-asked g c = λ t. asked_once (plain_sources c.args.sources.now) (plain_payment c.args.payment.now) (g.H.Shelf.view c.args.shelf.now) (g.H.Shelf.view c.read_inputs.new.shelf) (c.read_inputs.ensures.asked t)
+
+pub returns-in_err-plan-clause-stop : goal.returns-in_err-plan-clause-stop
+returns-in_err-plan-clause-stop g c =
+    let p = err_from_is_err_and c.from_residual-in_err-plan.result c.from_residual-in_err-plan.ensures.1 in
+    let i = c.in_ok-held.field-0 in
+    rw (p.1, p.2) (plan_stopped _ (plain_sources c.args.sources.now) (plain_payment c.args.payment.now) i.held i.request (g.H.Shelf.view c.args.shelf.now) c.in_ok-held.ensures.held (g.H.Shelf.view c.read_inputs.new.shelf) c.in_err-plan.field-0.0 c.in_err-plan.ensures.stop)
+
+pub returns-in_err-plan-clause-asked : goal.returns-in_err-plan-clause-asked
+returns-in_err-plan-clause-asked g c = λ t. asked_once (plain_sources c.args.sources.now) (plain_payment c.args.payment.now) (g.H.Shelf.view c.args.shelf.now) (g.H.Shelf.view c.read_inputs.new.shelf) (c.read_inputs.ensures.asked t)
+
+pub returns-in_err-digest-clause-stop : goal.returns-in_err-digest-clause-stop
+returns-in_err-digest-clause-stop g c =
+    let p = err_from_is_err_and c.from_residual-in_err-digest.result c.from_residual-in_err-digest.ensures.1 in
+    let i = c.in_ok-held.field-0 in
+    rw (p.1, p.2) (reading_stopped _ (plain_sources c.args.sources.now) (plain_payment c.args.payment.now) i.held i.request (g.H.Shelf.view c.args.shelf.now) c.in_ok-held.ensures.held (g.H.Shelf.view c.read_inputs.new.shelf) (g.H.Shelf.view c.read_digest.new.shelf)
+    c.in_err-digest.field-0.0 c.read_inputs.ensures.frame c.in_err-digest.ensures.stop)
+
+pub returns-in_err-digest-clause-frame : goal.returns-in_err-digest-clause-frame
+returns-in_err-digest-clause-frame g c = only_reads_on _ (g.H.Shelf.view c.args.shelf.now) (g.H.Shelf.view c.read_inputs.new.shelf) (g.H.Shelf.view c.read_digest.new.shelf) c.read_inputs.ensures.frame c.read_digest.ensures.frame
+
+pub returns-in_err-digest-clause-asked : goal.returns-in_err-digest-clause-asked
+returns-in_err-digest-clause-asked g c = λ t. asked_twice (plain_sources c.args.sources.now) (plain_payment c.args.payment.now) (g.H.Shelf.view c.args.shelf.now) (g.H.Shelf.view c.read_inputs.new.shelf) (g.H.Shelf.view c.read_digest.new.shelf) (c.read_inputs.ensures.asked t) (c.read_digest.ensures.asked t)
+
+pub returns-clause-ready : goal.returns-clause-ready
+returns-clause-ready g c =
+    let i = c.in_ok-held.field-0 in
+    let s = plain_sources c.args.sources.now in
+    let q = plain_payment c.args.payment.now in
+    let old = g.H.Shelf.view c.args.shelf.now in
+    record {
+      asked = c.in_ok-held.ensures.held;
+      planned = record { is = c.in_ok-plan.ensures.plan.plan; rules = c.keeps_rules.ensures; steps = c.keeps_steps.ensures };
+      named = named_on _ s q i.held i.request old c.in_ok-held.ensures.held (g.H.Shelf.view c.read_inputs.new.shelf) c.in_ok-digest.digest c.read_inputs.ensures.frame c.in_ok-digest.ensures.digest;
+    }
+
+pub returns-clause-frame : goal.returns-clause-frame
+returns-clause-frame g c = only_reads_on _ (g.H.Shelf.view c.args.shelf.now) (g.H.Shelf.view c.read_inputs.new.shelf) (g.H.Shelf.view c.read_digest.new.shelf) c.read_inputs.ensures.frame c.read_digest.ensures.frame
+
+pub returns-clause-asked : goal.returns-clause-asked
+returns-clause-asked g c = λ t. asked_twice (plain_sources c.args.sources.now) (plain_payment c.args.payment.now) (g.H.Shelf.view c.args.shelf.now) (g.H.Shelf.view c.read_inputs.new.shelf) (g.H.Shelf.view c.read_digest.new.shelf) (c.read_inputs.ensures.asked t) (c.read_digest.ensures.asked t)

@@ -1,0 +1,9 @@
+pub mod Due
+pub mod Endings
+pub mod Leaving
+pub mod Ready
+pub mod Resumed
+pub mod Runs
+pub mod Statuses
+pub mod Stops
+pub mod Words

@@ -1,0 +1,183 @@
+//! How a request ends that is gone on with from a kept job.
+
+ghost use Rattle.std.specs.Prelude.{◌≡◌, ◌≢◌, ◌≤◌, Err, IfErr, IfOk, IsErrOf};
+ghost use Rattle.fund_base.specs.Causes.{OnlyReads, Rose};
+ghost use Rattle.fund_files.specs.Chain.{IsHeld};
+ghost use Rattle.command_end.specs.Names.{plain_sources};
+ghost use Rattle.command_fund.specs.Inputs.{AsksTwice};
+ghost use Rattle.command_fund.specs.Names.{plain_payment};
+ghost use Rattle.command_fund.specs.Stops as payments;
+ghost use Rattle.kept_job.specs.Refused.{IsNotResumed};
+ghost use Rattle.command_resume.specs.Endings.{IsEnded};
+ghost use Rattle.command_resume.specs.Ready.{HasEnded, IsPlanned, IsReady};
+ghost use Rattle.command_resume.specs.Runs.{IsConcluded, IsRunOn};
+ghost use Rattle.command_resume.specs.Stops.{StopsFor};
+
+use crate::stop::Stop;
+use command_end::Sources;
+use command_fund::{
+    Inputs, Payment, Stop as FundStop, Texts, new_plan, none_texts, open_report, paid_texts,
+    read_digest, read_inputs,
+};
+use fund_base::{Memory, Shelf};
+use fund_files::Held;
+use fund_outside::Keeper;
+use fund_plan::{Outcome, Plan};
+use kept_job::{Behind, KeptFault, Resumed};
+use request_text::Request;
+use std::alloc::Global;
+
+/// A run that goes on: its report, its plan, which stands where the tries led, the digest of its job, and what is kept of its
+/// log already.
+#[derive(Drop)]
+pub struct Left {
+    pub report: Vec<u8>,
+    pub plan: Plan,
+    pub digest: [u8; 32],
+    pub behind: Behind,
+}
+
+/// How a request ends that isn't refused, nor is its job.
+#[derive(Drop)]
+pub enum Ending {
+    /// The tries are used up, and a search is open.
+    Unfinished(Left),
+    /// Nothing pays for what is asked.
+    NoSelection(Texts),
+    /// A payment, with its report.
+    Funded(Texts),
+}
+
+/// A plan that went on from the job of this digest, and what it came to.
+#[derive(Drop)]
+struct Run {
+    plan: Plan,
+    digest: [u8; 32],
+    resumed: Resumed,
+}
+
+/// The files of a command, read: what is asked, the plan of it, and the digest of its job.
+#[derive(Drop)]
+struct Ready {
+    held: Held,
+    request: Request,
+    plan: Plan,
+    digest: [u8; 32],
+}
+
+/// How the request ends after this run of its plan. The error is out of memory.
+fn ends(alloc: Global, held: &Held, request: &Request, run: Run) -> Result<Ending, Memory>
+    requires held { IsHeld held.now }
+    requires run { IsRunOn held.now request.now run }
+    ensures { IfOk result (IsConcluded held.now request.now run) }
+{
+    let Run {
+        plan,
+        digest,
+        resumed,
+    } = run;
+    let Resumed {
+        outcome,
+        parts,
+        length,
+    } = resumed;
+    match outcome {
+        Outcome::Unfinished => {
+            let report = open_report(alloc, &plan)?;
+            let behind = Behind { parts, length };
+            Ok(Ending::Unfinished(Left {
+                report,
+                plan,
+                digest,
+                behind,
+            }))
+        }
+        Outcome::NoSelection => {
+            let texts = none_texts(alloc, &plan)?;
+            Ok(Ending::NoSelection(texts))
+        }
+        Outcome::Funded(funded) => {
+            let texts = paid_texts(alloc, held, request, &plan, &funded)?;
+            Ok(Ending::Funded(texts))
+        }
+    }
+}
+
+/// What is read of the files of a command: its request, with the plan and the digest of its job.
+fn prepare<H: Shelf>(
+    alloc: Global,
+    sources: &Sources,
+    payment: &Payment,
+    shelf: &mut H,
+) -> Result<Ready, FundStop>
+    ensures ready { IfOk result (IsReady H.tells (H.view shelf.old).files (plain_sources sources.now) (plain_payment payment.now)) }
+    ensures frame { OnlyReads H.tells (H.view shelf.old) (H.view shelf.new) }
+    ensures stop { IfErr result (payments.StopsFor H.tells (plain_sources sources.now) (plain_payment payment.now) (H.view shelf.old) (H.view shelf.new)) }
+    ensures asked { H.tells → AsksTwice (plain_sources sources.now) (plain_payment payment.now) (H.view shelf.old) (H.view shelf.new) }
+{
+    let Inputs { held, request } = read_inputs(alloc, sources, payment, shelf)?;
+    let plan = new_plan(alloc, &held, &request)?;
+    plan.keeps_rules();
+    plan.keeps_steps();
+    let digest = read_digest(alloc, sources, payment, shelf)?;
+    Ok(Ready {
+        held,
+        request,
+        plan,
+        digest,
+    })
+}
+
+/// How a request ends whose files are read: its plan goes on from the job with the request's tries.
+fn run_on<K: Keeper>(
+    alloc: Global,
+    ready: Ready,
+    keeper: &mut K,
+    job: &str,
+) -> Result<Ending, KeptFault>
+    requires held { IsHeld ready.held }
+    requires plan { IsPlanned ready }
+    ensures ends { IfOk result (HasEnded K.tells ready ((K.view keeper.old).jobs job.now)) }
+    ensures fault { K.tells → IfErr result (IsNotResumed ready.plan.plan ready.digest ((K.view keeper.old).jobs job.now) ready.request.tries) }
+    ensures cause { IsErrOf result KeptFault.Failed → Rose (K.view keeper.old).faults (K.view keeper.new).faults }
+    ensures unfailed { result ≢ Err KeptFault.Failed → (K.view keeper.new).faults ≡ (K.view keeper.old).faults }
+    ensures jobs { K.tells → (K.view keeper.new).jobs ≡ (K.view keeper.old).jobs }
+    ensures faults { (K.view keeper.old).faults ≤ (K.view keeper.new).faults }
+{
+    let Ready {
+        held,
+        request,
+        mut plan,
+        digest,
+    } = ready;
+    let resumed = kept_job::resume(alloc, &mut plan, keeper, job, &digest, request.tries)?;
+    let run = Run {
+        plan,
+        digest,
+        resumed,
+    };
+    let ending = ends(alloc, &held, &request, run)?;
+    Ok(ending)
+}
+
+/// How a request ends whose files are read and whose job is loaded: its plan goes on from the job with the request's tries.
+pub fn go_on<H: Shelf, K: Keeper>(
+    alloc: Global,
+    sources: &Sources,
+    payment: &Payment,
+    job: &str,
+    shelf: &mut H,
+    keeper: &mut K,
+) -> Result<Ending, Stop>
+    ensures ends { IfOk result (IsEnded H.tells K.tells (H.view shelf.old).files (plain_sources sources.now) (plain_payment payment.now) ((K.view keeper.old).jobs job.now)) }
+    ensures frame { OnlyReads H.tells (H.view shelf.old) (H.view shelf.new) }
+    ensures stop { IfErr result (StopsFor H.tells K.tells (plain_sources sources.now) (plain_payment payment.now) job.now (H.view shelf.old) (H.view shelf.new) (K.view keeper.old) (K.view keeper.new)) }
+    ensures asked { H.tells → AsksTwice (plain_sources sources.now) (plain_payment payment.now) (H.view shelf.old) (H.view shelf.new) }
+    ensures jobs { K.tells → (K.view keeper.new).jobs ≡ (K.view keeper.old).jobs }
+    ensures unfailed { result ≢ Err (Stop.Kept KeptFault.Failed) → (K.view keeper.new).faults ≡ (K.view keeper.old).faults }
+    ensures faults { (K.view keeper.old).faults ≤ (K.view keeper.new).faults }
+{
+    let ready = prepare(alloc, sources, payment, shelf)?;
+    let ending = run_on(alloc, ready, keeper, job)?;
+    Ok(ending)
+}
