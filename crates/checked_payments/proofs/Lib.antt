@@ -1,0 +1,10 @@
+pub mod AnswerLaws
+pub mod CommandLaws
+pub mod FoundLaws
+pub mod LengthLaws
+pub mod LineLaws
+pub mod PsbtLaws
+pub mod ReportLaws
+pub mod RunLaws
+pub mod ShortLaws
+pub mod TellLaws
