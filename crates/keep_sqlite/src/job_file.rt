@@ -6,15 +6,19 @@ ghost use Rattle.fund_base.specs.Causes.{Rose, one_more};
 use crate::tables;
 use crate::told::told;
 use fund_outside::{KeepFault, Keeper};
-use sqlite::{Connection, Error, File, FileStore};
+use sqlite::{Connection, Error, ErrorCode, File, FileStore};
+use std::fs::OpenOptions;
+use std::io::ErrorKind;
 use std::ops::Deref;
+use std::os::unix::fs::OpenOptionsExt;
 
 /// The name of the job file.
 const NAME: &str = "fund-jobs.sqlite";
 
 /// Jobs kept in the file `fund-jobs.sqlite` of the current folder, as [`JobTables`](crate::JobTables) keeps them. The
 /// file is opened, or made, by the first call, and held until the keeper is dropped: another program that asks for it
-/// meanwhile is refused at once. A file that can't be opened fails the call, and the next call tries again.
+/// meanwhile is refused at once. A file that can't be opened fails the call, and the next call tries again. A file that
+/// is made is its owner's alone to read and write, and so is its log.
 pub struct SqliteKeeper<R: Deref<Target = HostRuntime> + Drop> {
     rt: R,
     connection: Option<Connection<FileStore<File>>>,
@@ -51,6 +55,23 @@ impl<R: Deref<Target = HostRuntime> + Drop> Drop for SqliteKeeper<R> {
     }
 }
 
+/// Makes the file, empty and its owner's alone, where nothing has its name.
+fn make_private(rt: &HostRuntime) -> Result<(), Error> {
+    let made = OpenOptions::new()
+        .write(true)
+        .create_new(true)
+        .mode(0o600)
+        .open(rt, NAME);
+    match made {
+        Ok(_) => Ok(()),
+        Err(error) => match error.kind() {
+            ErrorKind::AlreadyExists => Ok(()),
+            ErrorKind::OutOfMemory => Err(Error::SqliteFailure(ErrorCode::OutOfMemory)),
+            _ => Err(Error::SqliteFailure(ErrorCode::CannotOpen)),
+        },
+    }
+}
+
 /// The connection to the file, which is opened where it isn't yet.
 fn opened<'a>(
     rt: &HostRuntime,
@@ -58,7 +79,10 @@ fn opened<'a>(
 ) -> Result<&'a mut Connection<FileStore<File>>, Error> {
     match connection {
         Some(connection) => Ok(connection),
-        None => Ok(connection.insert(Connection::open(rt, NAME)?)),
+        None => {
+            make_private(rt)?;
+            Ok(connection.insert(Connection::open(rt, NAME)?))
+        }
     }
 }
 
