@@ -1,0 +1,60 @@
+#!/usr/bin/env bash
+# Times jobs that are kept and gone on with, by crates/fund_cli. First `fund` with 10,000,000 tries on the wallet of
+# `work 1 10000`, kept as a job: processor time and greatest memory. Then a job of 25 coins that nothing pays: three runs of
+# 3,000,000 tries, and a fourth that restores the job and makes the last 1,000,000. Beside it stands a `fund` of 1,000,000
+# tries of the same wallet, and `check` of a finished log of about 9,000,000 tries. A step that fails ends it with a non-zero
+# status; a time never does.
+#
+# usage: bench/resume.sh
+set -euo pipefail
+export LC_ALL=C
+
+top=$(cd "$(dirname "$0")/.." && pwd)
+program=$top/crates/fund_cli/out/fund_cli
+folder=$(mktemp -d)
+trap 'rm -rf "$folder"' EXIT
+
+# Proves and builds the program, and runs it on a small file of its folder data/.
+cd "$top/crates/fund_cli"
+rt run -- coins data/wallet.json data/blocks.dat >"$folder/small.txt" 2>"$folder/build.log" || { cat "$folder/build.log" >&2; exit 1; }
+[ -s "$folder/small.txt" ]
+cd "$folder"
+
+# timed WHAT STATUS COMMAND..: its processor time, its greatest memory, and the first words that it prints
+timed() {
+    python3 - "$@" <<'PYTHON'
+import os, sys
+
+what, status, *words = sys.argv[1:]
+child = os.fork()
+if child == 0:
+    os.dup2(os.open("printed", os.O_WRONLY | os.O_CREAT | os.O_TRUNC), 1)
+    os.execv(words[0], words)
+_, ended, used = os.wait4(child, 0)
+assert os.waitstatus_to_exitcode(ended) == int(status), (words, ended)
+said = " ".join(line for line in open("printed").read().split("\n") if line.split(" ")[0] in ("funded", "none", "unfinished", "tries", "accepted"))
+print(f"{what}: {used.ru_utime + used.ru_stime:.3f} s, {used.ru_maxrss / 1024:.0f} MiB, {said}")
+PYTHON
+}
+
+echo "load: $(cut -d' ' -f1-3 /proc/loadavg) on $(nproc) processors"
+python3 "$top/bench/make_work.py" wallet.json blocks.dat request.json 1 10000
+"$program" fund wallet.json blocks.dat request.json log >report
+[ "$("$program" work 1 10000 | tail -1)" = "report $(sha256sum report | cut -d' ' -f1)" ]
+python3 "$top/bench/make_work.py" wallet.json blocks.dat request.json 1 10000 10000000
+timed "10,000 coins, fund with a job" 10 "$program" fund wallet.json blocks.dat request.json log work
+ls -l fund-jobs.sqlite | awk '{ printf "the job file: %.1f MiB\n", $5 / 1048576 }'
+
+python3 "$top/bench/make_none.py" wallet.json blocks.dat request.json 25
+sed -i 's/"tries": 10000000/"tries": 3000000, "when_unfinished": "stop"/' request.json
+timed "25 coins, fund with a job" 10 "$program" fund wallet.json blocks.dat request.json log none
+for run in second third; do
+    timed "25 coins, the $run run" 10 "$program" resume wallet.json blocks.dat request.json log none
+done
+timed "25 coins, the last 1,000,000 tries" 10 "$program" resume wallet.json blocks.dat request.json log none
+sed 's/"tries": 3000000/"tries": 1000000/' request.json >short.json
+timed "25 coins, fund with 1,000,000 tries" 10 "$program" fund wallet.json blocks.dat short.json log
+python3 "$top/bench/make_none.py" wallet.json blocks.dat request.json 24
+timed "24 coins, fund" 11 "$program" fund wallet.json blocks.dat request.json log
+cp printed report
+timed "24 coins, check" 0 "$program" check wallet.json blocks.dat request.json report log
