@@ -1,0 +1,11 @@
+pub mod Commands
+pub mod Commits
+pub mod Does
+pub mod Machine
+pub mod Records
+pub mod Replies
+pub mod Rules
+pub mod Runs
+pub mod State
+pub mod Taken
+pub mod Turns
