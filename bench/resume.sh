@@ -1,9 +1,9 @@
 #!/usr/bin/env bash
 # Times jobs that are kept and gone on with, by crates/fund_cli. First `fund` with 10,000,000 tries on the wallet of
-# `work 1 10000`, kept as a job: processor time and greatest memory. Then a job of 25 coins that nothing pays: three runs of
-# 3,000,000 tries, and a fourth that restores the job and makes the last 1,000,000. Beside it stands a `fund` of 1,000,000
-# tries of the same wallet, and `check` of a finished log of about 9,000,000 tries. A step that fails ends it with a non-zero
-# status; a time never does.
+# `work 1 10000`, kept as a job: processor time and greatest memory. Then a job of 28 coins that nothing pays: three runs of
+# 3,000,000 tries, and a fourth that restores 9,000,000 and makes the last 1,000,000 that a job has, beside a `fund` of
+# 1,000,000. Then one of 26 coins, gone on with to its end, beside `check` of its report and log. A step that fails ends it
+# with a non-zero status; a time never does.
 #
 # usage: bench/resume.sh
 set -euo pipefail
@@ -45,16 +45,22 @@ python3 "$top/bench/make_work.py" wallet.json blocks.dat request.json 1 10000 10
 timed "10,000 coins, fund with a job" 10 "$program" fund wallet.json blocks.dat request.json log work
 ls -l fund-jobs.sqlite | awk '{ printf "the job file: %.1f MiB\n", $5 / 1048576 }'
 
-python3 "$top/bench/make_none.py" wallet.json blocks.dat request.json 25
-sed -i 's/"tries": 10000000/"tries": 3000000, "when_unfinished": "stop"/' request.json
-timed "25 coins, fund with a job" 10 "$program" fund wallet.json blocks.dat request.json log none
-for run in second third; do
-    timed "25 coins, the $run run" 10 "$program" resume wallet.json blocks.dat request.json log none
+# job COINS TRIES: the files of a payment that nothing pays, whose request asks for so many tries and to stop
+job() {
+    python3 "$top/bench/make_none.py" wallet.json blocks.dat request.json "$1"
+    sed -i "s/\"tries\": 10000000/\"tries\": $2, \"when_unfinished\": \"stop\"/" request.json
+}
+
+job 28 1000000
+timed "28 coins, fund with 1,000,000 tries" 10 "$program" fund wallet.json blocks.dat request.json log
+job 28 3000000
+timed "28 coins, fund with a job" 10 "$program" fund wallet.json blocks.dat request.json log open
+for run in second third fourth; do
+    timed "28 coins, the $run run" 10 "$program" resume wallet.json blocks.dat request.json log open
 done
-timed "25 coins, the last 1,000,000 tries" 10 "$program" resume wallet.json blocks.dat request.json log none
-sed 's/"tries": 3000000/"tries": 1000000/' request.json >short.json
-timed "25 coins, fund with 1,000,000 tries" 10 "$program" fund wallet.json blocks.dat short.json log
-python3 "$top/bench/make_none.py" wallet.json blocks.dat request.json 24
-timed "24 coins, fund" 11 "$program" fund wallet.json blocks.dat request.json log
+job 26 3000000
+timed "26 coins, fund with a job" 10 "$program" fund wallet.json blocks.dat request.json log none
+timed "26 coins, the second run" 10 "$program" resume wallet.json blocks.dat request.json log none
+timed "26 coins, the third run, to its end" 11 "$program" resume wallet.json blocks.dat request.json log none
 cp printed report
-timed "24 coins, check" 0 "$program" check wallet.json blocks.dat request.json report log
+timed "26 coins, check" 0 "$program" check wallet.json blocks.dat request.json report log
