@@ -142,16 +142,16 @@ unpaid_checked files files' s p name report log n k h =
 
 -- ---- what a payment from files wrote
 
-pub funded_checked : (files files' : List ℕ → List ℕ) (s : Sources) (p : Payment) (name report log : List ℕ) (k : IsFunded files s p report log) → AreSteps (steps_of (plan_of (held_of k.wallet k.blocks) k.asked)) → IsWithin report → StandWithLog files files' s p name report log
+pub funded_checked : (files files' : List ℕ → List ℕ) (s : Sources) (p : Payment) (name report log : List ℕ) (k : IsFunded files s p report log) → IsWithin report → StandWithLog files files' s p name report log
     → ComesTo files' s p name (Accepted (kinds.Funded (reported_of files s p report log k)))
-funded_checked files files' s p name report log k are short h =
+funded_checked files files' s p name report log k short h =
     let paid : HasPaid files s p k.asked.tries k.funded report log = record {
       wallet = k.wallet;
       blocks = k.blocks;
       asked = k.asked;
       inputs = k.inputs tt;
       plan = k.plan;
-      steps = are;
+      steps = k.steps;
       outcome = k.outcome;
       pays = k.pays;
       psbt = k.psbt;
@@ -163,16 +163,16 @@ funded_checked files files' s p name report log k are short h =
     } in
     paid_checked files files' s p name report log k.asked.tries k.funded paid short h
 
-pub none_checked : (files files' : List ℕ → List ℕ) (s : Sources) (p : Payment) (name report log : List ℕ) (k : IsNotFunded files s p report log) → AreSteps (steps_of (plan_of (held_of k.wallet k.blocks) k.asked)) → StandWithLog files files' s p name report log
+pub none_checked : (files files' : List ℕ → List ℕ) (s : Sources) (p : Payment) (name report log : List ℕ) (k : IsNotFunded files s p report log) → StandWithLog files files' s p name report log
     → ComesTo files' s p name (Accepted (kinds.NoSelection (tries_at (plan_of (held_of k.wallet k.blocks) k.asked) k.asked.tries)))
-none_checked files files' s p name report log k are h =
+none_checked files files' s p name report log k h =
     let none : HasNone files s p k.asked.tries report log = record {
       wallet = k.wallet;
       blocks = k.blocks;
       asked = k.asked;
       inputs = k.inputs tt;
       plan = k.plan;
-      steps = are;
+      steps = k.steps;
       outcome = k.outcome;
       told = k.told;
       logs = k.logs;

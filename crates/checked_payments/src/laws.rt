@@ -2,9 +2,7 @@
 
 ghost use Rattle.std.specs.Prelude.{ℕ, List};
 ghost use Rattle.fund_plan.specs.Outcome.{tries_at};
-ghost use Rattle.fund_plan.specs.Steps.{steps_of};
 ghost use Rattle.fund_report.specs.declared.report.Report.TheVariants as kinds;
-ghost use Rattle.search_run.specs.Step.{AreSteps};
 ghost use Rattle.fund_files.specs.Chain.{held_of};
 ghost use Rattle.command_check.specs.Due.{Accepted, ComesTo};
 ghost use Rattle.command_check.specs.Evidence.{IsWithin};
@@ -18,7 +16,7 @@ ghost use Rattle.checked_payments.specs.Beside.{IsFunded, IsNotFunded, IsUnfinis
 /// log, and its report is accepted by its form. A log is always short enough to be judged. So is a report but of a payment:
 /// its PSBT has whole transactions (BIP 174, the input type 00), and may be too long.
 pub fn written_reports_are_accepted()
-    ensures funded { (files files' : List ℕ → List ℕ) (s : Sources) (p : Payment) (name report log : List ℕ) (k : IsFunded files s p report log) → AreSteps (steps_of (plan_of (held_of k.wallet k.blocks) k.asked)) → IsWithin report → StandWithLog files files' s p name report log → ComesTo files' s p name (Accepted (kinds.Funded (reported_of files s p report log k))) }
-    ensures none { (files files' : List ℕ → List ℕ) (s : Sources) (p : Payment) (name report log : List ℕ) (k : IsNotFunded files s p report log) → AreSteps (steps_of (plan_of (held_of k.wallet k.blocks) k.asked)) → StandWithLog files files' s p name report log → ComesTo files' s p name (Accepted (kinds.NoSelection (tries_at (plan_of (held_of k.wallet k.blocks) k.asked) k.asked.tries))) }
+    ensures funded { (files files' : List ℕ → List ℕ) (s : Sources) (p : Payment) (name report log : List ℕ) (k : IsFunded files s p report log) → IsWithin report → StandWithLog files files' s p name report log → ComesTo files' s p name (Accepted (kinds.Funded (reported_of files s p report log k))) }
+    ensures none { (files files' : List ℕ → List ℕ) (s : Sources) (p : Payment) (name report log : List ℕ) (k : IsNotFunded files s p report log) → StandWithLog files files' s p name report log → ComesTo files' s p name (Accepted (kinds.NoSelection (tries_at (plan_of (held_of k.wallet k.blocks) k.asked) k.asked.tries))) }
     ensures unfinished { (files files' : List ℕ → List ℕ) (s : Sources) (p : Payment) (name report : List ℕ) (k : IsUnfinished files s p report) → StandsBeside files files' s p name report → ComesTo files' s p name (Accepted (kinds.Unfinished (tries_at (plan_of (held_of k.wallet k.blocks) k.asked) k.asked.tries) k.used_up.step.row k.used_up.step.stage)) }
 {}

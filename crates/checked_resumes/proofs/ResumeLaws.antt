@@ -7,7 +7,6 @@ use Rattle.closing_log.specs.LogText as logs
 use Rattle.closing_log.specs.LogText.{IsLogText}
 use Rattle.fund_outside.specs.Kept.{KeptJob}
 use Rattle.fund_plan.specs.Outcome.{tries_at}
-use Rattle.fund_plan.specs.Steps.{steps_of}
 use Rattle.fund_plan.specs.declared.outcome.Outcome.TheVariants as answers
 use Rattle.fund_report.specs.ReportText.{IsReportText}
 use Rattle.fund_report.specs.declared.report.Report.TheVariants as kinds
@@ -17,7 +16,6 @@ use Rattle.fund_payment.specs.Report.{report_of}
 use Rattle.kept_job.proofs.SameLaws.{goes_alike}
 use Rattle.kept_job.specs.Gone.{HasGoneOn}
 use Rattle.kept_job.specs.Kept.{IsAsAfter, IsKeptAt}
-use Rattle.search_run.specs.Step.{AreSteps}
 use Rattle.command_check.specs.Due.{Accepted, ComesTo}
 use Rattle.command_check.specs.Evidence.{IsWithin}
 use Rattle.command_end.specs.Names.{Sources}
@@ -29,22 +27,22 @@ use Rattle.checked_payments.proofs.CommandLaws.{HasNone, HasPaid, comes_to, paid
 use Rattle.checked_payments.proofs.LengthLaws.{open_within}
 use Rattle.checked_resumes.specs.Resumed.{IsFunded, IsNotFunded, IsUnfinished, reported_after}
 
-pub funded_checked : (files files' : List ℕ → List ℕ) (s : Sources) (p : Payment) (o : Option KeptJob) (name report log : List ℕ) (n : ℕ) (k : IsFunded files s p o report log) → AreSteps (steps_of (plan_of (held_of k.wallet k.blocks) k.asked))
+pub funded_checked : (files files' : List ℕ → List ℕ) (s : Sources) (p : Payment) (o : Option KeptJob) (name report log : List ℕ) (n : ℕ) (k : IsFunded files s p o report log)
     → IsKeptAt (plan_of (held_of k.wallet k.blocks) k.asked) (digest_in files s p) n o → IsWithin report → StandWithLog files files' s p name report log → ComesTo files' s p name (Accepted (kinds.Funded (reported_after files s p o report log n k)))
-funded_checked files files' s p o name report log n k are kept short h =
+funded_checked files files' s p o name report log n k kept short h =
     let plan : PlainPlan = plan_of (held_of k.wallet k.blocks) k.asked in
     let all : ℕ = n + k.asked.tries in
     let gone : HasGoneOn (Unit {0}) plan (digest_in files s p) o k.asked.tries k.state (answers.Funded k.funded) =
     subst (λ (d : List ℕ). HasGoneOn (Unit {0}) plan d o k.asked.tries k.state (answers.Funded k.funded)) (k.gone.named tt) k.gone.gone
     in
-    let alike : IsAsAfter plan all k.state (answers.Funded k.funded) = goes_alike plan are n k.asked.tries (digest_in files s p) o kept k.state (answers.Funded k.funded) gone in
+    let alike : IsAsAfter plan all k.state (answers.Funded k.funded) = goes_alike plan k.gone.steps n k.asked.tries (digest_in files s p) o kept k.state (answers.Funded k.funded) gone in
     let paid : HasPaid files s p all k.funded report log = record {
       wallet = k.wallet;
       blocks = k.blocks;
       asked = k.asked;
       inputs = k.inputs tt;
       plan = k.gone.rules;
-      steps = are;
+      steps = k.gone.steps;
       outcome = sym alike.outcome;
       pays = k.pays;
       psbt = k.psbt;
@@ -56,23 +54,23 @@ funded_checked files files' s p o name report log n k are kept short h =
     } in
     paid_checked files files' s p name report log all k.funded paid short h
 
-pub none_checked : (files files' : List ℕ → List ℕ) (s : Sources) (p : Payment) (o : Option KeptJob) (name report log : List ℕ) (n : ℕ) (k : IsNotFunded files s p o report log) → AreSteps (steps_of (plan_of (held_of k.wallet k.blocks) k.asked))
+pub none_checked : (files files' : List ℕ → List ℕ) (s : Sources) (p : Payment) (o : Option KeptJob) (name report log : List ℕ) (n : ℕ) (k : IsNotFunded files s p o report log)
     → IsKeptAt (plan_of (held_of k.wallet k.blocks) k.asked) (digest_in files s p) n o → StandWithLog files files' s p name report log
     → ComesTo files' s p name (Accepted (kinds.NoSelection (tries_at (plan_of (held_of k.wallet k.blocks) k.asked) (n + k.asked.tries))))
-none_checked files files' s p o name report log n k are kept h =
+none_checked files files' s p o name report log n k kept h =
     let plan : PlainPlan = plan_of (held_of k.wallet k.blocks) k.asked in
     let all : ℕ = n + k.asked.tries in
     let gone : HasGoneOn (Unit {0}) plan (digest_in files s p) o k.asked.tries k.state answers.NoSelection =
     subst (λ (d : List ℕ). HasGoneOn (Unit {0}) plan d o k.asked.tries k.state answers.NoSelection) (k.gone.named tt) k.gone.gone
     in
-    let alike : IsAsAfter plan all k.state answers.NoSelection = goes_alike plan are n k.asked.tries (digest_in files s p) o kept k.state answers.NoSelection gone in
+    let alike : IsAsAfter plan all k.state answers.NoSelection = goes_alike plan k.gone.steps n k.asked.tries (digest_in files s p) o kept k.state answers.NoSelection gone in
     let none : HasNone files s p all report log = record {
       wallet = k.wallet;
       blocks = k.blocks;
       asked = k.asked;
       inputs = k.inputs tt;
       plan = k.gone.rules;
-      steps = are;
+      steps = k.gone.steps;
       outcome = sym alike.outcome;
       told = subst (λ (m : ℕ). IsReportText report (kinds.NoSelection m)) alike.tries k.told;
       logs = k.logs ∙ ap (λ (l : PlainLog). logs.text_of l) alike.log;

@@ -4,6 +4,7 @@ ghost use Rattle.std.specs.Prelude.{◌≡◌, ◌⊎◌};
 ghost use Rattle.fund_base.specs.Causes.{CountsNeverFall, OnlyReads};
 ghost use Rattle.fund_steps.specs.Plan.{PlainPlan};
 ghost use Rattle.command_end.specs.Names.{plain_sources};
+ghost use Rattle.command_fund.specs.Inputs.{NoneBehind};
 ghost use Rattle.command_fund.specs.Names.{plain_payment};
 ghost use Rattle.command_check.specs.Asked.{AsksInOrder, AsksNoLog, AsksPayment};
 ghost use Rattle.command_check.specs.Due.{ComesTo, IsAnAcceptance, Outcome, status_of};
@@ -30,6 +31,7 @@ fn verdict<H: Shelf, O: Sink>(
     ensures frame { OnlyReads H.tells (H.view shelf.old) (H.view shelf.new) }
     ensures counts { CountsNeverFall (O.view out.old) (O.view out.new) }
     ensures asked { H.tells → AsksInOrder (plain_sources sources.now) (plain_payment payment.now) report.now (H.view shelf.old) (H.view shelf.new) }
+    ensures none_behind { H.tells → NoneBehind (plain_sources sources.now) (H.view shelf.old) (H.view shelf.new) }
     ensures no_log { H.tells → (HasLoggedReport ((H.view shelf.old).files report.now) → ⊥) → AsksNoLog (plain_sources sources.now) (plain_payment payment.now) report.now (H.view shelf.old) (H.view shelf.new) }
     ensures unread { H.tells → ((plan : PlainPlan) → HavePlan (H.view shelf.old).files (plain_sources sources.now) (plain_payment payment.now) plan → ⊥) → AsksPayment (plain_sources sources.now) (plain_payment payment.now) (H.view shelf.old) (H.view shelf.new) }
 {
@@ -67,9 +69,10 @@ pub fn check<H: Shelf, O: Sink>(
     ensures counts { CountsNeverFall (O.view out.old) (O.view out.new) }
 
     // It asks for the wallet file, the block file, the request, the report and the log, in this order, and for no other
-    // name: for no log where the report isn't in its grammar, is too long, or is of an unfinished run; and for neither where
-    // the payment is refused.
+    // name: for no log where the report isn't in its grammar, is too long, or is of an unfinished run; for neither where the
+    // payment is refused; and behind a file that is refused for none.
     ensures asked { H.tells → AsksInOrder (plain_sources sources.now) (plain_payment payment.now) report.now (H.view shelf.old) (H.view shelf.new) }
+    ensures none_behind { H.tells → NoneBehind (plain_sources sources.now) (H.view shelf.old) (H.view shelf.new) }
     ensures no_log { H.tells → (HasLoggedReport ((H.view shelf.old).files report.now) → ⊥) → AsksNoLog (plain_sources sources.now) (plain_payment payment.now) report.now (H.view shelf.old) (H.view shelf.new) }
     ensures unread { H.tells → ((plan : PlainPlan) → HavePlan (H.view shelf.old).files (plain_sources sources.now) (plain_payment payment.now) plan → ⊥) → AsksPayment (plain_sources sources.now) (plain_payment payment.now) (H.view shelf.old) (H.view shelf.new) }
 {

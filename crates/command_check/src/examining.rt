@@ -6,7 +6,7 @@ ghost use Rattle.fund_files.specs.Chain.{IsHeld};
 ghost use Rattle.fund_steps.specs.Plan.{IsPlan};
 ghost use Rattle.command_end.specs.Names.{plain_sources};
 ghost use Rattle.command_fund.specs.Due.{not_taken, plan_of};
-ghost use Rattle.command_fund.specs.Inputs.{AsksInOrder};
+ghost use Rattle.command_fund.specs.Inputs.{AsksInOrder, NoneBehind};
 ghost use Rattle.command_fund.specs.Names.{plain_payment};
 ghost use Rattle.command_fund.specs.PlanEnds.{StopsPlan};
 ghost use Rattle.command_fund.specs.Stops.{StopsFor};
@@ -48,6 +48,7 @@ pub fn examiner<H: Shelf>(
     ensures frame { OnlyReads H.tells (H.view shelf.old) (H.view shelf.new) }
     ensures stop { IfErr result (StopsFor H.tells (plain_sources sources.now) (plain_payment payment.now) (H.view shelf.old) (H.view shelf.new)) }
     ensures asked { H.tells → AsksInOrder (plain_sources sources.now) (plain_payment payment.now) (H.view shelf.old) (H.view shelf.new) }
+    ensures none_behind { H.tells → NoneBehind (plain_sources sources.now) (H.view shelf.old) (H.view shelf.new) }
 {
     let Inputs { held, request } = read_inputs(alloc, sources, payment, shelf)?;
     made(alloc, held, request)

@@ -3,6 +3,7 @@
 ghost use Rattle.std.specs.Prelude.{◌≡◌, ◌∷◌, [], IfErr, IfOk, string_bytes};
 ghost use Rattle.fund_base.specs.Causes.{Asks, OnlyReads};
 ghost use Rattle.command_end.specs.Names.{plain_sources};
+ghost use Rattle.command_fund.specs.Inputs.{NoneBehind};
 ghost use Rattle.command_fund.specs.Names.{plain_payment};
 ghost use Rattle.fund_steps.specs.Plan.{PlainPlan};
 ghost use Rattle.report_check.specs.Verdict.{IsAccepted};
@@ -69,6 +70,7 @@ pub fn accepted<H: Shelf>(
     ensures frame { OnlyReads H.tells (H.view shelf.old) (H.view shelf.new) }
     ensures stop { IfErr result (StopsFor H.tells (plain_sources sources.now) (plain_payment payment.now) report.now (H.view shelf.old) (H.view shelf.new)) }
     ensures asked { H.tells → AsksInOrder (plain_sources sources.now) (plain_payment payment.now) report.now (H.view shelf.old) (H.view shelf.new) }
+    ensures none_behind { H.tells → NoneBehind (plain_sources sources.now) (H.view shelf.old) (H.view shelf.new) }
     ensures no_log { H.tells → (HasLoggedReport ((H.view shelf.old).files report.now) → ⊥) → AsksNoLog (plain_sources sources.now) (plain_payment payment.now) report.now (H.view shelf.old) (H.view shelf.new) }
     ensures unread { H.tells → ((plan : PlainPlan) → HavePlan (H.view shelf.old).files (plain_sources sources.now) (plain_payment payment.now) plan → ⊥) → AsksPayment (plain_sources sources.now) (plain_payment payment.now) (H.view shelf.old) (H.view shelf.new) }
 {

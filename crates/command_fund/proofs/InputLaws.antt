@@ -8,6 +8,7 @@ use Rattle.fund_base.proofs.Outside.{rose_earlier}
 use Rattle.block_feed.specs.Block.{ChainBlock}
 use Rattle.request_text.specs.PlainRequest.{PlainRequest}
 use Rattle.wallet_text.specs.PlainWallet.{PlainWallet}
+use Rattle.fund_files.proofs.StopLaws.{not_refused}
 use Rattle.fund_files.specs.Behind.{AreHeld}
 use Rattle.fund_files.specs.Cause.{cause_of}
 use Rattle.fund_files.specs.Contents.{HasChain, HasRequest}
@@ -21,7 +22,7 @@ use Rattle.fund_files.specs.declared.stop.Stop.TheVariants as stops
 use Rattle.command_end.specs.Names.{Sources}
 use Rattle.command_fund.specs.Cause.{Cause, BumpNotYet}
 use Rattle.command_fund.specs.Due.{not_taken}
-use Rattle.command_fund.specs.Inputs.{AreAsked, AsksInOrder, IsUnread, Reaches}
+use Rattle.command_fund.specs.Inputs.{AreAsked, AreInputs, AsksInOrder, IsUnread, NoneBehind, Reaches}
 use Rattle.command_fund.specs.Meant.{IsDue, IsMeant}
 use Rattle.command_fund.specs.Names.{Payment}
 use Rattle.command_fund.specs.Stops.{StopsFor, lifted}
@@ -78,3 +79,13 @@ chain_asked told s p old new both t = asks_first (s.wallet ∷ s.blocks ∷ []) 
 -- after these the request
 pub all_asked : (told : Type 0) (s : Sources) (p : Payment) (old middle new : ShelfView) → (told → Asks (s.wallet ∷ s.blocks ∷ []) old.asked middle.asked) → (told → Asks (p.request ∷ []) middle.asked new.asked) → told → AsksInOrder s p old new
 all_asked told s p old middle new first second t = asks_then (s.wallet ∷ s.blocks ∷ []) (p.request ∷ []) old.asked middle.asked new.asked (first t) (second t)
+
+-- where both files are in order, nothing stands behind a refusal of theirs
+pub none_behind : (s : Sources) (w : PlainWallet) (blocks : List ChainBlock) (old new : ShelfView) → HasChain (old.files s.wallet) (old.files s.blocks) w blocks → NoneBehind s old new
+none_behind s w blocks old new h = record {
+  wallet_alone = λ cause is. absurd (not_refused (old.files s.wallet) w cause h.wallet is);
+  chain_alone = λ none. absurd (none w blocks h);
+}
+
+pub inputs_behind : (told : Type 0) (s : Sources) (p : Payment) (w : PlainWallet) (blocks : List ChainBlock) (r : PlainRequest) (old new : ShelfView) → (told → AreInputs old.files s p w blocks r) → told → NoneBehind s old new
+inputs_behind told s p w blocks r old new inputs t = none_behind s w blocks old new (inputs t).chain

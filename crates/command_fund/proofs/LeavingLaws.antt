@@ -16,11 +16,13 @@ use Rattle.command_end.specs.declared.status.Status.TheVariants as statuses
 use Rattle.command_fund.specs.Digest.{AreWithin, digest_in}
 use Rattle.command_fund.specs.Inputs.{AsksInOrder, AsksTwice, name_of}
 use Rattle.command_fund.specs.Jobs.{KeepsJobs, MaySave}
-use Rattle.command_fund.specs.Leaving.{IsNotLeft}
+use Rattle.command_fund.specs.Leaving.{HasLeft, IsNotLeft}
 use Rattle.command_fund.specs.Names.{Payment}
 use Rattle.command_fund.specs.Reading.{IsDigestOf, StopsReading}
+use Rattle.command_fund.specs.Statuses.{IsOfTheFiles}
 use Rattle.command_fund.specs.Stops.{StopsKeeping, of_keeper}
 use Rattle.command_fund.specs.Words.{IsStopped}
+use Rattle.command_fund.specs.declared.funding.Left.{Left}
 use Rattle.command_fund.specs.declared.refusal.Stop.{Stop}
 use Rattle.command_fund.specs.declared.refusal.Stop.TheVariants as stops
 
@@ -90,6 +92,16 @@ not_left told s p job (stops.Read file) shelf shelf' sink sink' keeper keeper' r
 not_left told s p job (stops.Refused refusal) shelf shelf' sink sink' keeper keeper' result h a = absurd h
 not_left told s p job stops.Keep shelf shelf' sink sink' keeper keeper' result h a = inr (inl (a.0, refl, h, a.1))
 not_left told s p job stops.Memory shelf shelf' sink sink' keeper keeper' result h w = inr (inr w)
+
+-- a run that is left ends with no status to which the files come by themselves
+pub left_otherwise : (told_files told told_jobs : Type 0) (s : Sources) (p : Payment) (job : Option (List ℕ)) (left : Left) (shelf shelf' : ShelfView) (sink sink' : SinkView) (keeper keeper' : KeeperView) (result : Status)
+    → HasLeft told_files told told_jobs s p job left shelf shelf' sink sink' keeper keeper' result → IsOfTheFiles result → ⊥
+left_otherwise tf told tj s p job left shelf shelf' sink sink' keeper keeper' result (inl (inl h, saved)) of = subst IsOfTheFiles h.0 of
+left_otherwise tf told tj s p job left shelf shelf' sink sink' keeper keeper' result (inl (inr (inl h), saved)) of = subst IsOfTheFiles h.0 of
+left_otherwise tf told tj s p job left shelf shelf' sink sink' keeper keeper' result (inl (inr (inr h), saved)) of = subst IsOfTheFiles h.0 of
+left_otherwise tf told tj s p job left shelf shelf' sink sink' keeper keeper' result (inr (inl h, same)) of = subst IsOfTheFiles h.1 of
+left_otherwise tf told tj s p job left shelf shelf' sink sink' keeper keeper' result (inr (inr (inl h), same)) of = subst IsOfTheFiles h.0 of
+left_otherwise tf told tj s p job left shelf shelf' sink sink' keeper keeper' result (inr (inr (inr h), same)) of = subst IsOfTheFiles h.0 of
 
 -- ---- what becomes of the jobs
 

@@ -186,6 +186,7 @@ concluded_none k r s o text log a is text_is told log_is =
     let same : text ≡ none_report_at p r.tries = text_is ∙ ap (λ (n : ℕ). none_report n) a.tries in (
       a.rules,
       record {
+        steps = a.steps;
         outcome = out;
         none = none_claims p r.tries a.rules a.steps out;
         reports = same;
@@ -220,6 +221,7 @@ concluded_paid k r s o f tries text log a is tried text_is psbt shows log_is =
       a.rules,
       record {
         funded = f;
+        steps = a.steps;
         outcome = out;
         pays = pays;
         eligible = payment_eligible p f a.rules pays;
@@ -244,6 +246,7 @@ ended_on told_files files s p w blocks r (endings.Unfinished left) inputs c = (
     asked = r;
     inputs = inputs;
     plan = c.0;
+    steps = c.2.steps;
     outcome = c.1.outcome;
     used_up = c.1.used_up;
     reports = c.1.reports;
@@ -258,6 +261,7 @@ ended_on told_files files s p w blocks r (endings.NoSelection texts) inputs c = 
   asked = r;
   inputs = inputs;
   plan = c.0;
+  steps = c.1.steps;
   outcome = c.1.outcome;
   none = c.1.none;
   reports = c.1.reports;
@@ -274,6 +278,7 @@ ended_on told_files files s p w blocks r (endings.Funded texts) inputs c = recor
   funded = c.1.funded;
   inputs = inputs;
   plan = c.0;
+  steps = c.1.steps;
   outcome = c.1.outcome;
   pays = c.1.pays;
   eligible = c.1.eligible;

@@ -4,8 +4,10 @@ use Rattle.fund_base.specs.Causes.{Asks, ShelfView, Rose}
 use Rattle.block_feed.specs.Block.{ChainBlock}
 use Rattle.request_text.specs.PlainRequest.{PlainRequest}
 use Rattle.wallet_text.specs.PlainWallet.{PlainWallet}
+use Rattle.fund_files.specs.Cause.{FileCause}
 use Rattle.fund_files.specs.Chain.{IsHeld}
 use Rattle.fund_files.specs.Contents.{HasChain, HasRequest, HasWallet}
+use Rattle.fund_files.specs.FileStops.{IsWalletCause}
 use Rattle.fund_files.specs.declared.held.Held.{Held}
 use Rattle.fund_files.specs.declared.refusal.File.{File}
 use Rattle.fund_files.specs.declared.refusal.File.TheVariants.{Wallet, Blocks, Request}
@@ -26,6 +28,12 @@ AsksInOrder s p old new = Asks (s.wallet ∷ s.blocks ∷ p.request ∷ []) old.
 -- The same, and once more in this order for the digest of a job.
 abbrev pub AsksTwice : Sources → Payment → ShelfView → ShelfView → Type 0
 AsksTwice s p old new = Asks (s.wallet ∷ s.blocks ∷ p.request ∷ s.wallet ∷ s.blocks ∷ p.request ∷ []) old.asked new.asked
+
+-- Nothing is asked for behind a refusal: where the wallet file is refused, no other name was; and where the wallet and the
+-- blocks aren't in order, no name but these.
+pub record NoneBehind (s : Sources) (old new : ShelfView) : Type 0 where
+  pub wallet_alone : (cause : FileCause) → IsWalletCause (old.files s.wallet) cause → Asks (s.wallet ∷ []) old.asked new.asked
+  pub chain_alone : ((w : PlainWallet) (blocks : List ChainBlock) → HasChain (old.files s.wallet) (old.files s.blocks) w blocks → ⊥) → Asks (s.wallet ∷ s.blocks ∷ []) old.asked new.asked
 
 -- a read of this file failed
 abbrev pub IsUnread : Sources → Payment → File → ShelfView → ShelfView → Type 0

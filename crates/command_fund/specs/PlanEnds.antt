@@ -70,6 +70,7 @@ IsOpenReport bytes tries (x ∷ rest) = IsReportText bytes (kinds.Unfinished tri
 -- a payment of this plan, with this report and this log
 pub record IsPaid (k : Held) (r : PlainRequest) (report log : List ℕ) : Type 0 where
   pub funded : PlainFunded
+  pub steps : AreSteps (steps_of (plan_of k r))
   pub outcome : outcome_at (plan_of k r) r.tries ≡ answers.Funded funded
   pub pays : IsPayment (plan_of k r) funded
   pub eligible : All (IsEligible (plan_of k r)) funded.coins
@@ -84,6 +85,7 @@ pub record IsPaid (k : Held) (r : PlainRequest) (report log : List ℕ) : Type 0
 
 -- there is no selection, which this log proves
 pub record IsUnpaid (k : Held) (r : PlainRequest) (report log : List ℕ) : Type 0 where
+  pub steps : AreSteps (steps_of (plan_of k r))
   pub outcome : outcome_at (plan_of k r) r.tries ≡ answers.NoSelection
   pub none : IsProvedNone (plan_of k r) (log_at (plan_of k r) r.tries)
   pub reports : report ≡ none_report_at (plan_of k r) r.tries

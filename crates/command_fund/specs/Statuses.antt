@@ -8,8 +8,10 @@ use Rattle.fund_plan.specs.Answer.{IsPayment}
 use Rattle.fund_plan.specs.Claims.{Claims, IsProvedNone, IsUsedUp}
 use Rattle.fund_plan.specs.Outcome.{log_at, outcome_at, tries_at}
 use Rattle.fund_plan.specs.Selection.{PlainFunded}
+use Rattle.fund_plan.specs.Steps.{steps_of}
 use Rattle.fund_plan.specs.declared.outcome.Outcome.TheVariants as answers
 use Rattle.fund_steps.specs.Plan.{IsEligible, IsPlan}
+use Rattle.search_run.specs.Step.{AreSteps}
 use Rattle.fund_report.specs.ReportText.{IsReportText}
 use Rattle.fund_report.specs.declared.report.Report.TheVariants as kinds
 use Rattle.psbt_codec.specs.Psbt.{IsPsbt}
@@ -43,7 +45,8 @@ status_of (Funded report log) = statuses.Done
 -- groups of the pool of the row that it names; the transaction made of them pays each recipient exactly, and at least the
 -- fee. What a signer gets is a PSBT of version 0 (BIP 174) of which each input shows the value and the script of its coin.
 -- An exhausted payment is proved to be the best, by the log. The report and the log tell of it; the log's bytes are a
--- text of it, which says that it is ended. Where the files are told, they hold this wallet, these blocks and this request.
+-- text of it, which says that it is ended. The searches and draws of its plan keep their rules. Where the files are told, they
+-- hold this wallet, these blocks and this request.
 pub record IsFunded (told_files : Type 0) (files : List ℕ → List ℕ) (s : Sources) (p : Payment) (report log : List ℕ) : Type 0 where
   pub wallet : PlainWallet
   pub blocks : List ChainBlock
@@ -51,6 +54,7 @@ pub record IsFunded (told_files : Type 0) (files : List ℕ → List ℕ) (s : S
   pub funded : PlainFunded
   pub inputs : told_files → AreInputs files s p wallet blocks asked
   pub plan : IsPlan (plan_of (held_of wallet blocks) asked)
+  pub steps : AreSteps (steps_of (plan_of (held_of wallet blocks) asked))
   pub outcome : outcome_at (plan_of (held_of wallet blocks) asked) asked.tries ≡ answers.Funded funded
   pub pays : IsPayment (plan_of (held_of wallet blocks) asked) funded
   pub eligible : All (IsEligible (plan_of (held_of wallet blocks) asked)) funded.coins
@@ -71,6 +75,7 @@ pub record IsNotFunded (told_files : Type 0) (files : List ℕ → List ℕ) (s 
   pub asked : PlainRequest
   pub inputs : told_files → AreInputs files s p wallet blocks asked
   pub plan : IsPlan (plan_of (held_of wallet blocks) asked)
+  pub steps : AreSteps (steps_of (plan_of (held_of wallet blocks) asked))
   pub outcome : outcome_at (plan_of (held_of wallet blocks) asked) asked.tries ≡ answers.NoSelection
   pub none : IsProvedNone (plan_of (held_of wallet blocks) asked) (log_at (plan_of (held_of wallet blocks) asked) asked.tries)
   pub reports : report ≡ none_report_at (plan_of (held_of wallet blocks) asked) asked.tries
@@ -88,6 +93,7 @@ pub record IsUnfinished (told_files : Type 0) (files : List ℕ → List ℕ) (s
   pub asked : PlainRequest
   pub inputs : told_files → AreInputs files s p wallet blocks asked
   pub plan : IsPlan (plan_of (held_of wallet blocks) asked)
+  pub steps : AreSteps (steps_of (plan_of (held_of wallet blocks) asked))
   pub outcome : outcome_at (plan_of (held_of wallet blocks) asked) asked.tries ≡ answers.Unfinished
   pub used_up : IsUsedUp (plan_of (held_of wallet blocks) asked) asked.tries
   pub reports : report ≡ open_text (tries_at (plan_of (held_of wallet blocks) asked) asked.tries) used_up.step
@@ -183,6 +189,21 @@ Ends told_files told told_jobs s p job shelf shelf' sink sink' keeper keeper' st
 Ends told_files told told_jobs s p job shelf shelf' sink sink' keeper keeper' statuses.Memory = EndsWithoutMemory told_files told told_jobs s p job shelf shelf' sink sink' keeper keeper'
 Ends told_files told told_jobs s p job shelf shelf' sink sink' keeper keeper' statuses.Saved = ⊥
 Ends told_files told told_jobs s p job shelf shelf' sink sink' keeper keeper' statuses.CheckRefused = ⊥
+
+-- A status that what the files hold comes to by itself: a payment, that there is none, or a refusal. Then no run is kept.
+abbrev pub IsOfTheFiles : Status → Type 0
+IsOfTheFiles statuses.Done = Unit {0}
+IsOfTheFiles statuses.NoSelection = Unit {0}
+IsOfTheFiles statuses.Input = Unit {0}
+IsOfTheFiles statuses.Limit = Unit {0}
+IsOfTheFiles statuses.Usage = ⊥
+IsOfTheFiles statuses.ReadFault = ⊥
+IsOfTheFiles statuses.WriteFault = ⊥
+IsOfTheFiles statuses.KeepFault = ⊥
+IsOfTheFiles statuses.Memory = ⊥
+IsOfTheFiles statuses.Unfinished = ⊥
+IsOfTheFiles statuses.Saved = ⊥
+IsOfTheFiles statuses.CheckRefused = ⊥
 
 -- a status before the log is written
 abbrev pub IsBeforeTheLog : Status → Type 0

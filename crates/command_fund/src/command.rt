@@ -1,15 +1,15 @@
 //! The command.
 
-ghost use Rattle.std.specs.Prelude.{◌≡◌, ◌≤◌, None, IfErr, IfOk, option_map};
+ghost use Rattle.std.specs.Prelude.{◌≡◌, ◌≢◌, ◌≤◌, None, IfErr, IfOk, option_map};
 ghost use Rattle.fund_base.specs.Causes.{CountsNeverFall, NeverFall, OnlyReads, SameElsewhere};
 ghost use Rattle.kept_job.specs.SavingRules.{CanBeKept};
 ghost use Rattle.command_end.specs.Names.{plain_sources};
-ghost use Rattle.command_fund.specs.Inputs.{AsksInOrder, AsksTwice};
+ghost use Rattle.command_fund.specs.Inputs.{AsksInOrder, AsksTwice, NoneBehind};
 ghost use Rattle.command_fund.specs.Jobs.{KeepsJobs};
 ghost use Rattle.command_fund.specs.Leaving.{HasLeft};
 ghost use Rattle.command_fund.specs.Names.{plain_job, plain_payment};
 ghost use Rattle.command_fund.specs.PlanEnds.{IsEnded};
-ghost use Rattle.command_fund.specs.Statuses.{Ends, IsBeforeTheLog};
+ghost use Rattle.command_fund.specs.Statuses.{Ends, IsBeforeTheLog, IsOfTheFiles};
 ghost use Rattle.command_fund.specs.Stops.{StopsFor};
 
 use crate::answering::answer;
@@ -34,6 +34,7 @@ fn outcome<H: Shelf>(
     ensures frame { OnlyReads H.tells (H.view shelf.old) (H.view shelf.new) }
     ensures stop { IfErr result (StopsFor H.tells (plain_sources sources.now) (plain_payment payment.now) (H.view shelf.old) (H.view shelf.new)) }
     ensures asked { H.tells → AsksInOrder (plain_sources sources.now) (plain_payment payment.now) (H.view shelf.old) (H.view shelf.new) }
+    ensures none_behind { H.tells → NoneBehind (plain_sources sources.now) (H.view shelf.old) (H.view shelf.new) }
 {
     let Inputs { held, request } = read_inputs(alloc, sources, payment, shelf)?;
     conclude(alloc, &held, &request)
@@ -57,6 +58,7 @@ fn leave<H: Shelf, O: Sink, K: Keeper>(
     ensures asked { H.tells → AsksInOrder (plain_sources sources.now) (plain_payment payment.now) (H.view shelf.old) (H.view shelf.new) }
     ensures unasked { job.entry ≡ None → (H.view shelf.new) ≡ (H.view shelf.old) }
     ensures counts { CountsNeverFall (O.view out.old) (O.view out.new) }
+    ensures unfailed { result ≢ Status.KeepFault → (K.view keeper.new).faults ≡ (K.view keeper.old).faults }
     ensures faults { (K.view keeper.old).faults ≤ (K.view keeper.new).faults }
 {
     match job {
@@ -95,9 +97,15 @@ pub fn fund<H: Shelf, O: Sink, K: Keeper>(
     ensures jobs { K.tells → KeepsJobs (plain_job job.entry) result (K.view keeper.old) (K.view keeper.new) }
 
     // It asks for the wallet file, then for the block file, then for the request, and for the digest of a job once more in
-    // this order; and for no other name.
+    // this order; and for no other name. Behind a file that is refused it asks for none.
     ensures asked { H.tells → AsksTwice (plain_sources sources.now) (plain_payment payment.now) (H.view shelf.old) (H.view shelf.new) }
+    ensures none_behind { H.tells → NoneBehind (plain_sources sources.now) (H.view shelf.old) (H.view shelf.new) }
     ensures asked_once { H.tells → job.entry ≡ None → AsksInOrder (plain_sources sources.now) (plain_payment payment.now) (H.view shelf.old) (H.view shelf.new) }
+    // Once alone where the files come to a payment, to none or to a refusal, with a job too.
+    ensures read_once { H.tells → IsOfTheFiles result → AsksInOrder (plain_sources sources.now) (plain_payment payment.now) (H.view shelf.old) (H.view shelf.new) }
+
+    // A failure of the keeper is told as that, and as nothing else.
+    ensures unfailed { result ≢ Status.KeepFault → (K.view keeper.new).faults ≡ (K.view keeper.old).faults }
 
     // No count falls.
     ensures reads { NeverFall (H.view shelf.old).reads (H.view shelf.new).reads }

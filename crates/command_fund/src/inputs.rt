@@ -5,7 +5,7 @@ ghost use Rattle.fund_base.specs.Causes.{OnlyReads};
 ghost use Rattle.command_end.specs.Names.{plain_sources};
 ghost use Rattle.command_fund.specs.Cause.{cause_of};
 ghost use Rattle.command_fund.specs.Due.{not_taken};
-ghost use Rattle.command_fund.specs.Inputs.{AreAsked, AsksInOrder};
+ghost use Rattle.command_fund.specs.Inputs.{AreAsked, AsksInOrder, NoneBehind};
 ghost use Rattle.command_fund.specs.Names.{plain_payment};
 ghost use Rattle.command_fund.specs.Stops.{StopsFor};
 
@@ -47,6 +47,7 @@ pub fn read_inputs<H: Shelf>(
     ensures frame { OnlyReads H.tells (H.view shelf.old) (H.view shelf.new) }
     ensures stop { IfErr result (StopsFor H.tells (plain_sources sources.now) (plain_payment payment.now) (H.view shelf.old) (H.view shelf.new)) }
     ensures asked { H.tells → AsksInOrder (plain_sources sources.now) (plain_payment payment.now) (H.view shelf.old) (H.view shelf.new) }
+    ensures none_behind { H.tells → NoneBehind (plain_sources sources.now) (H.view shelf.old) (H.view shelf.new) }
 {
     let held = read_chain(alloc, sources.wallet, sources.blocks, shelf)?;
     let request = read_asked(alloc, payment.request, shelf)?;

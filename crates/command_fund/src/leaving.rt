@@ -1,6 +1,6 @@
 //! A run that is unfinished is kept as a job.
 
-ghost use Rattle.std.specs.Prelude.{◌≡◌, ◌≤◌, IfErr, OnErr, OnOk};
+ghost use Rattle.std.specs.Prelude.{◌≡◌, ◌≢◌, ◌≤◌, IfErr, OnErr, OnOk};
 ghost use Rattle.fund_base.specs.Causes.{OnlyReads};
 ghost use Rattle.fund_outside.specs.Kept.{SameForOthers};
 ghost use Rattle.kept_job.specs.Saving.{IsSavedBehind};
@@ -38,6 +38,8 @@ pub fn keep_anew<H: Shelf, K: Keeper>(
     ensures same { K.tells → OnErr result ((K.view keeper.new).jobs ≡ (K.view keeper.old).jobs) }
     ensures frame { OnlyReads H.tells (H.view shelf.old) (H.view shelf.new) }
     ensures stop { IfErr result (StopsKeeping (plain_sources sources.now) (plain_payment payment.now) (H.view shelf.old) (H.view shelf.new) (K.view keeper.old) (K.view keeper.new)) }
+    // A failure of the keeper is told as that, and as nothing else.
+    ensures unfailed { result ≢ Err Stop.Keep → (K.view keeper.new).faults ≡ (K.view keeper.old).faults }
     ensures asked { H.tells → AsksInOrder (plain_sources sources.now) (plain_payment payment.now) (H.view shelf.old) (H.view shelf.new) }
     ensures faults { (K.view keeper.old).faults ≤ (K.view keeper.new).faults }
 {

@@ -9,13 +9,12 @@ use Rattle.fund_plan.specs.Answer.{IsPayment}
 use Rattle.fund_plan.specs.Resumed.{log_in}
 use Rattle.fund_plan.specs.Selection.{PlainFunded}
 use Rattle.fund_plan.specs.State.{PlanState, told}
-use Rattle.fund_plan.specs.Steps.{steps_of}
 use Rattle.fund_plan.specs.declared.outcome.Outcome.TheVariants as answers
 use Rattle.fund_report.specs.ReportText.{IsReportText}
 use Rattle.fund_report.specs.declared.report.Report.TheVariants as kinds
 use Rattle.psbt_codec.specs.Psbt.{IsPsbt}
 use Rattle.request_text.specs.PlainRequest.{PlainRequest}
-use Rattle.search_run.specs.Step.{AreSteps, PlainStep}
+use Rattle.search_run.specs.Step.{PlainStep}
 use Rattle.wallet_text.specs.PlainWallet.{PlainWallet}
 use Rattle.fund_files.specs.Chain.{held_of, history_of}
 use Rattle.fund_payment.specs.Report.{psbt_of, report_of}
@@ -32,7 +31,7 @@ use Rattle.command_resume.specs.Resumed.{HasGone, IsFunded, IsNotFunded, IsUnfin
 use Rattle.command_resume.proofs.UninterruptedLaws.{uninterrupted}
 
 module _ (told_files told_jobs : Type 0) (files : List ℕ → List ℕ) (s : Sources) (p : Payment) (o : Option KeptJob) (w : PlainWallet) (blocks : List ChainBlock) (r : PlainRequest) (st : PlanState)
-    (inputs : told_files → AreInputs files s p w blocks r) (are : AreSteps (steps_of (plan_of (held_of w blocks) r))) where
+    (inputs : told_files → AreInputs files s p w blocks r) where
   pub paid_on : (f : PlainFunded) (report log bytes : List ℕ) (g : HasGone told_files told_jobs files s p o (held_of w blocks) r st (answers.Funded f)) → IsLogText bytes g.gone.log → IsPayment (plan_of (held_of w blocks) r) f
       → IsPsbt (psbt_of (history_of w blocks) r w.change f) → ShowsCoins f.coins (psbt_of (history_of w blocks) r w.change f)
       → report ≡ report_of (history_of w blocks) r w.change st.stand.past.tries f → log ≡ logs.text_of (log_in st) → IsFunded told_files told_jobs files s p o report log
@@ -46,20 +45,20 @@ module _ (told_files told_jobs : Type 0) (files : List ℕ → List ℕ) (s : So
     gone = g;
     pays = pays;
     eligible = payment_eligible (plan_of (held_of w blocks) r) f g.rules pays;
-    claims = claims_payment told_jobs (plan_of (held_of w blocks) r) g.digest o r.tries st f g.gone g.rules are;
+    claims = claims_payment told_jobs (plan_of (held_of w blocks) r) g.digest o r.tries st f g.gone g.rules g.steps;
     psbt = psbt;
     shows = shows;
     reports = report_is;
     logs = log_is;
     reads =
         subst (λ (bytes : List ℕ). IsLogText bytes (log_in st)) (sym log_is)
-        (claims_read told_jobs (plan_of (held_of w blocks) r) g.digest o r.tries st (answers.Funded f) bytes g.gone are text (λ e. absurd (cc)));
+        (claims_read told_jobs (plan_of (held_of w blocks) r) g.digest o r.tries st (answers.Funded f) bytes g.gone g.steps text (λ e. absurd (cc)));
     ended =
         subst (λ (x : PlanState). (log_in x).ended ≡ true) (sym g.gone.stands)
-        (log_ended_on (plan_of (held_of w blocks) r) g.digest g.gone.saved g.gone.log r.tries g.rules are g.gone.can
+        (log_ended_on (plan_of (held_of w blocks) r) g.digest g.gone.saved g.gone.log r.tries g.rules g.steps g.gone.can
         (λ e. let x = g.gone.comes_to ∙ (ap told g.gone.stands ∙ e) in absurd (cc)));
     uninterrupted =
-        uninterrupted told_files told_jobs files s p o (held_of w blocks) r st (answers.Funded f) g are (Funded report log)
+        uninterrupted told_files told_jobs files s p o (held_of w blocks) r st (answers.Funded f) g (Funded report log)
         (ap (λ (t : List ℕ). Funded t log) report_is ∙ ap (λ (t : List ℕ). Funded (report_of (history_of w blocks) r w.change st.stand.past.tries f) t) log_is);
   }
 
@@ -72,19 +71,19 @@ module _ (told_files told_jobs : Type 0) (files : List ℕ → List ℕ) (s : So
     inputs = inputs;
     state = st;
     gone = g;
-    none = claims_none told_jobs (plan_of (held_of w blocks) r) g.digest o r.tries st g.gone g.rules are;
+    none = claims_none told_jobs (plan_of (held_of w blocks) r) g.digest o r.tries st g.gone g.rules g.steps;
     reports = report_is;
     told = told_is;
     logs = log_is;
     reads =
         subst (λ (bytes : List ℕ). IsLogText bytes (log_in st)) (sym log_is)
-        (claims_read told_jobs (plan_of (held_of w blocks) r) g.digest o r.tries st answers.NoSelection bytes g.gone are text (λ e. absurd (cc)));
+        (claims_read told_jobs (plan_of (held_of w blocks) r) g.digest o r.tries st answers.NoSelection bytes g.gone g.steps text (λ e. absurd (cc)));
     ended =
         subst (λ (x : PlanState). (log_in x).ended ≡ true) (sym g.gone.stands)
-        (log_ended_on (plan_of (held_of w blocks) r) g.digest g.gone.saved g.gone.log r.tries g.rules are g.gone.can
+        (log_ended_on (plan_of (held_of w blocks) r) g.digest g.gone.saved g.gone.log r.tries g.rules g.steps g.gone.can
         (λ e. let x = g.gone.comes_to ∙ (ap told g.gone.stands ∙ e) in absurd (cc)));
     uninterrupted =
-        uninterrupted told_files told_jobs files s p o (held_of w blocks) r st answers.NoSelection g are (NoSelection report log)
+        uninterrupted told_files told_jobs files s p o (held_of w blocks) r st answers.NoSelection g (NoSelection report log)
         (ap (λ (t : List ℕ). NoSelection t log) report_is ∙ ap (λ (t : List ℕ). NoSelection (none_report st.stand.past.tries) t) log_is);
   }
 
@@ -106,5 +105,5 @@ module _ (told_files told_jobs : Type 0) (files : List ℕ → List ℕ) (s : So
         reports = report_is ∙ ap (open_report st.stand.past.tries) u.used_up.left;
         told = open_told report st.stand.past.tries st.stand.left u.used_up.step u.used_up.rest u.used_up.left told_is;
         uninterrupted =
-            uninterrupted told_files told_jobs files s p o (held_of w blocks) r st answers.Unfinished g are (Unfinished report) (ap (λ (t : List ℕ). Unfinished t) report_is);
+            uninterrupted told_files told_jobs files s p o (held_of w blocks) r st answers.Unfinished g (Unfinished report) (ap (λ (t : List ℕ). Unfinished t) report_is);
       }

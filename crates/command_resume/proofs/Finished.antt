@@ -5,8 +5,6 @@ use Rattle.fund_base.proofs.Outside.{rose_earlier}
 use Rattle.fund_base.specs.Causes.{Asks, Rose, ShelfView, SinkView}
 use Rattle.fund_outside.specs.Kept.{KeeperView, KeptJob, SameForOthers}
 use Rattle.fund_plan.specs.State.{PlanState}
-use Rattle.fund_plan.specs.Steps.{steps_of}
-use Rattle.search_run.specs.Step.{AreSteps}
 use Rattle.fund_files.specs.Chain.{held_of}
 use Rattle.kept_job.proofs.SavingLaws.{longer, more_kept}
 use Rattle.kept_job.specs.Kept.{IsKeptAt}
@@ -63,7 +61,7 @@ module _ (told_files told told_jobs : Type 0) (s : Sources) (p : Payment) (job r
 -- ---- a run that goes on
 
 module _ (told_files told told_jobs : Type 0) (s : Sources) (p : Payment) (job : List ℕ) (left : Left) (shelf shelf' : ShelfView) (sink sink' : SinkView) (keeper middle keeper' : KeeperView) (result : Status)
-    (same : told_files → shelf'.files ≡ shelf.files) (as_kept : told_jobs → middle.jobs ≡ keeper.jobs) (rises : keeper.faults ≤ middle.faults) (h : IsLeftBy told_files told_jobs shelf.files s p (keeper.jobs job) left) (are : AreSteps (steps_of (plan_of (held_of h.unfinished.wallet h.unfinished.blocks) h.unfinished.asked))) where
+    (same : told_files → shelf'.files ≡ shelf.files) (as_kept : told_jobs → middle.jobs ≡ keeper.jobs) (rises : keeper.faults ≤ middle.faults) (h : IsLeftBy told_files told_jobs shelf.files s p (keeper.jobs job) left) where
   -- what was saved behind the job as it was read was saved behind it as it was before
   saved_from : told_jobs → IsSavedOn job left middle keeper' → IsSavedOn job left keeper keeper'
   saved_from t saved = record {
@@ -88,7 +86,7 @@ module _ (told_files told told_jobs : Type 0) (s : Sources) (p : Payment) (job :
             let plan = plan_of (held_of u.wallet u.blocks) u.asked in
             let was : IsKeptAt plan u.gone.digest n (keeper.jobs job) = subst (λ (d : List ℕ). IsKeptAt plan d n (keeper.jobs job)) (sym (u.gone.named f)) k in
             let now : IsKeptAt plan u.gone.digest (n + u.asked.tries) (keeper'.jobs job) =
-            more_kept plan n u.asked.tries u.gone.digest (keeper.jobs job) (keeper'.jobs job) u.state _ (told_gone told_jobs plan u.gone.digest (keeper.jobs job) u.asked.tries u.state _ t u.gone.gone) are was behind in
+            more_kept plan n u.asked.tries u.gone.digest (keeper.jobs job) (keeper'.jobs job) u.state _ (told_gone told_jobs plan u.gone.digest (keeper.jobs job) u.asked.tries u.state _ t u.gone.gone) u.gone.steps was behind in
             subst (λ (d : List ℕ). IsKeptAt plan d (n + u.asked.tries) (keeper'.jobs job)) (u.gone.named f) now;
       }
 

@@ -24,6 +24,6 @@ goes_as files s p w blocks r n job due inputs rules kept d =
     let there : IsKeptAt (plan_of (held_of d.wallet d.blocks) d.asked) (digest_in files s p) n job =
     by_reading files s p w d.wallet blocks d.blocks r d.asked inputs d.inputs (λ (x : Held) (y : PlainRequest). IsKeptAt (plan_of x y) (digest_in files s p) n job) kept in
     let is : planned_after (held_of d.wallet d.blocks) d.asked (n + d.asked.tries) ≡ due =
-    uninterrupted (Unit {0}) (Unit {0}) files s p job (held_of d.wallet d.blocks) d.asked d.state d.answer (record { rules = d.plan; digest = digest_in files s p; named = λ t. refl; gone = d.gone }) d.steps due d.due_is tt tt n there in
+    uninterrupted (Unit {0}) (Unit {0}) files s p job (held_of d.wallet d.blocks) d.asked d.state d.answer (record { rules = d.plan; steps = d.steps; digest = digest_in files s p; named = λ t. refl; gone = d.gone }) due d.due_is tt tt n there in
     sym is
     ∙ by_reading files s p d.wallet w d.blocks blocks d.asked r d.inputs inputs (λ (x : Held) (y : PlainRequest). planned_after (held_of d.wallet d.blocks) d.asked (n + d.asked.tries) ≡ planned_after x y (n + y.tries)) refl

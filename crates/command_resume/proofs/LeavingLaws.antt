@@ -140,12 +140,11 @@ module _ (told_files told_jobs : Type 0) (files : List ℕ → List ℕ) (s : So
     (inputs : told_files → AreInputs files s p w blocks r) (rules : IsPlan (plan_of (held_of w blocks) r)) (are : AreSteps (steps_of (plan_of (held_of w blocks) r))) (named : told_files → run.digest ≡ digest_in files s p)
     (resumed : HasResumed told_jobs (plan_of (held_of w blocks) r) run.digest o r.tries run.plan run.resumed) (pays : ArePayments (plan_of (held_of w blocks) r) run.resumed.outcome) where
   abbrev went : (a : Answer) → run.resumed.outcome ≡ a → HasGone told_files told_jobs files s p o (held_of w blocks) r run.plan a
-  went a is = record { rules = rules; digest = run.digest; named = named; gone = gone_as told_jobs (held_of w blocks) r run.digest o run.plan run.resumed.outcome a is resumed.gone }
+  went a is = record { rules = rules; steps = are; digest = run.digest; named = named; gone = gone_as told_jobs (held_of w blocks) r run.digest o run.plan run.resumed.outcome a is resumed.gone }
 
   pub ended_on : (e : Ending) → IsConcluded (held_of w blocks) r run e → IsEnded told_files told_jobs files s p o e
   ended_on (endings.Unfinished l) c = record {
-    unfinished = open_on told_files told_jobs files s p o w blocks r run.plan inputs are l.report.items (went answers.Unfinished c.is) c.reports c.told;
-    steps = are;
+    unfinished = open_on told_files told_jobs files s p o w blocks r run.plan inputs l.report.items (went answers.Unfinished c.is) c.reports c.told;
     plan_is = c.plan_is;
     digest_is = c.digest_is;
     parts_are = c.parts_are ∙ resumed.parts_are;
@@ -153,7 +152,7 @@ module _ (told_files told_jobs : Type 0) (files : List ℕ → List ℕ) (s : So
     can = c.can;
   }
   ended_on (endings.NoSelection texts) c =
-      unpaid_on told_files told_jobs files s p o w blocks r run.plan inputs are texts.report.items texts.log.items resumed.read.0 (went answers.NoSelection c.is) resumed.read.1 c.reports c.told c.logs
+      unpaid_on told_files told_jobs files s p o w blocks r run.plan inputs texts.report.items texts.log.items resumed.read.0 (went answers.NoSelection c.is) resumed.read.1 c.reports c.told c.logs
   ended_on (endings.Funded texts) c =
-      paid_on told_files told_jobs files s p o w blocks r run.plan inputs are c.funded texts.report.items texts.log.items resumed.read.0 (went (answers.Funded c.funded) c.is) resumed.read.1 (subst (ArePayments (plan_of (held_of w blocks) r)) c.is pays)
+      paid_on told_files told_jobs files s p o w blocks r run.plan inputs c.funded texts.report.items texts.log.items resumed.read.0 (went (answers.Funded c.funded) c.is) resumed.read.1 (subst (ArePayments (plan_of (held_of w blocks) r)) c.is pays)
       c.psbt c.shows c.reports c.logs

@@ -84,12 +84,12 @@ same_due k r n s (answers.Funded f) is own alike =
     ap (λ (m : ℕ). Funded (report_of k.book r k.wallet.change m f) (logs.text_of (log_at (plan_of k r) n))) (sym alike.tries)
     ∙ ap (λ (l : PlainLog). Funded (report_of k.book r k.wallet.change s.stand.past.tries f) (logs.text_of l)) (sym alike.log)
 
-pub uninterrupted : (told_files told_jobs : Type 0) (files : List ℕ → List ℕ) (s : Sources) (p : Payment) (o : Option KeptJob) (k : Held) (r : PlainRequest) (st : PlanState) (a : Answer) → HasGone told_files told_jobs files s p o k r st a → AreSteps (steps_of (plan_of k r))
+pub uninterrupted : (told_files told_jobs : Type 0) (files : List ℕ → List ℕ) (s : Sources) (p : Payment) (o : Option KeptJob) (k : Held) (r : PlainRequest) (st : PlanState) (a : Answer) → HasGone told_files told_jobs files s p o k r st a
     → (due : payments.Outcome) → due ≡ by_answer_on k r st a → IsUninterrupted told_files told_jobs files s p o k r due
-uninterrupted told_files told_jobs files s p o k r st a g are due is = λ f t n kept.
+uninterrupted told_files told_jobs files s p o k r st a g due is = λ f t n kept.
     let gone : HasGoneOn (Unit {0}) (plan_of k r) (digest_in files s p) o r.tries st a =
     subst (λ (d : List ℕ). HasGoneOn (Unit {0}) (plan_of k r) d o r.tries st a) (g.named f) (told_gone told_jobs (plan_of k r) g.digest o r.tries st a t g.gone) in
-    let alike = goes_alike (plan_of k r) are n r.tries (digest_in files s p) o kept st a gone in
+    let alike = goes_alike (plan_of k r) g.steps n r.tries (digest_in files s p) o kept st a gone in
     let own : st.plan ≡ plan_of k r = ap (λ (x : PlanState). x.plan) gone.stands in
     planned_is k r (n + r.tries) g.rules
     ∙ (ap (by_answer_after k r (n + r.tries)) (sym alike.outcome)

@@ -1,12 +1,8 @@
 -- How a job that is gone on with ends, as the code tells it.
 use Rattle.std.specs.Prelude.{ℕ, ◌≡◌, ◌<◌, ◌+◌, List, length, Option}
 use Rattle.fund_outside.specs.Kept.{KeptJob}
-use Rattle.fund_plan.specs.Steps.{steps_of}
-use Rattle.search_run.specs.Step.{AreSteps}
-use Rattle.fund_files.specs.Chain.{held_of}
 use Rattle.kept_job.specs.SavingRules.{CanBeKept}
 use Rattle.command_end.specs.Names.{Sources}
-use Rattle.command_fund.specs.Due.{plan_of}
 use Rattle.command_fund.specs.Names.{Payment}
 use Rattle.command_resume.specs.Resumed.{IsFunded, IsNotFunded, IsUnfinished}
 use Rattle.command_resume.specs.declared.resuming.Ending.{Ending}
@@ -21,7 +17,6 @@ pub record CanBeLeft (l : Left) : Type 0 where
 -- the plan is the one that went on, with the digest of its job, and it stands behind the parts that were loaded
 pub record IsLeftBy (told_files told_jobs : Type 0) (files : List ℕ → List ℕ) (s : Sources) (p : Payment) (o : Option KeptJob) (l : Left) : Type 0 where
   pub unfinished : IsUnfinished told_files told_jobs files s p o l.report.items
-  pub steps : AreSteps (steps_of (plan_of (held_of unfinished.wallet unfinished.blocks) unfinished.asked))
   pub plan_is : l.plan ≡ unfinished.state
   pub digest_is : l.digest ≡ unfinished.gone.digest
   pub parts_are : l.behind.parts ≡ unfinished.gone.gone.saved.parts

@@ -9,6 +9,7 @@ use Rattle.fund_plan.specs.Answer.{IsPayment}
 use Rattle.fund_plan.specs.Resumed.{log_in}
 use Rattle.fund_plan.specs.Selection.{PlainFunded}
 use Rattle.fund_plan.specs.State.{PlanState}
+use Rattle.fund_plan.specs.Steps.{steps_of}
 use Rattle.fund_plan.specs.declared.outcome.Outcome.{Outcome as Answer}
 use Rattle.fund_plan.specs.declared.outcome.Outcome.TheVariants as answers
 use Rattle.fund_report.specs.ReportText.{IsReportText}
@@ -16,6 +17,7 @@ use Rattle.fund_report.specs.declared.report.Report.TheVariants as kinds
 use Rattle.fund_steps.specs.Plan.{IsEligible, IsPlan}
 use Rattle.psbt_codec.specs.Psbt.{IsPsbt}
 use Rattle.request_text.specs.PlainRequest.{PlainRequest}
+use Rattle.search_run.specs.Step.{AreSteps}
 use Rattle.wallet_text.specs.PlainWallet.{PlainWallet}
 use Rattle.fund_files.specs.Chain.{held_of, history_of}
 use Rattle.fund_files.specs.declared.held.Held.{Held}
@@ -34,9 +36,11 @@ use Rattle.command_fund.specs.Names.{Payment}
 -- ---- what is gone on with
 
 -- The plan of a chain and a request went on with the request's tries from what a keeper has of the job, and came to this. The
--- job is that of the files, where they are told. Exhausted, drawn and none were said after the whole log was accepted.
+-- job is that of the files, where they are told. Exhausted, drawn and none were said after the whole log was accepted. The
+-- searches and draws of the plan keep their rules.
 pub record HasGone (told_files told_jobs : Type 0) (files : List ℕ → List ℕ) (s : Sources) (p : Payment) (o : Option KeptJob) (k : Held) (r : PlainRequest) (st : PlanState) (a : Answer) : Type 0 where
   pub rules : IsPlan (plan_of k r)
+  pub steps : AreSteps (steps_of (plan_of k r))
   pub digest : List ℕ
   pub named : told_files → digest ≡ digest_in files s p
   pub gone : HasGoneOn told_jobs (plan_of k r) digest o r.tries st a

@@ -6,13 +6,16 @@ ghost use Rattle.block_feed.specs.Block.{ChainBlock};
 ghost use Rattle.closing_log.specs.declared.mark.Mark.{Mark};
 ghost use Rattle.fund_outside.specs.Kept.{KeptJob};
 ghost use Rattle.fund_plan.specs.Outcome.{IsAnswerOf, most_tries, tries_at};
+ghost use Rattle.fund_plan.specs.Selection.{PlainFunded};
+ghost use Rattle.fund_plan.specs.State.{PlanState};
 ghost use Rattle.fund_plan.specs.Steps.{steps_of};
 ghost use Rattle.fund_plan.specs.declared.outcome.Outcome.TheVariants as answers;
-ghost use Rattle.fund_steps.specs.Plan.{IsPlan};
+ghost use Rattle.fund_steps.specs.Plan.{IsPlan, PlainPlan};
 ghost use Rattle.request_text.specs.PlainRequest.{PlainRequest};
 ghost use Rattle.search_run.specs.Step.{AreSteps};
 ghost use Rattle.wallet_text.specs.PlainWallet.{PlainWallet};
 ghost use Rattle.fund_files.specs.Chain.{held_of};
+ghost use Rattle.kept_job.specs.Gone.{ClaimsNoneOn, ClaimsOn};
 ghost use Rattle.kept_job.specs.Kept.{IsKeptAt};
 ghost use Rattle.kept_job.specs.declared.fault.KeptFault.{KeptFault};
 ghost use Rattle.command_end.specs.Names.{Sources};
@@ -22,7 +25,6 @@ ghost use Rattle.command_fund.specs.Due.{plan_of, planned, planned_after};
 ghost use Rattle.command_fund.specs.Inputs.{AreInputs};
 ghost use Rattle.command_fund.specs.Names.{Payment};
 ghost use Rattle.command_resume.specs.Due.{ComesTo, IsGone, IsNotKept, Outcome};
-ghost use Rattle.command_resume.specs.Resumed.{IsFunded, IsNotFunded};
 
 /// The law of stopped runs: where a job was left by an unfinished run of some files after n tries, they and the job come to
 /// what the files come to with n tries and the request's together, and that is what the same files come to at once, where
@@ -44,11 +46,10 @@ pub fn stopped_runs_go_on()
     ensures one { (files : List ℕ → List ℕ) (s : Sources) (p : Payment) (job : Option KeptJob) (a b : Outcome) → ComesTo files s p job a → ComesTo files s p job b → a ≡ b }
 {}
 
-/// The law of resumed runs: whatever a keeper returned, a payment that isn't marked as partial, and that there is no
-/// selection, is the answer of the files, of all that there is to find. A call does nothing.
+/// The law of resumed runs: a payment that keeps the claims of a run that went on, and isn't marked as partial, is the answer of
+/// its plan, of all that there is to find; and so is that there is no selection, where that is claimed. What a keeper returned
+/// is not asked. A call does nothing.
 pub fn resumed_runs_have_the_answer()
-    ensures funded { (files : List ℕ → List ℕ) (s : Sources) (p : Payment) (job : Option KeptJob) (report log : List ℕ) (f : IsFunded ⊥ ⊥ files s p job report log) →
-        f.funded.mark ≢ Mark.Partial → IsAnswerOf (plan_of (held_of f.wallet f.blocks) f.asked) (answers.Funded f.funded) }
-    ensures none { (files : List ℕ → List ℕ) (s : Sources) (p : Payment) (job : Option KeptJob) (report log : List ℕ) (f : IsNotFunded ⊥ ⊥ files s p job report log) →
-        IsAnswerOf (plan_of (held_of f.wallet f.blocks) f.asked) answers.NoSelection }
+    ensures funded { (p : PlainPlan) (from tries : ℕ) (s : PlanState) (f : PlainFunded) → ClaimsOn p from tries s f → f.mark ≢ Mark.Partial → IsAnswerOf p (answers.Funded f) }
+    ensures none { (p : PlainPlan) (s : PlanState) → ClaimsNoneOn p s → IsAnswerOf p answers.NoSelection }
 {}

@@ -4,7 +4,7 @@ ghost use Rattle.std.specs.Prelude.{◌≡◌, ◌≢◌, ◌≤◌, Err, IfErr,
 ghost use Rattle.fund_base.specs.Causes.{OnlyReads, Rose};
 ghost use Rattle.fund_files.specs.Chain.{IsHeld};
 ghost use Rattle.command_end.specs.Names.{plain_sources};
-ghost use Rattle.command_fund.specs.Inputs.{AsksTwice};
+ghost use Rattle.command_fund.specs.Inputs.{AsksTwice, NoneBehind};
 ghost use Rattle.command_fund.specs.Names.{plain_payment};
 ghost use Rattle.command_fund.specs.Stops as payments;
 ghost use Rattle.kept_job.specs.Refused.{IsNotResumed};
@@ -114,6 +114,7 @@ fn prepare<H: Shelf>(
     ensures frame { OnlyReads H.tells (H.view shelf.old) (H.view shelf.new) }
     ensures stop { IfErr result (payments.StopsFor H.tells (plain_sources sources.now) (plain_payment payment.now) (H.view shelf.old) (H.view shelf.new)) }
     ensures asked { H.tells → AsksTwice (plain_sources sources.now) (plain_payment payment.now) (H.view shelf.old) (H.view shelf.new) }
+    ensures none_behind { H.tells → NoneBehind (plain_sources sources.now) (H.view shelf.old) (H.view shelf.new) }
 {
     let Inputs { held, request } = read_inputs(alloc, sources, payment, shelf)?;
     let plan = new_plan(alloc, &held, &request)?;
@@ -173,6 +174,7 @@ pub fn go_on<H: Shelf, K: Keeper>(
     ensures frame { OnlyReads H.tells (H.view shelf.old) (H.view shelf.new) }
     ensures stop { IfErr result (StopsFor H.tells K.tells (plain_sources sources.now) (plain_payment payment.now) job.now (H.view shelf.old) (H.view shelf.new) (K.view keeper.old) (K.view keeper.new)) }
     ensures asked { H.tells → AsksTwice (plain_sources sources.now) (plain_payment payment.now) (H.view shelf.old) (H.view shelf.new) }
+    ensures none_behind { H.tells → NoneBehind (plain_sources sources.now) (H.view shelf.old) (H.view shelf.new) }
     ensures jobs { K.tells → (K.view keeper.new).jobs ≡ (K.view keeper.old).jobs }
     ensures unfailed { result ≢ Err (Stop.Kept KeptFault.Failed) → (K.view keeper.new).faults ≡ (K.view keeper.old).faults }
     ensures faults { (K.view keeper.old).faults ≤ (K.view keeper.new).faults }

@@ -1,11 +1,12 @@
 //! The commands, from their words to their status.
 
-ghost use Rattle.std.specs.Prelude.{◌≡◌, ◌↔◌, ◌⊎◌, Some, None, codes, IfSome};
+ghost use Rattle.std.specs.Prelude.{◌≡◌, ◌≢◌, ◌↔◌, ◌⊎◌, Some, None, codes, IfSome};
 ghost use Rattle.command_end.specs.Lines.{GotLine, fault_line};
 ghost use Rattle.command_check.specs.Statuses.{EndsAccepted};
 ghost use Rattle.command_coins.specs.Statuses.{EndsListed};
+ghost use Rattle.command_fund.specs.Inputs.{AsksInOrder};
 ghost use Rattle.command_fund.specs.Jobs.{KeepsJobs};
-ghost use Rattle.command_fund.specs.Statuses.{EndsFunded, IsBeforeTheLog};
+ghost use Rattle.command_fund.specs.Statuses.{EndsFunded, IsBeforeTheLog, IsOfTheFiles};
 ghost use Rattle.command_resume.specs.Statuses.{EndsFunded as EndsResumed};
 ghost use Rattle.fund_top.specs.Asked.{AsksFor};
 ghost use Rattle.fund_top.specs.Command.{plain};
@@ -43,6 +44,8 @@ fn act<H: Shelf, O: Sink, K: Keeper>(
     ensures apart { WhereWorking (Some (plain command.now)) (λ number count. (H.view shelf.new) ≡ (H.view shelf.old)) }
     ensures jobs { K.tells → KeepsJobs (job_of (plain command.now)) result (K.view keeper.old) (K.view keeper.new) }
     ensures asked { H.tells → AsksFor (plain command.now) (H.view shelf.old) (H.view shelf.new) }
+    ensures read_once { H.tells → IsOfTheFiles result → WhereFunding (Some (plain command.now)) (λ s p. AsksInOrder s p (H.view shelf.old) (H.view shelf.new)) }
+    ensures unfailed { result ≢ Status.KeepFault → (K.view keeper.new).faults ≡ (K.view keeper.old).faults }
 {
     match command {
         Command::Coins(sources) => coins(alloc, sources, shelf, out),
@@ -76,7 +79,7 @@ fn act<H: Shelf, O: Sink, K: Keeper>(
 /// What is refused gets its fault line. Whatever the files and the keeper hold, a payment spends only coins that may be spent,
 /// and pays each recipient exactly and at least the fee. One that is marked exhausted is the best of all that are admissible in
 /// its row and stage, and its log is accepted. No selection means that there is none. Unfinished comes only where the tries are
-/// used up, and going on with a job gives the answer of a run without a stop.
+/// used up, and going on with a job that unfinished runs of the same files left gives the answer of a run without a stop.
 ///
 /// The clauses on content hold where the shelf, the sink and the keeper tell theirs.
 pub fn run<H: Shelf, O: Sink, K: Keeper>(
@@ -127,21 +130,24 @@ pub fn run<H: Shelf, O: Sink, K: Keeper>(
     ensures saved { result ≡ Status.Saved → IfSome (command_of words.now.items) (λ c. EndsNotKept H.tells O.tells K.tells c (H.view shelf.old) (O.view out.old) (O.view out.new) (K.view keeper.old)) }
     ensures check_refused { result ≡ Status.CheckRefused → IfSome (command_of words.now.items) (λ c. EndsBroken H.tells O.tells c (H.view shelf.old) (O.view out.old) (O.view out.new)) }
 
-    // Faults: only where a count rose.
+    // Faults: only where a count rose. A failure of the keeper is told as that, and as nothing else.
     ensures read_fault { result ≡ Status.ReadFault → IfSome (command_of words.now.items) (λ c. EndsUnread H.tells O.tells c (H.view shelf.old) (H.view shelf.new) (O.view out.old) (O.view out.new)) }
     ensures write_fault { result ≡ Status.WriteFault → IfSome (command_of words.now.items) (λ c. EndsUnwritten H.tells O.tells K.tells c (H.view shelf.old) (H.view shelf.new) (O.view out.old) (O.view out.new) (K.view keeper.old) (K.view keeper.new)) }
     ensures keep_fault { result ≡ Status.KeepFault → IfSome (command_of words.now.items) (λ c. EndsUnkept H.tells O.tells c (H.view shelf.old) (O.view out.old) (O.view out.new) (K.view keeper.old) (K.view keeper.new)) }
+    ensures unfailed { result ≢ Status.KeepFault → (K.view keeper.new).faults ≡ (K.view keeper.old).faults }
     ensures memory { result ≡ Status.Memory → IfSome (command_of words.now.items) (λ c. EndsWithoutMemory H.tells O.tells K.tells c (H.view shelf.old) (H.view shelf.new) (O.view out.old) (O.view out.new) (K.view keeper.old) (K.view keeper.new)) }
 
     // What stays: every file but the log of a payment, and the log too before it is written; and every job but the one that the
-    // words name, and that one too unless the run is unfinished, or was before its report wasn't printed whole.
+    // words name, and that one too unless the run is unfinished, or was, and its report wasn't printed whole.
     ensures others { H.tells → IfSome (command_of words.now.items) (λ c. KeepsOthers c (H.view shelf.old).files (H.view shelf.new).files) }
     ensures kept { H.tells → IsBeforeTheLog result → (H.view shelf.new).files ≡ (H.view shelf.old).files }
     ensures jobs { K.tells → IfSome (command_of words.now.items) (λ c. KeepsJobs (job_of c) result (K.view keeper.old) (K.view keeper.new)) }
 
-    // What is read: only the files that the words name, in their order, and the log of a payment never. A workload is summed up
-    // without files: none is asked for or touched.
+    // What is read: only the files that the words name, in their order, and with a job once more in this order, for its digest;
+    // the log of a payment never, and behind a file that is refused none. What the files of a payment come to by themselves is
+    // found by reading them once. A workload is summed up without files: none is asked for or touched.
     ensures asked { H.tells → IfSome (command_of words.now.items) (λ c. AsksFor c (H.view shelf.old) (H.view shelf.new)) }
+    ensures read_once { H.tells → IsOfTheFiles result → WhereFunding (command_of words.now.items) (λ s p. AsksInOrder s p (H.view shelf.old) (H.view shelf.new)) }
     ensures apart { WhereWorking (command_of words.now.items) (λ number count. (H.view shelf.new) ≡ (H.view shelf.old)) }
 
     // Where the files are refused, the kept job, or the report that is checked, and none of these failed to be read, the status

@@ -19,10 +19,11 @@ ghost use Rattle.kept_job.specs.Saving.{IsSavedBehind};
 ghost use Rattle.kept_job.specs.SavingRules.{CanBeKept};
 ghost use Rattle.kept_job.specs.declared.fault.KeptFault.{KeptFault};
 
-/// The law of saved jobs. A plan that is unfinished can be kept, in no more parts than its tries and one, wherever it had gone
-/// on from; one that went on from a job with a try at least, in one part more than the job. One that is saved behind nothing is kept as its run from the start was left. One that went on from a job that was
-/// kept so, and is saved behind that job's parts, is kept as its run from the start would have been left, had it not stopped.
-/// The parts that were counted stay, and one is added. A call does nothing.
+/// The law of saved jobs. A plan that is unfinished can be kept, wherever it had gone on from: in no more parts than its tries
+/// and one; and one that went on from a job with a try at least, in one part more than the job. One that is saved behind
+/// nothing is kept as its run from the start was left. One that went on from a job that was kept so, and is saved behind that
+/// job's parts, is kept as its run from the start would have been left, had it not stopped. The parts that were counted stay,
+/// and one is added. A call does nothing.
 pub fn saved_jobs_are_kept()
     ensures can { (s : PlanState) (n parts : ℕ) → AreSteps (steps_of s.plan) → IsStandOf s → told (moved s n) ≡ Outcome.Unfinished →
         1 ≤ parts → parts ≤ (moved s n).stand.past.tries + 1 → CanBeKept (moved s n) parts }

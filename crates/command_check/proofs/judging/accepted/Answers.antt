@@ -1,6 +1,7 @@
 use Rattle.std.proofs.lemmas.Result.{err_from_is_err_and}
 use Rattle.fund_files.proofs.FrameLaws.{only_reads_on}
 use Rattle.command_end.specs.Names.{plain_sources}
+use Rattle.command_fund.proofs.InputLaws.{inputs_behind}
 use Rattle.command_fund.specs.Names.{plain_payment}
 use Rattle.command_check.proofs.AskedLaws.{both_asked, payment_asked, payment_no_log, report_asked}
 use Rattle.command_check.proofs.StopLaws.{evidence_stops, if_judging_stops, if_vouched, no_plan, not_logged}
@@ -59,3 +60,13 @@ pub returns-clause-no_log : goal.returns-clause-no_log
 returns-clause-no_log g c = λ t none.
     report_asked (plain_sources c.args.sources.now) (plain_payment c.args.payment.now) c.args.report.now (g.H.Shelf.view c.args.shelf.now) (g.H.Shelf.view c.examiner.new.shelf) (g.H.Shelf.view c.read_pair.new.shelf) (c.examiner.ensures.asked t)
     (c.read_pair.ensures.no_log t (not_logged _ c.args.report.now (g.H.Shelf.view c.args.shelf.now) (g.H.Shelf.view c.examiner.new.shelf) c.examiner.ensures.frame t none))
+
+pub returns-in_err-pair-clause-none_behind : goal.returns-in_err-pair-clause-none_behind
+returns-in_err-pair-clause-none_behind g c =
+    let h = c.in_ok-examiner.ensures.plan in
+    inputs_behind _ (plain_sources c.args.sources.now) (plain_payment c.args.payment.now) h.wallet h.blocks h.asked (g.H.Shelf.view c.args.shelf.now) (g.H.Shelf.view c.read_pair.new.shelf) h.inputs
+
+pub returns-clause-none_behind : goal.returns-clause-none_behind
+returns-clause-none_behind g c =
+    let h = c.in_ok-examiner.ensures.plan in
+    inputs_behind _ (plain_sources c.args.sources.now) (plain_payment c.args.payment.now) h.wallet h.blocks h.asked (g.H.Shelf.view c.args.shelf.now) (g.H.Shelf.view c.read_pair.new.shelf) h.inputs

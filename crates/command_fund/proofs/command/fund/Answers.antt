@@ -4,7 +4,8 @@ use Rattle.command_end.specs.Names.{plain_sources}
 use Rattle.command_end.specs.declared.status.Status.TheVariants as statuses
 use Rattle.command_fund.specs.Names.{plain_job, plain_payment}
 use Rattle.command_fund.proofs.Finished.{finish_ends, leave_ends, stop_ends}
-use Rattle.command_fund.proofs.LeavingLaws.{asked_on, asked_once, asked_twice, same_jobs}
+use Rattle.command_fund.proofs.InputLaws.{inputs_behind}
+use Rattle.command_fund.proofs.LeavingLaws.{asked_on, asked_once, asked_twice, left_otherwise, same_jobs}
 use Rattle.command_fund.proofs.command.fund.Goals as goal
 
 pub returns-in-Ok-Unfinished-clause-ends : goal.returns-in-Ok-Unfinished-clause-ends
@@ -55,6 +56,30 @@ returns-in-Ok-Funded-clause-asked_once g c = λ t none. asked_on (plain_sources 
 
 pub returns-in-Err-clause-asked : goal.returns-in-Err-clause-asked
 returns-in-Err-clause-asked g c = λ t. asked_once (plain_sources c.args.sources.now) (plain_payment c.args.payment.now) (g.H.Shelf.view c.args.shelf.now) (g.H.Shelf.view c.outcome.new.shelf) (c.outcome.ensures.asked t)
+
+pub returns-in-Ok-Unfinished-clause-read_once : goal.returns-in-Ok-Unfinished-clause-read_once
+returns-in-Ok-Unfinished-clause-read_once g c = λ t of. absurd (left_otherwise _ _ _ (plain_sources c.args.sources.now) (plain_payment c.args.payment.now) (plain_job c.args.job) c.in-Ok-Unfinished.left (g.H.Shelf.view c.outcome.new.shelf) (g.H.Shelf.view c.leave.new.shelf) (g.O.Sink.view c.args.out.now) (g.O.Sink.view c.leave.new.out) (g.K.Keeper.view c.args.keeper.now) (g.K.Keeper.view c.leave.new.keeper) c.leave.result c.leave.ensures.left of)
+
+pub returns-in-Ok-NoSelection-clause-read_once : goal.returns-in-Ok-NoSelection-clause-read_once
+returns-in-Ok-NoSelection-clause-read_once g c = λ t of. asked_on (plain_sources c.args.sources.now) (plain_payment c.args.payment.now) (g.H.Shelf.view c.args.shelf.now) (g.H.Shelf.view c.outcome.new.shelf) (g.H.Shelf.view c.finish.new.shelf) c.finish.ensures.asked (c.outcome.ensures.asked t)
+
+pub returns-in-Ok-Funded-clause-read_once : goal.returns-in-Ok-Funded-clause-read_once
+returns-in-Ok-Funded-clause-read_once g c = λ t of. asked_on (plain_sources c.args.sources.now) (plain_payment c.args.payment.now) (g.H.Shelf.view c.args.shelf.now) (g.H.Shelf.view c.outcome.new.shelf) (g.H.Shelf.view c.finish-in-Ok-Funded.new.shelf) c.finish-in-Ok-Funded.ensures.asked (c.outcome.ensures.asked t)
+
+pub returns-in-Ok-Unfinished-clause-none_behind : goal.returns-in-Ok-Unfinished-clause-none_behind
+returns-in-Ok-Unfinished-clause-none_behind g c =
+    let ended = rw c.in-Ok-Unfinished.field-0-is at c.in-Ok-Unfinished.ensures.ends in
+    inputs_behind _ (plain_sources c.args.sources.now) (plain_payment c.args.payment.now) ended.0.wallet ended.0.blocks ended.0.asked (g.H.Shelf.view c.args.shelf.now) (g.H.Shelf.view c.leave.new.shelf) ended.0.inputs
+
+pub returns-in-Ok-NoSelection-clause-none_behind : goal.returns-in-Ok-NoSelection-clause-none_behind
+returns-in-Ok-NoSelection-clause-none_behind g c =
+    let ends = rw c.in-Ok-NoSelection.field-0-is at c.in-Ok-NoSelection.ensures.ends in
+    inputs_behind _ (plain_sources c.args.sources.now) (plain_payment c.args.payment.now) ends.wallet ends.blocks ends.asked (g.H.Shelf.view c.args.shelf.now) (g.H.Shelf.view c.finish.new.shelf) ends.inputs
+
+pub returns-in-Ok-Funded-clause-none_behind : goal.returns-in-Ok-Funded-clause-none_behind
+returns-in-Ok-Funded-clause-none_behind g c =
+    let ends = rw c.in-Ok-Funded.field-0-is at c.in-Ok-Funded.ensures.ends in
+    inputs_behind _ (plain_sources c.args.sources.now) (plain_payment c.args.payment.now) ends.wallet ends.blocks ends.asked (g.H.Shelf.view c.args.shelf.now) (g.H.Shelf.view c.finish-in-Ok-Funded.new.shelf) ends.inputs
 
 pub leave-requires : goal.leave-requires
 leave-requires g c =

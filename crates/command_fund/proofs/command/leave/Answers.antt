@@ -1,8 +1,12 @@
-use Rattle.std.proofs.Common.{inl, inr, refl}
+use Rattle.std.proofs.Common.{◌≡◌, Result, Err, inl, inr, refl}
 use Rattle.command_end.specs.Names.{plain_sources}
 use Rattle.command_fund.specs.Names.{plain_payment}
 use Rattle.command_fund.proofs.LeavingLaws.{not_left, put_jobs, same_jobs}
+use Rattle.command_fund.specs.declared.refusal.Stop.{Stop}
 use Rattle.command_fund.proofs.command.leave.Goals as goal
+
+same_stop : (a b : Stop) → ◌≡◌ {A = Result Unit Stop} (Err a) (Err b) → a ≡ b
+same_stop a b e = cc
 
 pub returns-in-Ok-clause-left : goal.returns-in-Ok-clause-left
 returns-in-Ok-clause-left g c =
@@ -31,3 +35,6 @@ returns-in-None-clause-left g c =
 
 pub returns-in-None-clause-jobs : goal.returns-in-None-clause-jobs
 returns-in-None-clause-jobs g c = λ k. same_jobs _ _ (g.K.Keeper.view c.args.keeper.now) (g.K.Keeper.view c.args.keeper.now) refl
+
+pub returns-in-Err-clause-unfailed : goal.returns-in-Err-clause-unfailed
+returns-in-Err-clause-unfailed g c = λ other. c.in-Err.ensures.unfailed (λ e. other (c.answer.ensures.keep (same_stop _ _ e)))

@@ -4,7 +4,7 @@ use Rattle.fund_files.proofs.FrameLaws.{only_reads_on}
 use Rattle.command_end.specs.Names.{plain_sources}
 use Rattle.command_fund.specs.Cause.{cause_of}
 use Rattle.command_fund.specs.Names.{plain_payment}
-use Rattle.command_fund.proofs.InputLaws.{all_asked, asked_is, asked_stops, chain_asked, chain_stops, taken_stops}
+use Rattle.command_fund.proofs.InputLaws.{all_asked, asked_is, asked_stops, chain_asked, chain_stops, none_behind, taken_stops}
 use Rattle.command_fund.proofs.inputs.read_inputs.Goals as goal
 
 pub returns-in_err-held-clause-stop : goal.returns-in_err-held-clause-stop
@@ -46,3 +46,15 @@ returns-in-Some-clause-asked g c = all_asked _ (plain_sources c.args.sources.now
 
 pub returns-in-None-clause-asked : goal.returns-in-None-clause-asked
 returns-in-None-clause-asked g c = all_asked _ (plain_sources c.args.sources.now) (plain_payment c.args.payment.now) (g.H.Shelf.view c.args.shelf.now) (g.H.Shelf.view c.read_chain.new.shelf) (g.H.Shelf.view c.read_asked.new.shelf) c.read_chain.ensures.asked c.read_asked.ensures.asked_for
+
+pub returns-in_err-held-clause-none_behind : goal.returns-in_err-held-clause-none_behind
+returns-in_err-held-clause-none_behind g c = λ t. record { wallet_alone = c.read_chain.ensures.refused_alone t; chain_alone = λ none. c.read_chain.ensures.asked t }
+
+pub returns-in_err-request-clause-none_behind : goal.returns-in_err-request-clause-none_behind
+returns-in_err-request-clause-none_behind g c = λ t. none_behind (plain_sources c.args.sources.now) c.in_ok-held.held.wallet c.in_ok-held.ensures.held.held.blocks (g.H.Shelf.view c.args.shelf.now) (g.H.Shelf.view c.read_asked.new.shelf) (c.in_ok-held.ensures.held.chain t)
+
+pub returns-in-Some-clause-none_behind : goal.returns-in-Some-clause-none_behind
+returns-in-Some-clause-none_behind g c = λ t. none_behind (plain_sources c.args.sources.now) c.in_ok-held.held.wallet c.in_ok-held.ensures.held.held.blocks (g.H.Shelf.view c.args.shelf.now) (g.H.Shelf.view c.read_asked.new.shelf) (c.in_ok-held.ensures.held.chain t)
+
+pub returns-in-None-clause-none_behind : goal.returns-in-None-clause-none_behind
+returns-in-None-clause-none_behind g c = λ t. none_behind (plain_sources c.args.sources.now) c.in_ok-held.held.wallet c.in_ok-held.ensures.held.held.blocks (g.H.Shelf.view c.args.shelf.now) (g.H.Shelf.view c.read_asked.new.shelf) (c.in_ok-held.ensures.held.chain t)

@@ -1,11 +1,16 @@
-use Rattle.std.proofs.Common.{ℕ, List, Err, ap, subst}
+use Rattle.std.proofs.Common.{◌≡◌, ℕ, List, Result, Err, ap, subst}
 use Rattle.std.proofs.lemmas.Result.{err_from_is_err_and}
 use Rattle.fund_outside.specs.declared.keeper.KeepFault.{KeepFault}
 use Rattle.command_end.specs.Names.{plain_sources}
 use Rattle.kept_job.specs.Saving.{IsSavedBehind}
 use Rattle.command_fund.specs.Names.{plain_payment}
 use Rattle.command_fund.proofs.LeavingLaws.{keeper_keeps, reading_keeps}
+use Rattle.command_fund.specs.Stops.{of_keeper}
+use Rattle.command_fund.specs.declared.refusal.Stop.{Stop}
 use Rattle.command_fund.proofs.leaving.keep_anew.Goals as goal
+
+same_fault : (a b : KeepFault) → ◌≡◌ {A = Result Unit KeepFault} (Err a) (Err b) → a ≡ b
+same_fault a b e = cc
 
 pub returns-in_err-digest-clause-stop : goal.returns-in_err-digest-clause-stop
 returns-in_err-digest-clause-stop g c =
@@ -20,3 +25,8 @@ returns-in_err-keep-clause-stop g c =
 pub returns-clause-kept : goal.returns-clause-kept
 returns-clause-kept g c = λ t k within.
     subst (λ (d : List ℕ). IsSavedBehind d c.args.plan.now 0 0 ((g.K.Keeper.view c.args.keeper.now).jobs c.args.job.now) ((g.K.Keeper.view c.keep.new.keeper).jobs c.args.job.now)) (c.in_ok-digest.ensures.digest t within) (c.in_ok-keep.ensures.kept k)
+
+pub returns-in_err-keep-clause-unfailed : goal.returns-in_err-keep-clause-unfailed
+returns-in_err-keep-clause-unfailed g c =
+    let p = err_from_is_err_and c.from_residual-in_err-keep.result c.from_residual-in_err-keep.ensures.1 in
+    rw (p.1, p.2) (λ other. c.in_err-keep.ensures.unfailed (λ e. other (ap (λ (x : KeepFault). Err (of_keeper x)) (same_fault _ _ e))))

@@ -2,6 +2,7 @@ use Rattle.std.proofs.Common.{◌≡◌, ◌∙◌, Result, Err, inl, inr, refl}
 use Rattle.command_end.specs.Names.{plain_sources}
 use Rattle.command_end.specs.declared.status.Status.TheVariants as statuses
 use Rattle.command_fund.specs.Names.{plain_payment}
+use Rattle.command_fund.proofs.InputLaws.{inputs_behind}
 use Rattle.command_fund.proofs.LeavingLaws.{same_jobs}
 use Rattle.command_resume.proofs.Finished.{asked_on, finish_ends, jobs_on, leave_ends}
 use Rattle.command_resume.proofs.StopLaws.{stop_ends}
@@ -16,7 +17,7 @@ pub returns-in-Ok-Unfinished-clause-ends : goal.returns-in-Ok-Unfinished-clause-
 returns-in-Ok-Unfinished-clause-ends g c =
     let ended = rw c.in-Ok-Unfinished.field-0-is at c.in-Ok-Unfinished.ensures.ends in
     leave_ends _ _ _ (plain_sources c.args.sources.now) (plain_payment c.args.payment.now) c.args.job.now c.in-Ok-Unfinished.left (g.H.Shelf.view c.args.shelf.now) (g.H.Shelf.view c.go_on.new.shelf) (g.O.Sink.view c.args.out.now) (g.O.Sink.view c.leave.new.out)
-    (g.K.Keeper.view c.args.keeper.now) (g.K.Keeper.view c.go_on.new.keeper) (g.K.Keeper.view c.leave.new.keeper) c.leave.result c.go_on.ensures.frame.same c.go_on.ensures.jobs c.go_on.ensures.faults ended ended.steps c.leave.ensures.left
+    (g.K.Keeper.view c.args.keeper.now) (g.K.Keeper.view c.go_on.new.keeper) (g.K.Keeper.view c.leave.new.keeper) c.leave.result c.go_on.ensures.frame.same c.go_on.ensures.jobs c.go_on.ensures.faults ended c.leave.ensures.left
 
 pub returns-in-Ok-NoSelection-clause-ends : goal.returns-in-Ok-NoSelection-clause-ends
 returns-in-Ok-NoSelection-clause-ends g c =
@@ -73,3 +74,13 @@ returns-in-Ok-Funded-clause-unfailed g c = λ other. c.in-Ok-Funded.ensures.unfa
 
 pub returns-in-Err-clause-unfailed : goal.returns-in-Err-clause-unfailed
 returns-in-Err-clause-unfailed g c = λ other. c.in-Err.ensures.unfailed (λ e. other (c.answer.ensures.keep (same_stop _ _ e)))
+
+pub returns-in-Ok-NoSelection-clause-none_behind : goal.returns-in-Ok-NoSelection-clause-none_behind
+returns-in-Ok-NoSelection-clause-none_behind g c =
+    let ends = rw c.in-Ok-NoSelection.field-0-is at c.in-Ok-NoSelection.ensures.ends in
+    inputs_behind _ (plain_sources c.args.sources.now) (plain_payment c.args.payment.now) ends.wallet ends.blocks ends.asked (g.H.Shelf.view c.args.shelf.now) (g.H.Shelf.view c.finish.new.shelf) ends.inputs
+
+pub returns-in-Ok-Funded-clause-none_behind : goal.returns-in-Ok-Funded-clause-none_behind
+returns-in-Ok-Funded-clause-none_behind g c =
+    let ends = rw c.in-Ok-Funded.field-0-is at c.in-Ok-Funded.ensures.ends in
+    inputs_behind _ (plain_sources c.args.sources.now) (plain_payment c.args.payment.now) ends.wallet ends.blocks ends.asked (g.H.Shelf.view c.args.shelf.now) (g.H.Shelf.view c.finish-in-Ok-Funded.new.shelf) ends.inputs

@@ -31,3 +31,12 @@ pub returns-clause-ends : goal.returns-clause-ends
 returns-clause-ends g c =
     is_ended _ (plain_sources c.args.sources.now) (plain_payment c.args.payment.now) (g.H.Shelf.view c.args.shelf.now) c.in_ok-ready.ready c.in_ok-ready.ensures.ready _ c.args.job.now (g.K.Keeper.view c.args.keeper.now) (g.K.Keeper.view c.run_on.new.keeper)
     c.in_ok-ending.ending c.in_ok-ending.ensures.ends
+
+pub returns-in_err-ready-clause-none_behind : goal.returns-in_err-ready-clause-none_behind
+returns-in_err-ready-clause-none_behind g c = c.prepare.ensures.none_behind
+
+pub returns-in_err-ending-clause-none_behind : goal.returns-in_err-ending-clause-none_behind
+returns-in_err-ending-clause-none_behind g c = c.prepare.ensures.none_behind
+
+pub returns-clause-none_behind : goal.returns-clause-none_behind
+returns-clause-none_behind g c = c.prepare.ensures.none_behind

@@ -1,6 +1,7 @@
 use Rattle.std.proofs.lemmas.Result.{err_from_is_err_and}
 use Rattle.fund_files.proofs.FrameLaws.{only_reads_on}
 use Rattle.command_end.specs.Names.{plain_sources}
+use Rattle.command_fund.proofs.InputLaws.{inputs_behind}
 use Rattle.command_fund.proofs.LeavingLaws.{asked_once, asked_twice}
 use Rattle.command_fund.specs.Names.{plain_payment}
 use Rattle.command_resume.proofs.GoingLaws.{named_on, plan_stopped, reading_stopped}
@@ -48,3 +49,21 @@ returns-clause-frame g c = only_reads_on _ (g.H.Shelf.view c.args.shelf.now) (g.
 
 pub returns-clause-asked : goal.returns-clause-asked
 returns-clause-asked g c = λ t. asked_twice (plain_sources c.args.sources.now) (plain_payment c.args.payment.now) (g.H.Shelf.view c.args.shelf.now) (g.H.Shelf.view c.read_inputs.new.shelf) (g.H.Shelf.view c.read_digest.new.shelf) (c.read_inputs.ensures.asked t) (c.read_digest.ensures.asked t)
+
+pub returns-in_err-digest-clause-none_behind : goal.returns-in_err-digest-clause-none_behind
+returns-in_err-digest-clause-none_behind g c =
+    let i = c.in_ok-held.field-0 in
+    let h = c.in_ok-held.ensures.held in
+    inputs_behind _ (plain_sources c.args.sources.now) (plain_payment c.args.payment.now) i.held.wallet h.held.blocks i.request (g.H.Shelf.view c.args.shelf.now) (g.H.Shelf.view c.read_digest.new.shelf) h.inputs
+
+pub returns-clause-none_behind : goal.returns-clause-none_behind
+returns-clause-none_behind g c =
+    let i = c.in_ok-held.field-0 in
+    let h = c.in_ok-held.ensures.held in
+    inputs_behind _ (plain_sources c.args.sources.now) (plain_payment c.args.payment.now) i.held.wallet h.held.blocks i.request (g.H.Shelf.view c.args.shelf.now) (g.H.Shelf.view c.read_digest.new.shelf) h.inputs
+
+pub returns-in_err-held-clause-none_behind : goal.returns-in_err-held-clause-none_behind
+returns-in_err-held-clause-none_behind g c = c.read_inputs.ensures.none_behind
+
+pub returns-in_err-plan-clause-none_behind : goal.returns-in_err-plan-clause-none_behind
+returns-in_err-plan-clause-none_behind g c = c.read_inputs.ensures.none_behind

@@ -15,7 +15,16 @@ returns-in-Fund-clause-ends g c =
 
 pub returns-in-Fund-clause-asked : goal.returns-in-Fund-clause-asked
 returns-in-Fund-clause-asked g c =
-    rw c.in-Fund.is (λ told. payment_asks (plain_sources c.in-Fund.sources) (plain_payment c.in-Fund.payment) c.in-Fund.job (g.H.Shelf.view c.args.shelf.now) (g.H.Shelf.view c.fund.new.shelf) (c.fund.ensures.asked told) (c.fund.ensures.asked_once told))
+    rw c.in-Fund.is (λ told. payment_asks (plain_sources c.in-Fund.sources) (plain_payment c.in-Fund.payment) c.in-Fund.job (g.H.Shelf.view c.args.shelf.now) (g.H.Shelf.view c.fund.new.shelf) (c.fund.ensures.asked told) (c.fund.ensures.asked_once told) (c.fund.ensures.none_behind told))
+
+pub returns-in-Coins-clause-asked : goal.returns-in-Coins-clause-asked
+returns-in-Coins-clause-asked g c = rw c.in-Coins.is (λ told. (c.coins.ensures.asked told, c.coins.ensures.refused_alone told))
+
+pub returns-in-Resume-clause-asked : goal.returns-in-Resume-clause-asked
+returns-in-Resume-clause-asked g c = rw c.in-Resume.is (λ told. (c.resume.ensures.asked told, c.resume.ensures.none_behind told))
+
+pub returns-in-Fund-clause-read_once : goal.returns-in-Fund-clause-read_once
+returns-in-Fund-clause-read_once g c = rw c.in-Fund.is c.fund.ensures.read_once
 
 pub returns-in-Resume-clause-ends : goal.returns-in-Resume-clause-ends
 returns-in-Resume-clause-ends g c =
@@ -28,7 +37,7 @@ returns-in-Check-clause-ends g c =
     (g.K.Keeper.view c.args.keeper.now) (g.K.Keeper.view c.args.keeper.now) c.check.result c.check.ensures.ends)
 
 pub returns-in-Check-clause-asked : goal.returns-in-Check-clause-asked
-returns-in-Check-clause-asked g c = rw c.in-Check.is c.check.ensures.asked
+returns-in-Check-clause-asked g c = rw c.in-Check.is (λ told. (c.check.ensures.asked told, c.check.ensures.none_behind told, c.check.ensures.no_log told, c.check.ensures.unread told))
 
 pub work-requires : goal.work-requires
 work-requires g c =
