@@ -1,0 +1,7 @@
+pub mod CoinListFaults
+pub mod EntryFaults
+pub mod ListFaults
+pub mod ObjectFaults
+pub mod PairFaults
+pub mod RequestFaults
+pub mod ValueFaults

@@ -1,0 +1,26 @@
+-- How names and hashes stand among words.
+use Rattle.std.proofs.Common.{◌≡◌, ℕ, List, length, reverse, string_bytes, arith}
+use Rattle.std.specs.declared.string.String.{String}
+use Rattle.std.proofs.lemmas.List.{length-reverse}
+use Rattle.hex.specs.Hex.{lower_digits}
+use Rattle.hex.proofs.HexLemmas.{length-encode_with}
+use Rattle.json_fields.specs.Fields.{IsHash}
+use Rattle.fault_text.proofs.CoinLaws.{hashes_apart}
+use Rattle.fault_text.proofs.NameLaws.{printable, apart}
+use Rattle.fault_text.specs.Coin.{shown_hash}
+use Rattle.fault_text.specs.Name.{shown_name}
+use Rattle.fault_laws.proofs.WordLaws.{NoBlank, name_bytes, printable_plain}
+
+pub name_apart : {Z : Type 0} (a b : String Z) → shown_name (string_bytes a) ≡ shown_name (string_bytes b) → string_bytes a ≡ string_bytes b
+name_apart a b e = apart (string_bytes a) (string_bytes b) (name_bytes a) (name_bytes b) e
+
+pub name_plain : {Z : Type 0} (name : String Z) → NoBlank (shown_name (string_bytes name))
+name_plain name = printable_plain (shown_name (string_bytes name)) (printable (string_bytes name) (name_bytes name))
+
+-- ---- hashes
+
+pub hash_long : (hash : List ℕ) → IsHash hash → length (shown_hash hash) ≡ 64
+hash_long hash is = let len = is.len in omega (arith, length-encode_with lower_digits (reverse hash), length-reverse hash)
+
+pub hash_apart : (a b : List ℕ) → IsHash a → IsHash b → shown_hash a ≡ shown_hash b → a ≡ b
+hash_apart a b a_is b_is e = hashes_apart a b a_is.bytes b_is.bytes e

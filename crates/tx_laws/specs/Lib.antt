@@ -1,0 +1,4 @@
+pub mod Broken
+pub mod Fields
+pub mod First
+pub mod Order
