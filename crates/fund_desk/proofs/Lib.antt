@@ -1,0 +1,12 @@
+pub mod BlockLaws
+pub mod ChainLaws
+pub mod CommitLaws
+pub mod DeskLaws
+pub mod GivenLaws
+pub mod JobLaws
+pub mod LookLaws
+pub mod OpenLaws
+pub mod OutLaws
+pub mod ShelfLaws
+pub mod ShownLaws
+pub mod StepLaws

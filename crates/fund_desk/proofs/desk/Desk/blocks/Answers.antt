@@ -1,0 +1,24 @@
+use Rattle.desk_machine.specs.State.{PlainDesk}
+use Rattle.fund_desk.proofs.DeskLaws.{desk_grown}
+use Rattle.fund_desk.proofs.StepLaws.{blocks_left, blocks_next, blocks_reply}
+use Rattle.fund_desk.proofs.desk.Desk.blocks.Goals as goal
+
+pub invariant_of-self : goal.invariant_of-self
+invariant_of-self c =
+    let d : PlainDesk = record { held = c.self.inside.held; committed = c.self.inside.committed.items; jobs = c.self.inside.jobs.items } in
+    desk_grown d c.add_all.new.held c.self.invariant c.add_all.ensures.held c.add_all.ensures.change
+
+pub returns-clause-reply : goal.returns-clause-reply
+returns-clause-reply c =
+    let d : PlainDesk = record { held = c.self.inside.held; committed = c.self.inside.committed.items; jobs = c.self.inside.jobs.items } in
+    blocks_reply c.add_all.result c.args.self.now d c.args.bytes.now c.self.view_is c.add_all.ensures.reply
+
+pub returns-clause-next : goal.returns-clause-next
+returns-clause-next c =
+    let d : PlainDesk = record { held = c.self.inside.held; committed = c.self.inside.committed.items; jobs = c.self.inside.jobs.items } in
+    blocks_next c.add_all.result c.args.self.now d c.args.bytes.now c.add_all.new.held c.self.view_is c.add_all.ensures.next
+
+pub returns-clause-memory : goal.returns-clause-memory
+returns-clause-memory c =
+    let d : PlainDesk = record { held = c.self.inside.held; committed = c.self.inside.committed.items; jobs = c.self.inside.jobs.items } in
+    blocks_left c.add_all.result c.args.self.now d c.args.bytes.now c.add_all.new.held c.self.view_is c.add_all.ensures.memory

@@ -1,0 +1,14 @@
+use Rattle.std.proofs.Common.{◌∙◌, ap, subst, sym}
+use Rattle.fund_plan.specs.Selection.{PlainFunded}
+use Rattle.fund_files.specs.Chain.{HasTexts}
+use Rattle.fund_files.specs.declared.held.Held.{Held}
+use Rattle.fund_payment.proofs.ParentLaws.{held_texts, psbt_made}
+use Rattle.fund_desk.proofs.signing.psbt.Goals as goal
+
+pub spent_of-requires-clause-texts : goal.spent_of-requires-clause-texts
+spent_of-requires-clause-texts c = subst HasTexts (sym (ap (λ (x : Held). x.book) c.held.view_is)) (held_texts c.args.held.now c.requires.held)
+
+pub returns-clause-fits : goal.returns-clause-fits
+returns-clause-fits c =
+    psbt_made _ c.args.request.now _ c.args.funded.now c.deref.result.now c.in_ok-tx.tx c.in_ok-spent.spent.items (c.deref.ensures.value ∙ ap (λ (f : PlainFunded). f.coins) c.funded.view_is) c.in_ok-tx.ensures.value c.in_ok-spent.ensures.value c.in_ok-tx.ensures.text
+    (c.pays_in_text.ensures.bare c.args.request.now _ c.args.funded.now) c.in_ok-spent.ensures.fits

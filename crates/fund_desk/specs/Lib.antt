@@ -1,0 +1,4 @@
+pub mod Due
+pub mod Given
+pub mod Looked
+pub mod Opening

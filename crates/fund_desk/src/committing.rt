@@ -1,0 +1,96 @@
+//! The payment of a job, as it is committed.
+
+ghost use Rattle.std.specs.Prelude.{◌≡◌, IfOk, MatchResult, Some};
+ghost use Rattle.fund_files.specs.Chain.{IsHeld};
+ghost use Rattle.fund_plan.specs.Answer.{IsSelection};
+ghost use Rattle.fund_desk.specs.Given.{IsGiven, IsNotGiven, IsWrittenOut};
+ghost use Rattle.desk_machine.specs.Machine.{funded_of};
+ghost use Rattle.desk_machine.specs.Replies.{plain_reply};
+ghost use Rattle.desk_machine.specs.Rules.{IsJob};
+
+use crate::job::OpenJob;
+use crate::payments::Committed;
+use crate::signing::psbt;
+use crate::taken::first_taken;
+use desk_machine::Reply;
+use fund_base::{Memory, Txid};
+use fund_files::Held;
+use fund_plan::Funded;
+use psbt_codec::write_psbt;
+use request_text::Request;
+use std::alloc::Global;
+use tx_codec::txid;
+
+/// A payment that is given out to be signed: its txid, the bytes of its PSBT, and the payment as it is remembered.
+#[derive(Drop)]
+pub struct Given {
+    pub txid: Txid,
+    pub psbt: Vec<u8>,
+    pub payment: Committed,
+}
+
+/// A payment as it is given out. The error is out of memory.
+fn written_out(
+    alloc: Global,
+    held: &Held,
+    request: &Request,
+    funded: &Funded,
+) -> Result<Given, Memory>
+    requires held { IsHeld held.now }
+    requires funded { IsSelection request.now funded.now }
+    ensures { IfOk result (IsWrittenOut held.now request.now funded.now) }
+{
+    let made = psbt(alloc, held, request, funded)?;
+    let id = txid(&made.tx);
+    let bytes = write_psbt(alloc, &made)?;
+    let payment = Committed::new(alloc, id, &funded.coins)?;
+    Ok(Given {
+        txid: id,
+        psbt: bytes,
+        payment,
+    })
+}
+
+/// The payment of a job as it is given out, or the reply where a coin of it can't be spent any more. The error is out of
+/// memory.
+fn give_funded(
+    alloc: Global,
+    held: &Held,
+    committed: &[Committed],
+    job: &OpenJob,
+    funded: &Funded,
+) -> Result<Result<Given, Reply>, Memory>
+    requires held { IsHeld held.now }
+    requires job { IsJob held.now.wallet.change job.now }
+    requires funded { Some funded.now ≡ funded_of job.now.answer }
+    ensures { IfOk result (λ r. MatchResult r (IsGiven held.now committed.now job.now) (λ reply. IsNotGiven held.now committed.now job.now (plain_reply reply))) }
+{
+    let asked = job.request();
+    match first_taken(alloc, held, committed, asked, funded)? {
+        Some(coin) => Ok(Err(Reply::Taken(coin))),
+        None => {
+            // no book has a history with a fault
+            held.book.len();
+            let given = written_out(alloc, held, asked, funded)?;
+            Ok(Ok(given))
+        }
+    }
+}
+
+/// The payment of a job as it is given out, or the reply where there is none or a coin of it can't be spent any more. The
+/// error is out of memory.
+pub fn give_out(
+    alloc: Global,
+    held: &Held,
+    committed: &[Committed],
+    job: &OpenJob,
+) -> Result<Result<Given, Reply>, Memory>
+    requires held { IsHeld held.now }
+    requires job { IsJob held.now.wallet.change job.now }
+    ensures { IfOk result (λ r. MatchResult r (IsGiven held.now committed.now job.now) (λ reply. IsNotGiven held.now committed.now job.now (plain_reply reply))) }
+{
+    match job.funded() {
+        Some(funded) => give_funded(alloc, held, committed, job, funded),
+        None => Ok(Err(Reply::NotFunded)),
+    }
+}

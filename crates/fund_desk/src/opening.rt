@@ -1,0 +1,79 @@
+//! The plan of a job that is opened.
+
+ghost use Rattle.std.specs.Prelude.{◌≡◌, ◌≢◌, IfErr, IfOk, MatchResult, None, Some, Err};
+ghost use Rattle.fund_files.specs.Chain.{IsHeld};
+ghost use Rattle.fund_plan.specs.Outcome.{beginning_of};
+ghost use Rattle.fund_steps.specs.Faults.{fault_of};
+ghost use Rattle.desk_machine.specs.Machine.{plan_for, plan_in};
+ghost use Rattle.fund_desk.specs.Opening.{IsMade};
+ghost use Rattle.desk_machine.specs.Replies.{plain_refusal};
+ghost use Rattle.desk_machine.specs.State.{desk_of};
+
+use crate::payments::{Committed, keep_free};
+use desk_machine::Refusal;
+use fund_base::Memory;
+use fund_files::Held;
+use fund_plan::Plan;
+use fund_steps::{PlanFault, faults_are_found};
+use request_text::{Request, RequestFault, read_request};
+use std::alloc::Global;
+
+/// A request, and its plan, of which no try is made yet.
+#[derive(Drop)]
+pub struct Made {
+    pub request: Request,
+    pub plan: Plan,
+}
+
+/// The plan of a request that replaces no payment, from the coins that may be spent now, but for those of committed
+/// payments.
+fn plan_of(
+    alloc: Global,
+    held: &Held,
+    committed: &[Committed],
+    request: &Request,
+) -> Result<Plan, PlanFault>
+    requires held { IsHeld held.now }
+    requires bump { request.now.bump ≡ None }
+    ensures plan { IfOk result (λ p. p.plan ≡ plan_in (desk_of held.now committed.now) request.now) }
+    ensures stand { IfOk result (λ p. p.stand ≡ beginning_of p.plan) }
+    ensures partial { IfOk result (λ p. p.partial ≡ None) }
+    ensures fine { IfOk result (λ p. fault_of p.plan ≡ None) }
+    ensures fault { IfErr result (λ e. e ≢ PlanFault.Memory → fault_of (plan_in (desk_of held.now committed.now) request.now) ≡ Some e) }
+{
+    faults_are_found();
+    let (_, mut coins) = held.states_and_coins(alloc)?;
+    keep_free(alloc, committed, &mut coins)?;
+    match Plan::new(alloc, request, &held.wallet.change, coins) {
+        Ok(plan) => {
+            plan.keeps_rules();
+            Ok(plan)
+        }
+        Err(fault) => Err(fault),
+    }
+}
+
+/// The request of a file of these bytes, and its plan; or why there is none. The error is out of memory.
+pub fn make(
+    alloc: Global,
+    held: &Held,
+    committed: &[Committed],
+    bytes: &[u8],
+) -> Result<Result<Made, Refusal>, Memory>
+    requires held { IsHeld held.now }
+    ensures made { IfOk result (λ r. MatchResult r (IsMade (plan_for (desk_of held.now committed.now) bytes.now)) (λ refusal. plan_for (desk_of held.now committed.now) bytes.now ≡ Err (plain_refusal refusal))) }
+{
+    let request = match read_request(alloc, bytes) {
+        Ok(request) => request,
+        Err(RequestFault::Memory) => return Err(Memory),
+        Err(fault) => return Ok(Err(Refusal::Request(fault))),
+    };
+    if request.bump.is_some() {
+        return Ok(Err(Refusal::Bump));
+    }
+    match plan_of(alloc, held, committed, &request) {
+        Ok(plan) => Ok(Ok(Made { request, plan })),
+        Err(PlanFault::Memory) => Err(Memory),
+        Err(fault) => Ok(Err(Refusal::Plan(fault))),
+    }
+}

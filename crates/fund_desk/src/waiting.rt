@@ -1,0 +1,74 @@
+//! A pending transaction of a command, read and added.
+
+ghost use Rattle.std.specs.Prelude.{◌≡◌, IfOk, Ok, OnErr, OnOk};
+ghost use Rattle.fund_files.specs.Chain.{IsHeld};
+ghost use Rattle.tx_codec.specs.TransactionText.{IsTransaction};
+ghost use Rattle.desk_machine.specs.Machine.{add_pending, pending_by_tx, whole_tx};
+ghost use Rattle.desk_machine.specs.Replies.{plain_reply};
+
+use crate::chain::{add_pending, is_later, is_repeat};
+use crate::records::refuse_book;
+use desk_machine::{Refusal, Reply};
+use fund_base::Memory;
+use fund_files::Held;
+use hex::FromHexError;
+use std::alloc::Global;
+use tx_codec::{Tx, TxFault, read_whole_tx, txid};
+
+/// Adds a transaction behind those that wait, unless it or the book refuses. The error is out of memory.
+fn add_tx(held: &mut Held, tx: Tx) -> Result<Reply, Memory>
+    requires held { IsHeld held.old }
+    requires text { IsTransaction tx }
+    ensures reply { IfOk result (λ r. plain_reply r ≡ (pending_by_tx held.old (Ok tx)).reply) }
+    ensures next { OnOk result (held.new ≡ (pending_by_tx held.old (Ok tx)).held) }
+    ensures held { IsHeld held.new }
+    ensures change { held.new.wallet.change ≡ held.old.wallet.change }
+    ensures memory { OnErr result (held.new ≡ held.old) }
+{
+    let id = txid(&tx);
+    if is_repeat(&held.wallet.pending, &id) {
+        return Ok(Reply::Refused(Refusal::Repeat));
+    }
+    if is_later(&held.wallet.pending, &tx, &id) {
+        return Ok(Reply::Refused(Refusal::ParentLater));
+    }
+    match add_pending(held, tx) {
+        Ok(()) => Ok(Reply::Seen(id)),
+        Err(fault) => refuse_book(fault),
+    }
+}
+
+/// Adds the transaction of these bytes, all of them.
+fn add_bytes(alloc: Global, held: &mut Held, bytes: &[u8]) -> Result<Reply, Memory>
+    requires { IsHeld held.old }
+    ensures reply { IfOk result (λ r. plain_reply r ≡ (pending_by_tx held.old (whole_tx bytes.now)).reply) }
+    ensures next { OnOk result (held.new ≡ (pending_by_tx held.old (whole_tx bytes.now)).held) }
+    ensures held { IsHeld held.new }
+    ensures change { held.new.wallet.change ≡ held.old.wallet.change }
+    ensures memory { OnErr result (held.new ≡ held.old) }
+{
+    match read_whole_tx(alloc, bytes) {
+        Ok(tx) => add_tx(held, tx),
+        Err(TxFault::Memory) => Err(Memory),
+        Err(fault) => Ok(Reply::Refused(Refusal::Tx(fault))),
+    }
+}
+
+/// Adds the transaction of these hex digits behind those that wait. The first of these refuses it: the digits aren't an
+/// even number of hex digits; the bytes aren't a transaction; one of its txid waits; it or one that waits spends an output
+/// of it; the book. The error is out of memory: the chain is then as before.
+#[tactic(auto, unfolding(desk_machine::specs::Machine::add_pending))]
+pub fn add_hex(alloc: Global, held: &mut Held, digits: &[u8]) -> Result<Reply, Memory>
+    requires { IsHeld held.old }
+    ensures reply { IfOk result (λ r. plain_reply r ≡ (add_pending held.old digits.now).reply) }
+    ensures next { OnOk result (held.new ≡ (add_pending held.old digits.now).held) }
+    ensures held { IsHeld held.new }
+    ensures change { held.new.wallet.change ≡ held.old.wallet.change }
+    ensures memory { OnErr result (held.new ≡ held.old) }
+{
+    match hex::decode(alloc, digits) {
+        Ok(bytes) => add_bytes(alloc, held, &bytes),
+        Err(FromHexError::OutOfMemory) => Err(Memory),
+        Err(_) => Ok(Reply::Refused(Refusal::Kind)),
+    }
+}
