@@ -1,0 +1,43 @@
+//! Laws of PSBTs that are made whole. A call of any of them does nothing.
+
+ghost use Rattle.std.specs.Prelude.{◌≡◌, ℕ, All, Contains, None};
+ghost use Rattle.coin_book.specs.Faults.{fault_of};
+ghost use Rattle.coin_book.specs.History.{History};
+ghost use Rattle.fund_files.specs.Chain.{HasTexts};
+ghost use Rattle.fund_payment.specs.Report.{psbt_of};
+ghost use Rattle.fund_plan.specs.Selection.{PlainFunded};
+ghost use Rattle.payment_states.specs.BookOf.{IsBookOf};
+ghost use Rattle.payment_states.specs.Candidates.{candidates_of};
+ghost use Rattle.psbt_codec.specs.PartialTransaction.{PartialTransaction};
+ghost use Rattle.psbt_codec.specs.Psbt.{IsPsbt};
+ghost use Rattle.request_text.specs.PlainRequest.{PlainRequest};
+ghost use Rattle.wallet_text.specs.PlainWallet.{PlainWallet};
+ghost use Rattle.wallet_text.specs.WalletRules.{IsWallet};
+ghost use Rattle.wallet_text.specs.declared.wallet.Watch.{Watch};
+ghost use Rattle.psbt_complete.specs.Completed.{IsCompleted, known_of};
+ghost use Rattle.psbt_complete.specs.Faults.{IsFirstFault};
+ghost use Rattle.psbt_complete.specs.declared.fault.CompleteFault.{CompleteFault};
+
+/// The law of outcomes: from a book a PSBT is made whole in one way at most, or for one fault at most it isn't, and not both.
+pub fn completions_have_one_outcome()
+    ensures one { (h : History) (p q r : PartialTransaction) → IsCompleted h p q → IsCompleted h p r → q ≡ r }
+    ensures first { (h : History) (p : PartialTransaction) (e f : CompleteFault) → IsFirstFault h (known_of p) e → IsFirstFault h (known_of p) f → e ≡ f }
+    ensures apart { (h : History) (p q : PartialTransaction) (e : CompleteFault) → IsCompleted h p q → IsFirstFault h (known_of p) e → ⊥ }
+{}
+
+/// The law of PSBTs: what a PSBT is made whole as is a PSBT.
+pub fn completions_are_psbts()
+    ensures { (h : History) (p q : PartialTransaction) → IsPsbt p → IsCompleted h p q → IsPsbt q }
+{}
+
+/// The law of repeats: what was made whole once stays as it is, from whatever book it is made whole again.
+pub fn completed_stay()
+    ensures stays { (h g : History) (p q : PartialTransaction) → IsCompleted h p q → IsCompleted g q q }
+    ensures same { (h g : History) (p q r : PartialTransaction) → IsCompleted h p q → IsCompleted g q r → r ≡ q }
+{}
+
+/// The law of payments: the PSBT of a payment from coins that may be spent is made whole from the book of these coins. So it is
+/// never refused.
+pub fn payments_are_made_whole()
+    ensures { (w : PlainWallet) (h : History) (tip : ℕ) (r : PlainRequest) (change : Watch) (f : PlainFunded) → IsWallet w → IsBookOf w h → fault_of h ≡ None → HasTexts h → All (Contains (candidates_of w h tip)) f.coins → (q : PartialTransaction) × IsCompleted h (psbt_of h r change f) q }
+{}
