@@ -6,7 +6,8 @@ use fund_top::run;
 use std::alloc::Global;
 use std::io;
 
-const JOB: &str = "job-1";
+/// The name of the job.
+pub const JOB: &str = "job-1";
 
 /// The words of a command with the job.
 fn words(alloc: Global, verb: &str) -> io::Result<Vec<String>> {
@@ -25,7 +26,7 @@ fn words(alloc: Global, verb: &str) -> io::Result<Vec<String>> {
 }
 
 /// The files of the job, taken into memory.
-fn files(rt: &HostRuntime) -> io::Result<Vec<(String, Vec<u8>)>> {
+pub fn files(rt: &HostRuntime) -> io::Result<Vec<(String, Vec<u8>)>> {
     let alloc = rt.alloc();
     let mut shelf = FileShelf::new(rt);
     let mut files = Vec::new(alloc);
@@ -65,7 +66,7 @@ fn show_job(rt: &HostRuntime, keeper: &mut MemKeeper) -> io::Result<()> {
 }
 
 /// Does a command with the job, and prints how it ended.
-fn act(
+pub fn act(
     rt: &HostRuntime,
     verb: &str,
     shelf: &mut SureShelf,

@@ -4,6 +4,7 @@
 #![tactic(auto)]
 
 mod jobs;
+mod long_jobs;
 
 use fund_base::{FileShelf, MemShelf, MemSink, StdSink, SureShelf, SureSink, put_all, read_whole};
 use fund_outside::SureKeeper;
@@ -186,5 +187,6 @@ fn main(rt: HostRuntime) -> io::Result<()> {
     failing(&rt, "eighth read fails", &[7], &[], &[])?;
     failing(&rt, "first write fails", &[], &[0], &[])?;
     failing(&rt, "first put fails", &[], &[], &[0])?;
-    jobs::failing_keepers(&rt)
+    jobs::failing_keepers(&rt)?;
+    long_jobs::long_jobs(&rt)
 }
