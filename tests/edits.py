@@ -1,17 +1,22 @@
 #!/usr/bin/env python3
 """Tries the edits of edits/CRATE/*.edit: the prover must refuse each.
 
-Usage: tests/edits.py [CRATE..]     (at the top of the repository; no CRATE: all)
+Usage: tests/edits.py [--jobs N] [--proved] [--each] [CRATE..|CRATE/EDIT..]     (at the top of the repository; none: all)
 
 An edit has the form that must-fail edits have: a line 'file: src/x.rt', then pairs of lines 'old: TEXT' and 'new: TEXT',
 each TEXT standing once in that file. A function is proved against its own contract and those of what it calls. So edits in
-different functions are tried in one check, and each is refused where a function that it touches isn't proved. An edit
-outside a function, or one that a shared check doesn't refuse, is tried alone: then it is refused where the check fails.
-The last line is 'N refused, M let through, K that don't apply'; the status is 0 where M and K are 0.
+different functions are tried in one check of those functions alone. Each is refused where a function that it touches isn't
+proved, and let through where all of them are. An edit outside a function, or one of which a shared check says neither, is
+tried alone, by a check of the whole crate: then it is refused where that fails. A line says which goals of an edit stayed open.
+--jobs N is handed on to rt check. --proved leaves out the check before any edit: for a tree that rt ci has passed. --each gives
+each edit a check of its own, so that the first results come soon.
+The last line is 'N refused, M let through, K that don't apply'; an edit that doesn't compile is one that doesn't apply.
+The status is 0 where M and K are 0.
 """
-import os, re, shutil, subprocess, sys, tempfile
+import os, re, shutil, subprocess, sys, tempfile, time
 
 TOP = os.path.dirname(os.path.dirname(os.path.abspath(__file__)))
+ITEM = re.compile(r"\bfn (\w+)|^ *(?:pub )?(?:const|static|struct|enum|trait|mod)\b|^impl\b.*|^}", re.M)
 
 
 def read_edit(path):
@@ -45,29 +50,51 @@ def apply(folder, parts):
     return None
 
 
+def module_of(file):
+    """The path below the crate of a file of src/: '' of its root."""
+    path = re.sub(r"^src/|\.rt$", "", file).split("/")
+    return "::".join(word for word in path if word not in ("lib", "main", "mod"))
+
+
+def owner_of(head):
+    """The type that an impl is for, with its trait behind it, as a check names both; None where a trait has arguments."""
+    words = re.sub(r"^impl\s*(<[^>]*>)?\s*|\s*(\bwhere\b.*)?\{.*$", "", head)
+    trait, _, name = words.rpartition(" for ")
+    if "<" in trait:
+        return None
+    return re.sub(r"<.*", "", name).strip() + trait.strip()
+
+
 def touched(folder, parts):
-    """The names of the functions in which the edit's old lines stand; None for what stands outside one."""
-    names = set()
+    """The paths of the functions in which the edit's old lines stand; None for what stands outside one."""
+    paths = set()
     for file, old, _ in parts:
-        text = open(f"{folder}/{file}").read()
-        before = text[: text.find(old)]
-        line_end = text.find("\n", text.find(old))
-        head = before[before.rfind("\n") + 1 :] + text[text.find(old) : line_end]
-        name = re.search(r"\bfn (\w+)", head)
         if not file.endswith(".rt"):
-            names.add(None)
-        elif name:
-            names.add(name.group(1))
+            paths.add(None)
+            continue
+        if old.startswith("use "):
+            # (what it brings is used where the edit's other lines stand)
+            continue
+        text, module = open(f"{folder}/{file}").read(), module_of(file)
+        line_end = text.find("\n", text.find(old))
+        name, owner = None, ""
+        for match in reversed(list(ITEM.finditer(text, 0, line_end if line_end >= 0 else len(text)))):
+            if name is None and match.group(1):
+                name = match.group(1)
+                if not text[text.rfind("\n", 0, match.start()) + 1].isspace():
+                    break
+            elif name is None or match.group(0) == "}":
+                break
+            elif match.group(0).startswith("impl"):
+                owner = owner_of(match.group(0))
+                break
+        if name is None:
+            paths.add(None)
+        elif owner is None:
+            paths.add(module or None)
         else:
-            depth, found = 0, None
-            for match in reversed(list(re.finditer(r"\bfn (\w+)|^(?:const|static|struct|enum|impl|trait)\b|^    const\b|^}", before, re.M))):
-                if match.group(1):
-                    found = match.group(1)
-                    break
-                if match.group(0) != "impl":
-                    break
-            names.add(found)
-    return names
+            paths.add("::".join(word for word in (module, owner, name) if word))
+    return paths or {None}
 
 
 def below(crate):
@@ -96,109 +123,160 @@ def copy(crate, room):
     open(f"{room}/crates.txt", "w").writelines(lines)
 
 
-def check(folder):
-    """Checks the crate; answers whether it is proved, and the names of the functions that aren't."""
-    ran = subprocess.run(["rt", "check"], cwd=folder, stdout=subprocess.PIPE, stderr=subprocess.STDOUT, text=True, errors="replace")
-    open_names = set()
-    for line in ran.stdout.split("\n"):
-        found = re.match(r"fn (\S+): no proof: (?!it calls)", line)
-        if found:
-            open_names.add(found.group(1).split("::")[-1])
-        found = re.search(r"proofs/(?:[\w+]+/)*(\w+)/(?:Answers|Invariants|Proof)\.antt:\d+:\d+: error", line)
-        if found:
-            open_names.add(found.group(1))
-    return ran.returncode, open_names, ran.stdout
+class Check:
+    """A check of a crate: its status, what it printed, and for each function that isn't proved why."""
+
+    def __init__(self, folder, paths, jobs):
+        words = ["rt", "check", *jobs]
+        for path in sorted(paths):
+            words += ["--only", path]
+        ran = subprocess.run(words, cwd=folder, stdout=subprocess.PIPE, stderr=subprocess.STDOUT, text=True, errors="replace")
+        self.status, self.out, self.why = ran.returncode, ran.stdout, {}
+        self.proved = set(re.findall(r"^fn \w+::(\S+): proved", self.out, re.M))
+        # (else the front end refused the text, or no function has such a path)
+        self.is_judged = bool(re.search(r"^(only|logic)=", self.out, re.M))
+        for line in self.out.split("\n"):
+            found = re.match(r"fn \w+::(\S+): (?:no proof|not proved):? ?(?!.*(?:it calls|it passes|a call of))(.*)", line)
+            if found:
+                goals = re.findall(r"did not prove (.*)", found.group(2))
+                self.why.setdefault(found.group(1), goals[0] if goals else found.group(2)[:160])
+            found = re.search(r"proofs/((?:[^/\s]+/)*)(?:Answers|Invariants|Proof)\.antt:\d+:\d+: error:? ?(.*)", line)
+            if found:
+                self.why.setdefault(found.group(1).strip("/").replace("/", "::"), found.group(2)[:160])
+
+    def goals(self, paths):
+        """What stayed open in these functions, or in those of these modules; '' where nothing did."""
+        said = [f"{name}: {why}" for name, why in self.why.items() for path in paths if path and (name == path or name.startswith(path + "::"))]
+        return "; ".join(said)
 
 
 def batches(edits):
     """Edits in groups of which no two touch one function."""
     groups = []
-    for name, parts, names in edits:
+    for edit in edits:
         for group in groups:
-            if not group[1] & names:
-                group[0].append((name, parts, names))
-                group[1].update(names)
+            if not any(meet(one, other) for one in group[1] for other in edit[2]):
+                group[0].append(edit)
+                group[1].update(edit[2])
                 break
         else:
-            groups.append(([(name, parts, names)], set(names)))
+            groups.append(([edit], set(edit[2])))
     return [group[0] for group in groups]
 
 
+def meet(one, other):
+    return one == other or one.startswith(other + "::") or other.startswith(one + "::")
+
+
 class Crate:
-    def __init__(self, name, room):
-        self.name, self.room = name, room
+    def __init__(self, name, room, jobs):
+        self.name, self.room, self.jobs = name, room, jobs
         self.folder = f"{room}/crates/{name}"
         copy(name, room)
         self.kept = f"{room}/kept"
-        for part in ("src", "specs", "proofs", "out"):
+        for part in ("src", "specs", "proofs"):
             if os.path.isdir(f"{self.folder}/{part}"):
                 shutil.copytree(f"{self.folder}/{part}", f"{self.kept}/{part}", symlinks=True)
 
     def fresh(self):
-        for part in ("src", "specs", "proofs", "out"):
+        """Puts the files back. What earlier checks kept in out/ stays: the next takes of it what is still up to date."""
+        for part in ("src", "specs", "proofs"):
             shutil.rmtree(f"{self.folder}/{part}", ignore_errors=True)
             if os.path.isdir(f"{self.kept}/{part}"):
                 shutil.copytree(f"{self.kept}/{part}", f"{self.folder}/{part}", symlinks=True)
 
-    def tried(self, group):
+    def tried(self, group, paths):
         self.fresh()
         for _, parts, _ in group:
             apply(self.folder, parts)
-        return check(self.folder)
+        return Check(self.folder, paths, self.jobs)
+
+    def does_compile(self, edit):
+        tried = self.tried([edit], [""])
+        return tried.is_judged or tried.status == 0
+
+    def group(self, edits):
+        """Tries edits in one check; answers (edit, goals) of each that it refuses, those that are proved, and the others."""
+        paths = set().union(*(edit[2] for edit in edits))
+        check = self.tried(edits, paths)
+        if check.status == 2:
+            # (a path that the check doesn't know: the modules of all)
+            edits = [(name, parts, {module_of(file) for file, _, _ in parts}) for name, parts, _ in edits]
+            check = self.tried(edits, set().union(*(edit[2] for edit in edits)) - {""})
+        goals = [(edit, check.goals(edit[2]) if check.is_judged and check.status == 1 else "") for edit in edits]
+        left = [edit for edit, why in goals if not why]
+        proved = [edit for edit in left if edit[2] <= check.proved]
+        return [it for it in goals if it[1]], proved, [edit for edit in left if edit not in proved], check.is_judged
 
 
-def try_crate(name):
-    refused, through, broken = [], [], []
+def try_crate(name, chosen, jobs, is_proved, is_each):
+    began, refused, through, broken = time.time(), [], [], []
     with tempfile.TemporaryDirectory(prefix="edits-") as room:
-        crate = Crate(name, room)
-        first, _, out = check(crate.folder)
-        if first:
-            print(out[-2000:])
-            sys.exit(f"{name}: isn't proved before any edit")
-        for part in ("out",):
-            shutil.rmtree(f"{crate.kept}/{part}", ignore_errors=True)
-            shutil.copytree(f"{crate.folder}/{part}", f"{crate.kept}/{part}", symlinks=True)
+        crate = Crate(name, room, jobs)
         shared, alone = [], []
         for file in sorted(os.listdir(f"{TOP}/edits/{name}")):
-            if not file.endswith(".edit"):
+            if not file.endswith(".edit") or chosen and file[:-5] not in chosen:
                 continue
             edit, parts = file[:-5], read_edit(f"{TOP}/edits/{name}/{file}")
             crate.fresh()
-            names = touched(crate.folder, parts) if all(os.path.isfile(f"{crate.folder}/{p[0]}") for p in parts) else {None}
-            fault = apply(crate.folder, parts)
+            paths = touched(crate.folder, parts) if all(os.path.isfile(f"{crate.folder}/{p[0]}") for p in parts) else {None}
+            fault = apply(crate.folder, parts) if parts else "no pair of lines 'old:' and 'new:'"
             if fault:
                 broken.append(f"{edit}: {fault}")
-            elif None in names:
-                alone.append((edit, parts, names))
             else:
-                shared.append((edit, parts, names))
-        for group in batches(shared):
-            status, names, out = crate.tried(group)
-            for edit in group:
-                if status == 1 and edit[2] & names:
-                    refused.append(edit[0])
-                else:
-                    alone.append(edit)
+                (alone if None in paths else shared).append((edit, parts, paths))
+        crate.fresh()
+        if not is_proved:
+            first = Check(crate.folder, set().union(*(it[2] for it in shared)) if not alone else set(), jobs)
+            if first.status:
+                print(first.out[-2000:])
+                sys.exit(f"{name}: isn't proved before any edit")
+        for group in [[edit] for edit in shared] if is_each else batches(shared):
+            taken, proved, left, is_judged = crate.group(group)
+            if not is_judged and len(group) > 1:
+                good = [it for it in group if crate.does_compile(it)]
+                broken += [f"{it[0]}: it doesn't compile" for it in group if it not in good]
+                taken, proved, left, is_judged = crate.group(good) if good else ([], [], [], True)
+            refused += [f"{edit[0]}: refused: {why}" for edit, why in taken]
+            through += [edit[0] for edit in proved]
+            alone += left
+            for line in refused[len(refused) - len(taken) :] + [f"{edit[0]}: proved" for edit in proved]:
+                print(f"{name}: {line}", flush=True)
         for edit in alone:
-            status, names, out = crate.tried([edit])
-            if status == 1 and "fn " in out:
-                refused.append(edit[0] + " (alone)")
+            check = crate.tried([edit], set())
+            if not check.is_judged:
+                broken.append(f"{edit[0]}: it doesn't compile")
+                print(check.out[-1500:])
+            elif check.status == 1:
+                refused.append(f"{edit[0]}: refused (alone): {'; '.join(f'{name}: {why}' for name, why in check.why.items())}")
             else:
                 through.append(edit[0])
-                print(out[-1500:])
-    for edit in refused:
-        print(f"{name}: {edit}: refused")
+                print(check.out[-1500:])
+    for line in refused:
+        if " (alone)" in line:
+            print(f"{name}: {line}")
     for edit in through:
         print(f"{name}: {edit}: LET THROUGH")
     for edit in broken:
         print(f"{name}: {edit}: DOESN'T APPLY")
+    print(f"{name}: {len(refused)} refused, {len(through)} let through, {len(broken)} that don't apply, in {time.time() - began:.0f} seconds")
     sys.stdout.flush()
     return len(refused), len(through), len(broken)
 
 
 def main():
-    names = sys.argv[1:] or sorted(os.listdir(f"{TOP}/edits"))
-    totals = [sum(counts) for counts in zip(*(try_crate(name) for name in names))]
+    words, jobs = sys.argv[1:], []
+    is_proved, is_each = "--proved" in words, "--each" in words
+    words = [word for word in words if word not in ("--proved", "--each")]
+    if "--jobs" in words:
+        at = words.index("--jobs")
+        jobs = words[at : at + 2]
+        del words[at : at + 2]
+    chosen = {}
+    for word in words or sorted(os.listdir(f"{TOP}/edits")):
+        crate, _, edit = word.partition("/")
+        chosen.setdefault(crate, set()).update({edit} - {""})
+    totals = [sum(counts) for counts in zip(*(try_crate(name, edits, jobs, is_proved, is_each) for name, edits in chosen.items()))]
     print(f"{totals[0]} refused, {totals[1]} let through, {totals[2]} that don't apply")
     sys.exit(1 if totals[1] + totals[2] else 0)
 
