@@ -5,18 +5,10 @@
 # time never does.
 #
 # usage: bench/check.sh
-set -euo pipefail
-export LC_ALL=C
-
-top=$(cd "$(dirname "$0")/.." && pwd)
-program=$top/crates/fund_cli/out/fund_cli
-folder=$(mktemp -d)
-trap 'rm -rf "$folder"' EXIT
+. "$(dirname "$0")/programs.sh"
 
 # Proves and builds the program, and runs it on a small file of its folder data/.
-cd "$top/crates/fund_cli"
-rt run -- coins data/wallet.json data/blocks.dat >"$folder/small.txt" 2>"$folder/build.log" || { cat "$folder/build.log" >&2; exit 1; }
-[ -s "$folder/small.txt" ]
+built fund_cli coins data/wallet.json data/blocks.dat
 cd "$folder"
 
 # best NAME STATUS COMMAND..: the least processor time of five runs in milliseconds; NAME has what they print
@@ -48,7 +40,7 @@ judge() {
         'BEGIN { printf "%s, %s: fund %.1f ms, check %.1f ms, ratio %.2f\n", what, report, fund, check, check / fund }'
 }
 
-echo "load: $(cut -d' ' -f1-3 /proc/loadavg) on $(nproc) processors"
+load
 python3 "$top/bench/make_none.py" wallet.json blocks.dat request.json 23
 judge "23 coins" 11
 for bytes in 1048576 67108864; do

@@ -5,18 +5,10 @@
 # status; a time never does.
 #
 # usage: bench/checks.sh
-set -euo pipefail
-export LC_ALL=C
-
-top=$(cd "$(dirname "$0")/.." && pwd)
-program=$top/crates/bench_all/out/bench_all
-folder=$(mktemp -d)
-trap 'rm -rf "$folder"' EXIT
+. "$(dirname "$0")/programs.sh"
 
 # Proves and builds the program, checks a small log, and builds the peer.
-cd "$top/crates/bench_all"
-rt run -- check data/log.txt >"$folder/small.txt" 2>"$folder/build.log" || { cat "$folder/build.log" >&2; exit 1; }
-grep -qxF "$(cat "$folder/small.txt")" stdout
+stored bench_all check data/log.txt
 rustc -O "$top/bench/peers/checker.rs" -o "$folder/peer"
 
 # best COMMAND..: the least number of milliseconds that five runs print, as `N ms`
@@ -31,7 +23,7 @@ word() {
     grep -oiwE 'ok|open' <<<"$1" | tr A-Z a-z | head -1 || true
 }
 
-echo "load:   $(cut -d' ' -f1-3 /proc/loadavg) on $(nproc) processors"
+load
 for kind in changeless lean; do
     for count in 100 1000 10000; do
         "$folder/peer" write "$kind" "$count" 10000000 "$folder/log.txt"

@@ -5,20 +5,12 @@
 # ends it with a non-zero status; a time never does.
 #
 # usage: bench/coins.sh [SEED]
-set -euo pipefail
-export LC_ALL=C
-
-top=$(cd "$(dirname "$0")/.." && pwd)
-program=$top/crates/bench_all/out/bench_all
-folder=$(mktemp -d)
-trap 'rm -rf "$folder"' EXIT
+. "$(dirname "$0")/programs.sh"
 
 # Proves and builds the program, and runs it on the small files of its folder data/.
-cd "$top/crates/bench_all"
-rt run -- coins data/coins.json data/coins.dat >"$folder/small.txt" 2>"$folder/build.log" || { cat "$folder/build.log" >&2; exit 1; }
-grep -qxF "$(cat "$folder/small.txt")" stdout
+stored bench_all coins data/coins.json data/coins.dat
 
-echo "load:   $(cut -d' ' -f1-3 /proc/loadavg) on $(nproc) processors"
+load
 first=
 for coins in 10000 100000; do
     wallet=$folder/wallet.json

@@ -4,18 +4,10 @@
 # each, in microseconds. A step that fails ends it with a non-zero status; a time never does.
 #
 # usage: bench/draws.sh
-set -euo pipefail
-export LC_ALL=C
-
-top=$(cd "$(dirname "$0")/.." && pwd)
-program=$top/crates/bench_all/out/bench_all
-folder=$(mktemp -d)
-trap 'rm -rf "$folder"' EXIT
+. "$(dirname "$0")/programs.sh"
 
 # Proves and builds the program, draws among a few items, and builds the peer.
-cd "$top/crates/bench_all"
-rt run -- draw 1000 500 3 >"$folder/small.txt" 2>"$folder/build.log" || { cat "$folder/build.log" >&2; exit 1; }
-grep -qxF "$(cat "$folder/small.txt")" stdout
+stored bench_all draw 1000 500 3
 rustc -O "$top/bench/peers/draw.rs" -o "$folder/peer"
 
 # best COMMAND..: the least user time of five runs, in seconds
@@ -25,7 +17,7 @@ best() {
     done | sort -n | head -1
 }
 
-echo "load:   $(cut -d' ' -f1-3 /proc/loadavg) on $(nproc) processors"
+load
 for part in 1 2 20 0; do
     for count in 1000 10000; do
         kept=0

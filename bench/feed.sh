@@ -4,21 +4,13 @@
 # fails ends it with a non-zero status; a time never does.
 #
 # usage: bench/feed.sh [SEED [BYTES]], as bench/feed.sh 1 67108864 and bench/feed.sh 1 1073700000
-set -euo pipefail
-export LC_ALL=C
+. "$(dirname "$0")/programs.sh"
 
-top=$(cd "$(dirname "$0")/.." && pwd)
-program=$top/crates/bench_all/out/bench_all
-folder=$(mktemp -d)
-trap 'rm -rf "$folder"' EXIT
 file=$folder/blocks.dat
-
 made=$(python3 "$top/bench/make_blocks.py" "$file" --seed "${1:-1}" --bytes "${2:-67108864}")
 
 # Proves and builds the program, and runs it on the small file of its folder data/.
-cd "$top/crates/bench_all"
-rt run -- feed data/feed.dat >"$folder/small.txt" 2>"$folder/build.log" || { cat "$folder/build.log" >&2; exit 1; }
-grep -qxF "$(cat "$folder/small.txt")" stdout
+stored bench_all feed data/feed.dat
 
 # The processor time of a command in seconds.
 seconds() {
@@ -41,7 +33,7 @@ done
 memory=$( { /usr/bin/time -f %M "$program" feed "$file" >"$folder/printed.txt"; } 2>&1)
 
 echo "file:       $(stat -c %s "$file") bytes, $made"
-echo "load:       $(cut -d' ' -f1-3 /proc/loadavg) on $(nproc) processors"
+load
 echo "bench_all:  $best_feed s"
 echo "memory:     $memory KiB"
 echo "sha256sum:  $best_sum s"

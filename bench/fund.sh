@@ -5,19 +5,10 @@
 # pools are made. A step that fails ends it with a non-zero status; a time never does.
 #
 # usage: bench/fund.sh [SEED] [METHOD] [TRIES]
-set -euo pipefail
-export LC_ALL=C
-
-top=$(cd "$(dirname "$0")/.." && pwd)
-program=$top/crates/fund_cli/out/fund_cli
-folder=$(mktemp -d)
-trap 'rm -rf "$folder"' EXIT
+. "$(dirname "$0")/programs.sh"
 
 # Proves and builds the program, and runs it on a small file of its folder data/.
-cd "$top/crates/fund_cli"
-rt run -- coins data/wallet.json data/blocks.dat >"$folder/small.txt" 2>"$folder/build.log" || { cat "$folder/build.log" >&2; exit 1; }
-[ -s "$folder/small.txt" ]
-
+built fund_cli coins data/wallet.json data/blocks.dat
 cd "$folder"
 python3 "$top/bench/make_fund.py" wallet.json blocks.dat request.json --seed "${1:-1}" --method "${2:-manual}" --tries "${3:-100000}"
 python3 - "$program" <<'PYTHON'

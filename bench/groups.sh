@@ -4,20 +4,12 @@
 # ends it with a non-zero status; a time never does.
 #
 # usage: bench/groups.sh
-set -euo pipefail
-export LC_ALL=C
-
-top=$(cd "$(dirname "$0")/.." && pwd)
-program=$top/crates/bench_all/out/bench_all
-folder=$(mktemp -d)
-trap 'rm -rf "$folder"' EXIT
+. "$(dirname "$0")/programs.sh"
 
 # Proves and builds the program, and runs it on a few coins.
-cd "$top/crates/bench_all"
-rt run -- groups 1000 >"$folder/small.txt" 2>"$folder/build.log" || { cat "$folder/build.log" >&2; exit 1; }
-grep -qxF "$(cat "$folder/small.txt")" stdout
+stored bench_all groups 1000
 
-echo "load:   $(cut -d' ' -f1-3 /proc/loadavg) on $(nproc) processors"
+load
 for count in 25000 50000 100000; do
     for _ in 1 2 3; do
         "$program" groups "$count" timed

@@ -2,22 +2,15 @@
 # Times jobs that are kept and gone on with, by crates/fund_cli. First `fund` with 10,000,000 tries on the wallet of
 # `work 1 10000`, kept as a job: processor time and greatest memory. Then a job of 28 coins that nothing pays: three runs of
 # 3,000,000 tries, and a fourth that restores 9,000,000 and makes the last 1,000,000 that a job has, beside a `fund` of
-# 1,000,000. Then one of 26 coins, gone on with to its end, beside `check` of its report and log. A step that fails ends it
-# with a non-zero status; a time never does.
+# 1,000,000 with a job and without. Then one of 26 coins, gone on with to its end, beside `check` of its report and log. Last
+# what restoring took: the fourth run less the `fund` with a job; beside the check, as if of so many tries. A step that fails
+# ends it with a non-zero status; a time never does.
 #
 # usage: bench/resume.sh
-set -euo pipefail
-export LC_ALL=C
-
-top=$(cd "$(dirname "$0")/.." && pwd)
-program=$top/crates/fund_cli/out/fund_cli
-folder=$(mktemp -d)
-trap 'rm -rf "$folder"' EXIT
+. "$(dirname "$0")/programs.sh"
 
 # Proves and builds the program, and runs it on a small file of its folder data/.
-cd "$top/crates/fund_cli"
-rt run -- coins data/wallet.json data/blocks.dat >"$folder/small.txt" 2>"$folder/build.log" || { cat "$folder/build.log" >&2; exit 1; }
-[ -s "$folder/small.txt" ]
+built fund_cli coins data/wallet.json data/blocks.dat
 cd "$folder"
 
 # timed WHAT STATUS COMMAND..: its processor time, its greatest memory, and the first words that it prints
@@ -34,10 +27,11 @@ _, ended, used = os.wait4(child, 0)
 assert os.waitstatus_to_exitcode(ended) == int(status), (words, ended)
 said = " ".join(line for line in open("printed").read().split("\n") if line.split(" ")[0] in ("funded", "none", "unfinished", "tries", "accepted"))
 print(f"{what}: {used.ru_utime + used.ru_stime:.3f} s, {used.ru_maxrss / 1024:.0f} MiB, {said}")
+open("seconds", "w").write(str(used.ru_utime + used.ru_stime))
 PYTHON
 }
 
-echo "load: $(cut -d' ' -f1-3 /proc/loadavg) on $(nproc) processors"
+load
 python3 "$top/bench/make_work.py" wallet.json blocks.dat request.json 1 10000
 "$program" fund wallet.json blocks.dat request.json log >report
 [ "$("$program" work 1 10000 | tail -1)" = "report $(sha256sum report | cut -d' ' -f1)" ]
@@ -53,14 +47,21 @@ job() {
 
 job 28 1000000
 timed "28 coins, fund with 1,000,000 tries" 10 "$program" fund wallet.json blocks.dat request.json log
+timed "28 coins, fund with a job, 1,000,000 tries" 10 "$program" fund wallet.json blocks.dat request.json log short
+once=$(cat seconds)
 job 28 3000000
 timed "28 coins, fund with a job" 10 "$program" fund wallet.json blocks.dat request.json log open
 for run in second third fourth; do
     timed "28 coins, the $run run" 10 "$program" resume wallet.json blocks.dat request.json log open
 done
+more=$(cat seconds)
 job 26 3000000
 timed "26 coins, fund with a job" 10 "$program" fund wallet.json blocks.dat request.json log none
 timed "26 coins, the second run" 10 "$program" resume wallet.json blocks.dat request.json log none
 timed "26 coins, the third run, to its end" 11 "$program" resume wallet.json blocks.dat request.json log none
 cp printed report
 timed "26 coins, check" 0 "$program" check wallet.json blocks.dat request.json report log
+tries=$(sed -n 's/^tries //p' report)
+awk -v once="$once" -v more="$more" -v check="$(cat seconds)" -v tries="$tries" 'BEGIN {
+    printf "restoring 9,000,000 tries: %.3f s; checking a log of as many: %.3f s\n", more - once, check * 9000000 / tries
+}'

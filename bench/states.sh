@@ -4,23 +4,12 @@
 # three each, in seconds. A step that fails ends it with a non-zero status; a time never does.
 #
 # usage: bench/states.sh [SEED]
-set -euo pipefail
-export LC_ALL=C
-
-top=$(cd "$(dirname "$0")/.." && pwd)
-program=$top/crates/fund_cli/out/fund_cli
-reader=$top/crates/bench_all/out/bench_all
-folder=$(mktemp -d)
-trap 'rm -rf "$folder"' EXIT
+. "$(dirname "$0")/programs.sh"
 
 # Proves and builds both programs, and runs them on small files.
-build() {
-    cd "$top/crates/$1"
-    shift
-    rt run -- "$@" >"$folder/small.txt" 2>"$folder/build.log" || { cat "$folder/build.log" >&2; exit 1; }
-}
-build fund_cli coins data/wallet.json data/blocks.dat
-build bench_all wallet data/wallet.json
+built bench_all wallet data/wallet.json
+reader=$program
+built fund_cli coins data/wallet.json data/blocks.dat
 
 # The least of three times, in nanoseconds.
 best() {
@@ -34,7 +23,7 @@ best() {
     echo "$best"
 }
 
-echo "load:   $(cut -d' ' -f1-3 /proc/loadavg) on $(nproc) processors"
+load
 : >"$folder/blocks.dat"
 for chain in 25 5000; do
     made=$(python3 "$top/bench/make_states.py" "$folder/wallet.json" --seed "${1:-1}" --chain "$chain")

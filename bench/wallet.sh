@@ -4,20 +4,12 @@
 # does.
 #
 # usage: bench/wallet.sh [SEED]
-set -euo pipefail
-export LC_ALL=C
-
-top=$(cd "$(dirname "$0")/.." && pwd)
-program=$top/crates/bench_all/out/bench_all
-folder=$(mktemp -d)
-trap 'rm -rf "$folder"' EXIT
+. "$(dirname "$0")/programs.sh"
 
 # Proves and builds the program, and runs it on the small file of its folder data/.
-cd "$top/crates/bench_all"
-rt run -- wallet data/wallet.json >"$folder/small.txt" 2>"$folder/build.log" || { cat "$folder/build.log" >&2; exit 1; }
-grep -qxF "$(cat "$folder/small.txt")" stdout
+stored bench_all wallet data/wallet.json
 
-echo "load:   $(cut -d' ' -f1-3 /proc/loadavg) on $(nproc) processors"
+load
 for size in 1 4 16; do
     file=$folder/wallet.json
     made=$(python3 "$top/bench/make_wallet.py" "$file" --seed "${1:-1}" --bytes $((size * 1048576)))

@@ -4,17 +4,10 @@
 # time of twenty runs of each, and their ratio. A step that fails ends it with a non-zero status; a time never does.
 #
 # usage: bench/work.sh
-set -euo pipefail
-export LC_ALL=C
-
-top=$(cd "$(dirname "$0")/.." && pwd)
-program=$top/crates/fund_cli/out/fund_cli
-folder=$(mktemp -d)
-trap 'rm -rf "$folder"' EXIT
+. "$(dirname "$0")/programs.sh"
 
 # Proves and builds the program, and builds the peer.
-cd "$top/crates/fund_cli"
-rt run -- work 1 100 >"$folder/small.txt" 2>"$folder/build.log" || { cat "$folder/build.log" >&2; exit 1; }
+built fund_cli work 1 100
 rustc --edition 2021 -O "$top/bench/peers/work.rs" -o "$folder/peer"
 
 python3 - "$program" "$folder/peer" "$folder/printed.txt" <<'PYTHON'
