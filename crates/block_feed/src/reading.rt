@@ -1,7 +1,7 @@
 //! Reading the block of a record.
 
-ghost use Rattle.std.specs.Prelude.{◌≡◌, ◌≢◌, ◌+◌, ◌≤◌, ℕ, length, take, drop, map, IfOk, Err};
-ghost use Rattle.fund_base.specs.Cursor.{IsBytes};
+ghost use Rattle.std.specs.Prelude.{◌≡◌, ◌≢◌, ◌+◌, ◌≤◌, ℕ, length, take, drop, map, IfOk, IsOkAnd, Err};
+ghost use Rattle.fund_base.specs.Cursor.{IsBytes, compact_at};
 ghost use Rattle.fund_base.specs.Parsing.{Yields, YieldsAll, fault_as, many_at};
 ghost use Rattle.tx_codec.specs.Reading.{tx_at};
 ghost use Rattle.tx_codec.specs.Txid.{txid_of};
@@ -62,6 +62,7 @@ fn all_txs(
 #[tactic(auto, unfolding(crate::specs::Reading::counted_txs_at))]
 fn counted_txs(alloc: Global, height: u32, cursor: &mut Cursor) -> Result<Vec<Tx>, FeedFault>
     ensures gives { YieldsAll Memory (λ v. v.items) result (counted_txs_at height cursor.old) }
+    ensures short { result ≡ Err Memory → IsOkAnd (compact_at cursor.old) (λ count. count.0 ≢ 0) }
     ensures never_read { result ≢ Err Read }
 {
     match cursor.compact() {
@@ -143,6 +144,7 @@ fn block_in(
     cursor: &mut Cursor,
 ) -> Result<Block, FeedFault>
     ensures gives { YieldsAll Memory (λ b. b) result (block_at previous.now height cursor.old) }
+    ensures short { result ≡ Err Memory → (80 ≤ length cursor.old.rest) × (previous_of (take 80 cursor.old.rest) ≡ previous.now) }
     ensures height { IfOk result (λ b. b.height ≡ height) }
     ensures never_read { result ≢ Err Read }
 {
@@ -165,6 +167,7 @@ fn whole_block(
     bytes: &[u8],
 ) -> Result<Block, FeedFault>
     ensures gives { YieldsAll Memory (λ b. b) result (block_at previous.now height (record { rest = bytes.now; place = 0 })) }
+    ensures short { result ≡ Err Memory → (80 ≤ length bytes.now) × (previous_of (take 80 bytes.now) ≡ previous.now) }
     ensures height { IfOk result (λ b. b.height ≡ height) }
     ensures never_read { result ≢ Err Read }
     ensures bytes { IsBytes bytes.now }
@@ -184,6 +187,7 @@ pub fn block_of(
     requires { 80 ≤ length bytes.now }
     ensures linked { IfOk result (λ b. IsLinked previous.now height b) }
     ensures gives { YieldsAll Memory (λ b. b) result (block_at previous.now height (record { rest = bytes.now; place = 0 })) }
+    ensures short { result ≡ Err Memory → previous_of (take 80 bytes.now) ≡ previous.now }
     ensures height { IfOk result (λ b. b.height ≡ height) }
     ensures never_read { result ≢ Err Read }
     ensures never_memory { (at : ℕ) → result ≢ Err (OfTx at NoMemory) }

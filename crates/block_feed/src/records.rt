@@ -80,6 +80,7 @@ fn size_of(longer: bool, place: u64, head: &[u8]) -> Result<u32, FeedFault>
     ensures least { IfOk result (λ size. 81 ≤ size) }
     ensures most { IfOk result (λ size. size ≤ 4_000_000) }
     ensures never_read { result ≢ Err Read }
+    ensures never_short { result ≢ Err Memory }
     ensures never_memory { (at : ℕ) → result ≢ Err (Tx at NoMemory) }
 {
     let after = magic_of(longer, place, head)?;

@@ -78,7 +78,7 @@ outside_decides : (prefix : List ℕ) → Decides (has_outsider prefix) (Any (Is
 unfolding has_outsider
 outside_decides prefix = any_decides (λ c. nat_lt c 33 || nat_lt 126 c) (IsOutOfRange 33 126) (λ c. Decides-or _ _ (Decides-ltb c 33) (Decides-ltb 126 c)) prefix
 
-abbrev is_valueless : ℕ → Bool
+abbrev pub is_valueless : ℕ → Bool
 is_valueless c = nat_le 32 (value_of c)
 
 valueless_decides : (c : ℕ) → Decides (is_valueless c) (Contains alphabet c → ⊥)
@@ -87,7 +87,7 @@ valueless_decides c = (
   λ none. true_from_ne_false (is_valueless c) (λ fails. none (value_lettered c (leb-false 32 (value_of c) fails))),
 )
 
-values_any : (letters : List ℕ) → list_any (λ v. nat_le 32 v) (map value_of letters) ≡ list_any is_valueless letters
+pub values_any : (letters : List ℕ) → list_any (λ v. nat_le 32 v) (map value_of letters) ≡ list_any is_valueless letters
 values_any [] = refl
 values_any (c ∷ cs) = ap (λ (b : Bool). is_valueless c || b) (values_any cs)
 

@@ -1,10 +1,11 @@
 //! Reading addresses: the script of a text, or the first fault in it.
 
-ghost use Rattle.std.specs.Prelude.{ℕ, List, ◌≡◌, ◌+◌, ◌≤◌, map, length, IfOk, IfSome, IsTrue, MatchResult};
+ghost use Rattle.std.specs.Prelude.{ℕ, List, ◌≡◌, ◌+◌, ◌-◌, ◌≤◌, false, map, length, nat_le, take, drop, Err, IfOk, IfSome, IsOk, IsSomeAnd, IsTrue, MatchResult};
+ghost use Rattle.std.specs.List.{list_any};
 ghost use Rattle.fund_base.specs.Parsing.{YieldsAll};
 ghost use Rattle.segwit_addr.specs.declared.fault.AddrFault.TheVariants.{Memory};
-ghost use Rattle.segwit_addr.specs.Address.{IsAddress, has_lower, has_upper, is_witness};
-ghost use Rattle.segwit_addr.specs.Reading.{behind_last, char_count, decode_of, has_outsider, has_unknown, is_badly_padded, parts_at, program_at, summed_at, versioned_at, split_at};
+ghost use Rattle.segwit_addr.specs.Address.{IsAddress, has_lower, has_upper, is_mixed, is_witness};
+ghost use Rattle.segwit_addr.specs.Reading.{AreSpelled, behind_last, char_count, decode_of, has_outsider, has_unknown, is_badly_padded, parts_at, program_at, summed_at, versioned_at, split_at};
 ghost use Rattle.segwit_addr.specs.Bech32.{value_of};
 
 use crate::bech32::{BECH32, BECH32M, checksum, value};
@@ -34,7 +35,8 @@ pub fn decode(alloc: Global, text: &str) -> Result<Script, AddrFault>
 /// The script that a text is an address of.
 #[tactic(auto, unfolding(crate::specs::Reading::decode_of))]
 fn script_of_text(alloc: Global, text: &[u8]) -> Result<Script, AddrFault>
-    ensures { YieldsAll Memory (λ script. script) result (decode_of text.now) }
+    ensures gives { YieldsAll Memory (λ script. script) result (decode_of text.now) }
+    ensures short { result ≡ Err Memory → (8 ≤ length text.now) × (length text.now ≤ 90) × (is_mixed text.now ≡ false) }
 {
     if text.len() < 8 || text.len() > 90 {
         return Err(AddrFault::Length);
@@ -87,18 +89,25 @@ fn has_other_character(prefix: &[u8]) -> bool
     prefix.iter().any(|c| *c < 33 || *c > 126)
 }
 
-/// Whether one of these values is that of no letter.
-#[tactic(auto, unfolding(crate::specs::Reading::has_unknown))]
-fn has_other_letter(values: &[u8]) -> bool
-    ensures { result ≡ has_unknown values.now }
+/// Whether a letter isn't in the alphabet.
+fn is_unknown(c: u8) -> bool
+    ensures { result ≡ nat_le 32 (value_of c) }
 {
-    values.iter().any(|v| *v >= 32)
+    value(c) >= 32
+}
+
+/// Whether one of these letters isn't in the alphabet.
+fn has_other_letter(letters: &[u8]) -> bool
+    ensures { result ≡ list_any (λ c. nat_le 32 (value_of c)) letters.now }
+{
+    letters.iter().any(|c| is_unknown(*c))
 }
 
 /// The script of a text in lower case.
 fn script_of_lower(alloc: Global, text: &[u8]) -> Result<Script, AddrFault>
     requires { length text.now ≤ 90 }
-    ensures { YieldsAll Memory (λ script. script) result (split_at text.now (behind_last text.now)) }
+    ensures gives { YieldsAll Memory (λ script. script) result (split_at text.now (behind_last text.now)) }
+    ensures short { result ≡ Err Memory → IsSomeAnd (behind_last text.now) (λ behind. AreSpelled (take (length text.now - behind - 1) text.now) (drop (length text.now - behind) text.now)) }
 {
     match count_behind(text) {
         Some(behind) => {
@@ -117,18 +126,19 @@ fn values_of_letters(alloc: Global, letters: &[u8]) -> Result<Vec<u8>, AllocErro
 }
 
 /// The script of what stands before the separator and what stands after it.
-#[tactic(auto, unfolding(crate::specs::Reading::parts_at))]
+#[tactic(auto, unfolding(crate::specs::Reading::parts_at, crate::specs::Reading::has_unknown), using(crate::proofs::Rules::values_any))]
 fn script_of_parts(alloc: Global, prefix: &[u8], letters: &[u8]) -> Result<Script, AddrFault>
     requires { length letters.now ≤ 90 }
-    ensures { YieldsAll Memory (λ script. script) result (parts_at prefix.now letters.now) }
+    ensures gives { YieldsAll Memory (λ script. script) result (parts_at prefix.now letters.now) }
+    ensures short { result ≡ Err Memory → AreSpelled prefix.now letters.now }
 {
     if prefix.is_empty() || characters(letters) < 7 {
         return Err(AddrFault::Separator);
     }
-    let values = values_of_letters(alloc, letters)?;
-    if has_other_character(prefix) || has_other_letter(values.as_slice()) {
+    if has_other_character(prefix) || has_other_letter(letters) {
         return Err(AddrFault::Letter);
     }
+    let values = values_of_letters(alloc, letters)?;
     script_of_summed(alloc, prefix, values.as_slice())
 }
 
@@ -137,7 +147,8 @@ fn script_of_parts(alloc: Global, prefix: &[u8], letters: &[u8]) -> Result<Scrip
 fn script_of_summed(alloc: Global, prefix: &[u8], values: &[u8]) -> Result<Script, AddrFault>
     requires least { 7 ≤ length values.now }
     requires most { length values.now ≤ 90 }
-    ensures { YieldsAll Memory (λ script. script) result (summed_at prefix.now values.now) }
+    ensures gives { YieldsAll Memory (λ script. script) result (summed_at prefix.now values.now) }
+    ensures short { result ≡ Err Memory → IsOk (summed_at prefix.now values.now) }
 {
     let sum = checksum(prefix, values);
     if sum != BECH32 && sum != BECH32M {
@@ -154,7 +165,8 @@ fn script_of_summed(alloc: Global, prefix: &[u8], values: &[u8]) -> Result<Scrip
 fn script_of_values(alloc: Global, values: &[u8], sum: u32) -> Result<Script, AddrFault>
     requires least { 1 ≤ length values.now }
     requires most { length values.now ≤ 90 }
-    ensures { YieldsAll Memory (λ script. script) result (versioned_at values.now sum) }
+    ensures gives { YieldsAll Memory (λ script. script) result (versioned_at values.now sum) }
+    ensures short { result ≡ Err Memory → IsOk (versioned_at values.now sum) }
 {
     let version = values[0];
     if version > 16 || sum != checksum_of_version(version) {
@@ -177,7 +189,8 @@ fn has_bad_padding(values: &[u8]) -> bool
 fn script_of_program(alloc: Global, version: u8, values: &[u8]) -> Result<Script, AddrFault>
     requires version { version ≤ 16 }
     requires most { length values.now ≤ 90 }
-    ensures { YieldsAll Memory (λ script. script) result (program_at version values.now) }
+    ensures gives { YieldsAll Memory (λ script. script) result (program_at version values.now) }
+    ensures short { result ≡ Err Memory → IsOk (program_at version values.now) }
 {
     let size = values.len() * 5 / 8;
     if has_bad_padding(values) {
