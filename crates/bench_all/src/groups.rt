@@ -4,7 +4,7 @@ ghost use Rattle.std.specs.Prelude.{◌≤◌, IfOk};
 ghost use Rattle.fund_base.specs.Candidates.{AreCandidates};
 
 use fund_base::{Candidate, Memory, OutPoint, Script, Txid};
-use output_groups::{ladder, pool};
+use output_groups::{Groups, ladder, pool};
 use std::alloc::Global;
 use std::cmp::Reverse;
 use std::io;
@@ -80,7 +80,31 @@ fn compare(rt: &HostRuntime, coins: Vec<Candidate>, pool_time: u128) -> io::Resu
     println!(rt; "pool {pool_time} us, sort {sort_time} us, {keys} keys")
 }
 
-/// Finds the pool and prints how many groups it has; if asked to, sorts the same keys too, and prints both times.
+/// How many groups the seven rows keep together, of groups that are formed once.
+fn row_groups(alloc: Global, coins: &[Candidate]) -> Option<usize>
+    requires { AreCandidates coins.now }
+{
+    let groups = Groups::new(alloc, coins, 10_000, 10_000, true).ok()?;
+    let mut sum: usize = 0;
+    for row in ladder(true, true) {
+        let seen = groups.items(alloc, row).ok()?;
+        sum = sum.saturating_add(seen.items.len());
+    }
+    Some(sum)
+}
+
+/// Prints how long it takes to form the groups once and to list the items of seven rows, in microseconds.
+fn time_rows(rt: &HostRuntime, coins: &[Candidate]) -> io::Result<()>
+    requires { AreCandidates coins.now }
+{
+    let start = Instant::now(rt)?;
+    let kept = row_groups(rt.alloc(), coins).unwrap_or(0);
+    let time = start.elapsed(rt)?.as_micros();
+    println!(rt; "rows {time} us, {kept} items")
+}
+
+/// Finds the pool and prints how many groups it has; if asked to, forms groups for seven rows and sorts the same
+/// keys too, and prints the times.
 fn find_pool(rt: &HostRuntime, count: u32, timed: bool) -> io::Result<bool>
     requires { count ≤ 100_000 }
 {
@@ -103,6 +127,7 @@ fn find_pool(rt: &HostRuntime, count: u32, timed: bool) -> io::Result<bool>
     let pool_time = start.elapsed(rt)?.as_micros();
     println!(rt; "{} groups", pool.groups.len())?;
     if timed {
+        time_rows(rt, &coins)?;
         compare(rt, coins, pool_time)?;
     }
     Ok(true)

@@ -19,8 +19,8 @@ use Rattle.payment_states.specs.Candidates.{candidate_at, candidate_of, candidat
 use Rattle.payment_states.specs.PendingView.{place_in}
 use Rattle.output_groups.specs.Forming.{alone}
 use Rattle.output_groups.specs.Measures.{is_useful}
+use Rattle.output_groups.specs.Part.{Part}
 use Rattle.output_groups.specs.Pool.{CountsKept, keeps}
-use Rattle.output_groups.specs.declared.part.Part.{Part}
 use Rattle.output_groups.specs.declared.rows.Row.{Row}
 use Rattle.request_text.specs.PlainRequest.{IsRequest}
 use Rattle.fund_steps.proofs.FaultLaws.{fault_found, none_found}

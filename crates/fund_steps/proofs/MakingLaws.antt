@@ -1,20 +1,20 @@
 -- Steps are made as they are defined.
-use Rattle.std.specs.Prelude.{ℕ, ◌≡◌, ◌+◌, ◌<◌, ◌≤◌, ◌++◌, Bool, List, [], ◌∷◌, All, length, take, get_or}
+use Rattle.std.specs.Prelude.{ℕ, ◌≡◌, ◌+◌, ◌<◌, ◌≤◌, ◌++◌, List, [], ◌∷◌, All, length, map, sum, sum_by, take, get_or}
 use Rattle.std.specs.List.{flat_map, AllByRecursion}
 use Rattle.std.proofs.Common.{refl, sym, ap, subst, ◌∙◌, arith, add-one}
 use Rattle.std.proofs.Math.Seq.{take-suc}
 use Rattle.std.proofs.lemmas.List.{flat_map_more, length-map}
-use Rattle.std.proofs.lemmas.List.Elements.{All-weaker, All-head, All-tail}
-use Rattle.std.proofs.lemmas.List.Folds.{flat_map-map}
+use Rattle.std.proofs.lemmas.List.Elements.{All-head, All-tail}
+use Rattle.std.proofs.lemmas.List.Folds.{flat_map-map, fold-map}
 use Rattle.closing_log.specs.declared.log.Stage.{Stage}
 use Rattle.closing_log.specs.declared.log.Stage.TheVariants as stage
+use Rattle.fee_rates.specs.Terms.{terms_of}
 use Rattle.fee_rates.specs.declared.terms.Load.{Load}
 use Rattle.fee_rates.specs.declared.terms.Rates.{Rates}
 use Rattle.fee_rates.specs.declared.terms.Terms.{Terms}
 use Rattle.fund_base.specs.declared.candidate.Candidate.{Candidate}
 use Rattle.output_groups.specs.Ladder.{ladder_of}
-use Rattle.output_groups.specs.Measures.{IsGroup}
-use Rattle.output_groups.specs.PlainPool.{PlainPool}
+use Rattle.output_groups.specs.PlainGroups.{PlainGroups, pool_in}
 use Rattle.output_groups.specs.Pool.{item_of}
 use Rattle.output_groups.specs.PoolOf.{pool_of}
 use Rattle.output_groups.specs.declared.rows.Row.{Row}
@@ -25,10 +25,10 @@ use Rattle.search_run.specs.Step.{FitsStage, IsStep, PlainStep}
 use Rattle.fund_steps.specs.Basis.{Basis, basis_of, given_in, load_alone}
 use Rattle.fund_steps.specs.Kept.{IsKept}
 use Rattle.fund_steps.specs.Listed.{presets_in}
-use Rattle.fund_steps.specs.Making.{AreSearchable, IsSearchablePool, steps_for}
+use Rattle.fund_steps.specs.Making.{AreSearchable, AreSearched, steps_by, steps_for, steps_with}
 use Rattle.fund_steps.specs.Plan.{PlainPlan}
 use Rattle.fund_steps.specs.Presets.{presets_of}
-use Rattle.fund_steps.specs.Searches.{PlainRow, ending_by, problem_by, row_in, sizes_of, steps_at, steps_of, turns_for}
+use Rattle.fund_steps.specs.Searches.{PlainRow, ending_by, load_with, problem_by, row_in, sizes_of, step_by, step_with, steps_at, steps_of, turns_for}
 use Rattle.fund_steps.specs.Terms.{load_of, rates_of}
 use Rattle.fund_steps.specs.Turns.{HasSteps}
 use Rattle.fund_steps.specs.declared.turns.Turn.{Turn}
@@ -51,9 +51,9 @@ ending_most t stage.Draw h = omega (arith, h.change_fee, h.change_spend)
 ending_most t stage.LeanSmall h = omega (arith, h.change_fee, h.change_spend)
 ending_most t stage.Wide h = omega (arith, h.change_fee, h.change_spend)
 
-sizes_few : (groups : List (List Candidate)) → All (λ (g : List Candidate). length g ≤ 100) groups → AllByRecursion (λ n. n ≤ 100) (sizes_of groups)
-sizes_few [] h = tt
-sizes_few (g ∷ gs) h = (All-head (λ (x : List Candidate). length x ≤ 100) g gs h, sizes_few gs (All-tail (λ (x : List Candidate). length x ≤ 100) g gs h))
+by_recursion : (sizes : List ℕ) → All (λ n. n ≤ 100) sizes → AllByRecursion (λ n. n ≤ 100) sizes
+by_recursion [] h = tt
+by_recursion (n ∷ ns) h = (All-head (λ (m : ℕ). m ≤ 100) n ns h, by_recursion ns (All-tail (λ (m : ℕ). m ≤ 100) n ns h))
 
 items_of : (t : Terms) (items : List Item) (s : Stage) → (problem_by t items s).items ≡ items
 items_of t items stage.Presets = refl
@@ -63,28 +63,49 @@ items_of t items stage.Draw = refl
 items_of t items stage.LeanSmall = refl
 items_of t items stage.Wide = refl
 
-pub step_fits : (t : Terms) (r : PlainRow) (u : Turn) (problem : PlainProblem) (ending : ℕ) (sizes : List ℕ) → AreSearchable t → IsSearchablePool r.pool → HasSteps u.stage → IsProblem problem → problem ≡ problem_by t r.pool.items u.stage
-    → ending ≡ ending_by t u.stage → sizes ≡ sizes_of r.pool.groups → IsStep (record { row = r.row.number; stage = u.stage; problem = problem; ending = ending; sizes = sizes; last = u.last })
-step_fits t r u problem ending sizes terms pool some fine is costs held = record {
+pub step_fits : (t : Terms) (number : ℕ) (items : List Item) (sizes : List ℕ) (u : Turn) (problem : PlainProblem) (ending : ℕ) (held : List ℕ) → AreSearchable t → AreSearched items sizes → HasSteps u.stage → IsProblem problem → problem ≡ problem_by t items u.stage
+    → ending ≡ ending_by t u.stage → held ≡ sizes → IsStep (record { row = number; stage = u.stage; problem = problem; ending = ending; sizes = held; last = u.last })
+step_fits t number items sizes u problem ending held terms seen some fine is costs same = record {
   problem = fine;
-  stage = subst (FitsStage u.stage) (sym is) (fits t r.pool.items u.stage some);
+  stage = subst (FitsStage u.stage) (sym is) (fits t items u.stage some);
   ending = subst (λ (n : ℕ). n ≤ 1_000_000_000_000_000_000) (sym costs) (ending_most t u.stage terms);
-  sizes = ap (λ (l : List ℕ). length l) held ∙ length-map r.pool.groups (λ (g : List Candidate). length g) ∙ sym pool.same ∙ sym (ap (λ (p : PlainProblem). length p.items) is ∙ ap (λ (l : List Item). length l) (items_of t r.pool.items u.stage));
-  few = subst (AllByRecursion (λ n. n ≤ 100)) (sym held) (sizes_few r.pool.groups pool.groups);
+  sizes = ap (λ (l : List ℕ). length l) same ∙ sym seen.same ∙ sym (ap (λ (p : PlainProblem). length p.items) is ∙ ap (λ (l : List Item). length l) (items_of t items u.stage));
+  few = subst (AllByRecursion (λ n. n ≤ 100)) (sym same) (by_recursion sizes seen.small);
 }
 
 -- ---- one row
 
-as_many : (group : Bool) (row : Row) (rate long_term : ℕ) (cs : List Candidate) → length (pool_of group row rate long_term cs).items ≡ length (pool_of group row rate long_term cs).groups
+as_many : (g : PlainGroups) (row : Row) → length (pool_in g row).items ≡ length (sizes_of (pool_in g row).groups)
 unfolding pool_of
-as_many group row rate long_term cs = length-map _ (item_of rate long_term)
+as_many g row =
+    let groups = (pool_in g row).groups in
+    length-map groups (item_of g.rate g.long_term) ∙ sym (length-map groups (λ (x : List Candidate). length x))
 
-pub pool_fits : (group : Bool) (row : Row) (rate long_term : ℕ) (cs : List Candidate) (pool : PlainPool) → pool ≡ pool_of group row rate long_term cs → AreItems pool.items → All (IsGroup rate) pool.groups → IsSearchablePool pool
-pool_fits group row rate long_term cs pool is items groups = record {
-  items = items;
-  groups = All-weaker (IsGroup rate) (λ (g : List Candidate). length g ≤ 100) (λ g h. h.few) pool.groups groups;
-  same = subst (λ (p : PlainPool). length p.items ≡ length p.groups) (sym is) (as_many group row rate long_term cs);
+-- what a search sees of a row's pool is such that steps can be made from it
+pub searched : (g : PlainGroups) (row : Row) (items : List Item) (sizes : List ℕ) → items ≡ (pool_in g row).items → sizes ≡ sizes_of (pool_in g row).groups → AreItems items → All (λ n. n ≤ 100) sizes → AreSearched items sizes
+searched g row items sizes are have fit small = record {
+  fit = fit;
+  small = small;
+  same = ap (λ (l : List Item). length l) are ∙ as_many g row ∙ sym (ap (λ (l : List ℕ). length l) have);
 }
+
+total : (groups : List (List Candidate)) → sum (sizes_of groups) ≡ sum_by (λ (g : List Candidate). length g) groups
+total groups = fold-map (λ (a n : ℕ). a + n) (λ (g : List Candidate). length g) 0 groups
+
+-- steps by what a search sees of a pool are steps by the pool
+seen_by : (t : Terms) (r : PlainRow) (us : List Turn) → map (step_with t r.row.number r.pool.items (sizes_of r.pool.groups)) us ≡ map (step_by t r) us
+seen_by t r [] = refl
+seen_by t r (u ∷ us) = ap (λ (xs : List PlainStep). step_by t r u ∷ xs) (seen_by t r us)
+
+-- and the steps are the pool's
+pub steps_seen : (r : Rates) (l : Load) (us : List Turn) (g : PlainGroups) (row : Row) (items : List Item) (sizes : List ℕ) → items ≡ (pool_in g row).items → sizes ≡ sizes_of (pool_in g row).groups
+    → steps_by r l us row.number items sizes ≡ steps_with r l us (record { row = row; pool = pool_in g row })
+steps_seen r l us g row items sizes are have =
+    let pool = pool_in g row in
+    ap (λ (x : List Item). steps_by r l us row.number x sizes) are
+    ∙ ap (λ (x : List ℕ). steps_by r l us row.number pool.items x) have
+    ∙ ap (λ (n : ℕ). map (step_with (terms_of r (load_with l n)) row.number pool.items (sizes_of pool.groups)) us) (total pool.groups)
+    ∙ seen_by (terms_of r (load_with l (sum_by (λ (x : List Candidate). length x) pool.groups))) (record { row = row; pool = pool }) us
 
 -- ---- one row more
 

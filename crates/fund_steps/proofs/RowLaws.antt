@@ -4,19 +4,40 @@ use Rattle.std.proofs.Common.{refl, sym, ap, subst, ◌∙◌, arith, add-one, d
 use Rattle.std.proofs.lemmas.List.{take-append-drop, take_all}
 use Rattle.std.proofs.lemmas.List.Elements.{All-filter}
 use Rattle.std.proofs.lemmas.List.Kept.{AllPairs-filter}
+use Rattle.fee_rates.specs.declared.terms.Load.{Load}
+use Rattle.fee_rates.specs.declared.terms.Rates.{Rates}
 use Rattle.fund_base.specs.Candidates.{AreCandidates, IsCandidate}
 use Rattle.fund_base.specs.declared.candidate.Candidate.{Candidate}
 use Rattle.output_groups.specs.Ladder.{ladder_of}
+use Rattle.output_groups.specs.PlainGroups.{PlainGroups, pool_in}
 use Rattle.output_groups.specs.Pool.{CountsKept}
 use Rattle.output_groups.specs.declared.rows.Row.{Row}
 use Rattle.request_text.specs.PlainRequest.{PlainRequest}
+use Rattle.search_run.specs.Step.{PlainStep}
+use Rattle.fund_steps.specs.Making.{KeepsFewOf, KeepsManyOf, groups_for, steps_for, steps_with}
 use Rattle.fund_steps.specs.Plan.{IsFirstCrowded, IsRoomy, PlainPlan, ladder_in}
 use Rattle.fund_steps.specs.Selection.{unlisted}
+use Rattle.fund_steps.specs.Terms.{rates_of}
+use Rattle.fund_steps.specs.declared.turns.Turn.{Turn}
 use Rattle.fund_steps.proofs.SelectionLaws.{filter_length}
 
 -- the row keeps at most 10,000 groups of these coins
 abbrev pub KeepsFew : PlainRequest → List Candidate → Row → Type 0
 KeepsFew r coins row = (n : ℕ) → CountsKept r.group row r.rate coins n → n ≤ 10_000
+
+-- a row keeps as many of the groups that these coins form
+pub row_few : (r : PlainRequest) (coins : List Candidate) (row : Row) (g : PlainGroups) → g ≡ groups_for r coins → KeepsFewOf g row → KeepsFew r coins row
+row_few r coins row g is few = subst (λ (x : PlainGroups). KeepsFewOf x row) is few
+
+pub row_many : (r : PlainRequest) (coins : List Candidate) (row : Row) (g : PlainGroups) (n : ℕ) → g ≡ groups_for r coins → KeepsManyOf g row n → CountsKept r.group row r.rate coins n × (10_000 < n)
+row_many r coins row g n is many = subst (λ (x : PlainGroups). KeepsManyOf x row n) is many
+
+-- and its steps are those of its pool of these coins
+pub row_made : (q : PlainRequest) (l : Load) (coins : List Candidate) (us : List Turn) (row : Row) (g : PlainGroups) (r : Rates) (now new : List PlainStep) → g ≡ groups_for q coins → r ≡ rates_of q → new ≡ now ++ steps_with r l us (record { row = row; pool = pool_in g row }) → new ≡ now ++ steps_for q l coins us row
+row_made q l coins us row g r now new is same made =
+    made
+    ∙ ap (λ (x : PlainGroups). now ++ steps_with r l us (record { row = row; pool = pool_in x row })) is
+    ∙ ap (λ (x : Rates). now ++ steps_with x l us (record { row = row; pool = pool_in (groups_for q coins) row })) same
 
 -- what the rows keep of the coins that a plan's request doesn't list
 few_in : (p : PlainPlan) (r : PlainRequest) (coins : List Candidate) (rows : List Row) → p.request ≡ r → unlisted p.request.coins p.candidates ≡ coins → All (KeepsFew r coins) rows → All (IsRoomy p) rows

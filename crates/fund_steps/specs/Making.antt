@@ -1,17 +1,20 @@
 -- What steps are made from, row by row.
-use Rattle.std.specs.Prelude.{pos, neg_ℤ, ◌<◌, ◌≤◌, ◌≤ℤ◌, ◌≡◌, List, length, map, sum_by, All}
+use Rattle.std.specs.Prelude.{ℕ, pos, neg_ℤ, ◌<◌, ◌≤◌, ◌≤ℤ◌, ◌≡◌, List, length, map, sum, sum_by, All}
 use Rattle.fee_rates.specs.Terms.{AreRates, IsLoad, target_of, terms_of}
 use Rattle.fee_rates.specs.declared.terms.Load.{Load}
 use Rattle.fee_rates.specs.declared.terms.Rates.{Rates}
 use Rattle.fee_rates.specs.declared.terms.Terms.{Terms}
 use Rattle.fund_base.specs.declared.candidate.Candidate.{Candidate}
+use Rattle.output_groups.specs.PlainGroups.{PlainGroups}
 use Rattle.output_groups.specs.PlainPool.{PlainPool}
+use Rattle.output_groups.specs.Pool.{CountsKept}
 use Rattle.output_groups.specs.PoolOf.{pool_of}
 use Rattle.output_groups.specs.declared.rows.Row.{Row}
 use Rattle.pick_problem.specs.Pool.{AreItems}
+use Rattle.pick_problem.specs.declared.item.Item.{Item}
 use Rattle.request_text.specs.PlainRequest.{PlainRequest}
 use Rattle.search_run.specs.Step.{PlainStep}
-use Rattle.fund_steps.specs.Searches.{PlainRow, load_with, step_by}
+use Rattle.fund_steps.specs.Searches.{PlainRow, load_with, step_by, step_with}
 use Rattle.fund_steps.specs.Terms.{rates_of}
 use Rattle.fund_steps.specs.Turns.{HasSteps}
 use Rattle.fund_steps.specs.declared.turns.Turn.{Turn}
@@ -41,6 +44,27 @@ pub record IsSearchablePool (pool : PlainPool) : Type 0 where
   pub items : AreItems pool.items
   pub groups : All (λ (g : List Candidate). length g ≤ 100) pool.groups
   pub same : length pool.items ≡ length pool.groups
+
+-- the items of a pool, and how many coins each of its groups has, such that steps can be made from them
+pub record AreSearched (items : List Item) (sizes : List ℕ) : Type 0 where
+  pub fit : AreItems items
+  pub small : All (λ n. n ≤ 100) sizes
+  pub same : length items ≡ length sizes
+
+-- the groups that coins form at a request's rates
+abbrev pub groups_for : PlainRequest → List Candidate → PlainGroups
+groups_for q cs = record { candidates = cs; group = q.group; rate = q.rate; long_term = q.long_term }
+
+-- the row keeps at most 10,000 of the groups, and so many, which are more
+abbrev pub KeepsFewOf : PlainGroups → Row → Type 0
+KeepsFewOf g row = (n : ℕ) → CountsKept g.group row g.rate g.candidates n → n ≤ 10_000
+
+abbrev pub KeepsManyOf : PlainGroups → Row → ℕ → Type 0
+KeepsManyOf g row n = CountsKept g.group row g.rate g.candidates n × (10_000 < n)
+
+-- the steps of a row with such items and sizes
+abbrev pub steps_by : Rates → Load → List Turn → ℕ → List Item → List ℕ → List PlainStep
+steps_by r l us number items sizes = map (step_with (terms_of r (load_with l (sum sizes))) number items sizes) us
 
 -- the steps of a row with a pool
 abbrev pub steps_with : Rates → Load → List Turn → PlainRow → List PlainStep

@@ -74,12 +74,13 @@ pub record IsFirstCrowded (p : PlainPlan) (number n : ℕ) : Type 0 where
 
 -- What keeps a plan from being made. Total: the candidates are worth this much together, which is more than 21,000,000
 -- bitcoin. Not eligible: they aren't, and this is the first listed outpoint at which no eligible coin is. Too many: each
--- has one, and this is the first row of the ladder that keeps more than 10,000 groups.
+-- has one, and this is the first row of the ladder that keeps more than 10,000 groups. Memory: the candidates aren't
+-- worth more, since that is tested before any memory is taken.
 abbrev pub IsFault : PlainPlan → PlanFault → Type 0
 IsFault p (Total sum) = (sum ≡ value_of p.candidates) × (2_100_000_000_000_000 < sum)
 IsFault p (NotEligible point) = IsWithin p × IsFirstMissing p point
 IsFault p (TooMany number n) = IsWithin p × All (HasEligible p) p.request.coins × IsFirstCrowded p number n
-IsFault p Memory = Unit {0}
+IsFault p Memory = IsWithin p
 
 -- The rules that each plan keeps: those of its parts, and that no fault is there.
 pub record IsPlan (p : PlainPlan) : Type 0 where

@@ -68,16 +68,20 @@ ending_by t _ = t.change_fee + t.change_spend
 
 -- ---- steps
 
--- the step of a row at a stage, by the row's terms
-abbrev pub step_by : Terms → PlainRow → Turn → PlainStep
-step_by t r u = record {
-  row = r.row.number;
+-- the step of a row at a stage, by the row's number, its terms, the items of its pool and how many coins each group has
+abbrev pub step_with : Terms → ℕ → List Item → List ℕ → Turn → PlainStep
+step_with t number items sizes u = record {
+  row = number;
   stage = u.stage;
-  problem = problem_by t r.pool.items u.stage;
+  problem = problem_by t items u.stage;
   ending = ending_by t u.stage;
-  sizes = sizes_of r.pool.groups;
+  sizes = sizes;
   last = u.last;
 }
+
+-- the same by the row and its pool
+abbrev pub step_by : Terms → PlainRow → Turn → PlainStep
+step_by t r u = step_with t r.row.number r.pool.items (sizes_of r.pool.groups) u
 
 -- There are presets, and they bring all that is needed: no coin is added, and nothing is searched for.
 abbrev pub is_met : Rates → Load → Bool

@@ -15,7 +15,7 @@ pub enum PlanFault {
     /// The row of this number keeps this many groups, which are more than 10,000, of the coins that the request doesn't
     /// list. It is the first such row of the ladder.
     TooMany(u8, u64),
-    /// There was not enough memory.
+    /// There was not enough memory. The candidates are worth at most 21,000,000 bitcoin then.
     Memory,
 }
 

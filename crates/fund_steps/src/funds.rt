@@ -69,13 +69,14 @@ impl Funds {
     ///
     /// The steps go through the rows of the request's ladder in order, and in each through the stages of its method, each
     /// with the problem of the row's pool. There are none with `manual`, and none where coins are listed that bring all
-    /// that is needed. The pool of a row is made once, and dropped when its steps are made.
+    /// that is needed. The groups are formed once for all rows, and dropped when the steps are made.
     ///
     /// [`PlanFault::Total`] comes exactly where the candidates are worth more than 21,000,000 bitcoin together. Otherwise
     /// [`PlanFault::NotEligible`] comes exactly where the request lists an outpoint at which there is no candidate that is
     /// safe, or that may be unsafe because the request says `include_unsafe`; it shows the first such outpoint. Otherwise
     /// [`PlanFault::TooMany`] comes exactly where a row of the request's ladder keeps more than 10,000 groups of the
-    /// candidates that it doesn't list; it shows the first such row.
+    /// candidates that it doesn't list; it shows the first such row. [`PlanFault::Memory`] is out of memory, and comes only
+    /// where the candidates are worth no more than that: their worth is tested before any memory is taken.
     pub fn new(
         alloc: Global,
         request: &Request,

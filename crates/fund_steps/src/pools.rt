@@ -1,12 +1,12 @@
 //! The steps of the rows of a request's ladder, and how many groups the rows keep.
 
-ghost use Rattle.std.specs.Prelude.{ℕ, ◌≡◌, ◌≤◌, ◌<◌, ◌++◌, IfOk, IfSome, All, None};
+ghost use Rattle.std.specs.Prelude.{◌≡◌, ◌++◌, IfOk, IfSome, All, None};
 ghost use Rattle.std.specs.List.{flat_map};
 ghost use Rattle.fund_base.specs.Candidates.{AreCandidates};
 ghost use Rattle.output_groups.specs.Ladder.{ladder_of};
-ghost use Rattle.output_groups.specs.Pool.{CountsKept};
+ghost use Rattle.output_groups.specs.PlainGroups.{pool_in};
 ghost use Rattle.search_run.specs.Step.{AreSteps};
-ghost use Rattle.fund_steps.specs.Making.{AreReady, steps_for};
+ghost use Rattle.fund_steps.specs.Making.{AreReady, KeepsFewOf, KeepsManyOf, steps_for, steps_with};
 ghost use Rattle.fund_steps.specs.Plan.{IsFirstCrowded, IsRoomy, PlainPlan, ladder_in};
 ghost use Rattle.fund_steps.specs.Selection.{unlisted};
 ghost use Rattle.fund_steps.specs.Terms.{rates_of};
@@ -14,9 +14,9 @@ ghost use Rattle.fund_steps.specs.Terms.{rates_of};
 use crate::row_steps::add_steps;
 use crate::terms::rates;
 use crate::turns::Turn;
-use fee_rates::Load;
+use fee_rates::{Load, Rates};
 use fund_base::{Candidate, Memory};
-use output_groups::{PoolFault, Row, ladder, pool};
+use output_groups::{Groups, PoolFault, Row, ladder};
 use request_text::Request;
 use search_run::Step;
 use std::alloc::Global;
@@ -30,46 +30,36 @@ pub struct Crowded {
     pub groups: u64,
 }
 
-/// Adds the steps of a row, by its pool of these coins, for presets of this load. The result is how many groups the row
-/// keeps of the coins, if they are more than 10,000; then no step is added.
+/// Adds the steps of a row, by its pool of these groups, for presets of this load. The result is how many groups the row
+/// keeps, if they are more than 10,000; then no step is added.
 fn add_row(
     alloc: Global,
-    request: &Request,
-    coins: &[Candidate],
+    rates: &Rates,
+    groups: &Groups,
     load: &Load,
     turns: &[Turn],
     row: &Row,
     steps: &mut Vec<Step>,
 ) -> Result<Option<u64>, Memory>
-    requires coins { AreCandidates coins.now }
-    requires ready { AreReady (rates_of request.now) load.now turns.now }
-    requires row { row.now.own ≤ row.now.foreign }
-    ensures few { IfOk result (λ o. o ≡ None → (n : ℕ) → CountsKept request.now.group row.now request.now.rate coins.now n → n ≤ 10_000) }
-    ensures many { IfOk result (λ o. IfSome o (λ n. CountsKept request.now.group row.now request.now.rate coins.now n × (10_000 < n))) }
-    ensures steps { IfOk result (λ o. o ≡ None → steps.new.items ≡ steps.old.items ++ steps_for request.now load.now coins.now turns.now row.now) }
+    requires ready { AreReady rates.now load.now turns.now }
+    ensures few { IfOk result (λ o. o ≡ None → KeepsFewOf groups.now row.now) }
+    ensures many { IfOk result (λ o. IfSome o (KeepsManyOf groups.now row.now)) }
+    ensures steps { IfOk result (λ o. o ≡ None → steps.new.items ≡ steps.old.items ++ steps_with rates.now load.now turns.now (record { row = row.now; pool = pool_in groups.now row.now })) }
     ensures fine { IfOk result (λ _. AreSteps steps.old.items → AreSteps steps.new.items) }
 {
-    request.keeps_rules();
-    match pool(
-        alloc,
-        coins,
-        row,
-        request.rate,
-        request.long_term,
-        request.group,
-    ) {
-        Ok(pool) => {
-            add_steps(alloc, &rates(request), load, row, &pool, turns, steps)?;
+    match groups.items(alloc, row) {
+        Ok(seen) => {
+            add_steps(alloc, rates, load, row, &seen, turns, steps)?;
             Ok(None)
         }
-        Err(PoolFault::TooMany(groups)) => Ok(Some(groups)),
+        Err(PoolFault::TooMany(count)) => Ok(Some(count)),
         Err(PoolFault::Memory) => Err(Memory),
     }
 }
 
 /// Adds the steps of the rows of the request's ladder, in order, by their pools of these coins, which are the candidates
-/// that the request doesn't list. The result is the first row that keeps more than 10,000 groups of them, if there is
-/// one.
+/// that the request doesn't list. The coins form groups once, and each row keeps some of them. The result is the first
+/// row that keeps more than 10,000 groups, if there is one.
 pub fn add_rows(
     alloc: Global,
     request: &Request,
@@ -85,9 +75,12 @@ pub fn add_rows(
     ensures steps { IfOk result (λ o. o ≡ None → steps.new.items ≡ steps.old.items ++ flat_map (steps_for request.now load.now coins.now turns.now) (ladder_of request.now.zero_conf request.now.include_unsafe)) }
     ensures fine { IfOk result (λ _. AreSteps steps.old.items → AreSteps steps.new.items) }
 {
+    request.keeps_rules();
+    let formed = Groups::new(alloc, coins, request.rate, request.long_term, request.group)?;
+    let rates = rates(request);
     let rows = ladder(request.zero_conf, request.include_unsafe);
     for row in rows {
-        if let Some(groups) = add_row(alloc, request, coins, load, turns, row, steps)? {
+        if let Some(groups) = add_row(alloc, &rates, &formed, load, turns, row, steps)? {
             return Ok(Some(Crowded {
                 number: row.number,
                 groups,

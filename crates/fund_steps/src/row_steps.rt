@@ -1,46 +1,33 @@
 //! The steps of one row.
 
-ghost use Rattle.std.specs.Prelude.{◌≡◌, ◌≤◌, ◌++◌, List, All, pos, unsigned_abs, ◌≤ℤ◌, length, map, sum_by, IfOk, OnOk};
+ghost use Rattle.std.specs.Prelude.{◌≡◌, ◌≤◌, ◌++◌, All, pos, unsigned_abs, ◌≤ℤ◌, length, sum, IfOk, OnOk};
 ghost use Rattle.fee_rates.specs.Terms.{AreRates, IsLoad, terms_of};
-ghost use Rattle.fund_base.specs.declared.candidate.Candidate.{Candidate};
 ghost use Rattle.pick_problem.specs.Pool.{AreItems};
 ghost use Rattle.pick_problem.specs.Problem.{IsProblem};
 ghost use Rattle.search_run.specs.Step.{AreSteps, IsStep};
-ghost use Rattle.fund_steps.specs.Making.{AreReady, AreSearchable, IsSearchablePool, steps_with};
-ghost use Rattle.fund_steps.specs.Searches.{ending_by, load_with, problem_by, sizes_of, step_by};
+ghost use Rattle.fund_steps.specs.Making.{AreReady, AreSearchable, AreSearched, steps_by};
+ghost use Rattle.fund_steps.specs.Searches.{ending_by, load_with, problem_by, step_with};
 ghost use Rattle.fund_steps.specs.Turns.{HasSteps};
 
 use crate::turns::Turn;
 use closing_log::Stage;
 use fee_rates::{Load, Rates, Terms};
 use fund_base::Memory;
-use output_groups::{Group, Row, RowPool};
+use output_groups::{Row, RowItems};
 use pick_problem::{Item, Kind, Problem};
 use search_run::Step;
 use std::alloc::Global;
 
-/// How many coins each group has.
-fn sizes(alloc: Global, groups: &[Group]) -> Result<Vec<u8>, Memory>
-    requires { All (λ (g : List Candidate). length g ≤ 100) groups.now }
-    ensures { IfOk result (λ v. v.items ≡ sizes_of groups.now) }
-{
-    let mut sizes = Vec::new(alloc);
-    for group in groups {
-        sizes.push(group.as_slice().len() as u8)?;
-    }
-    Ok(sizes)
-}
-
-/// How many coins the groups have together.
-fn coins(groups: &[Group]) -> u64
-    requires few { length groups.now ≤ 10_000 }
-    requires each { All (λ (g : List Candidate). length g ≤ 100) groups.now }
-    ensures value { result ≡ sum_by (λ (g : List Candidate). length g) groups.now }
+/// How many coins there are together, by how many each group has.
+fn coins(sizes: &[u8]) -> u64
+    requires few { length sizes.now ≤ 10_000 }
+    requires each { All (λ n. n ≤ 100) sizes.now }
+    ensures value { result ≡ sum sizes.now }
     ensures most { result ≤ 1_000_000 }
 {
     let mut sum = 0;
-    for group in groups {
-        sum += group.as_slice().len() as u64;
+    for size in sizes {
+        sum += u64::from(*size);
     }
     sum
 }
@@ -116,30 +103,30 @@ fn step(
     alloc: Global,
     terms: &Terms,
     row: &Row,
-    pool: &RowPool,
+    seen: &RowItems,
     turn: &Turn,
 ) -> Result<Step, Memory>
     requires terms { AreSearchable terms.now }
-    requires pool { IsSearchablePool pool.now }
+    requires seen { AreSearched seen.now.items.items seen.now.sizes.items }
     requires stage { HasSteps turn.now.stage }
-    ensures value { IfOk result (λ s. s ≡ step_by terms.now (record { row = row.now; pool = pool.now }) turn.now) }
+    ensures value { IfOk result (λ s. s ≡ step_with terms.now row.now.number seen.now.items.items seen.now.sizes.items turn.now) }
     ensures step { IfOk result IsStep }
 {
-    let problem = problem(alloc, terms, &pool.items, turn.stage)?;
-    let sizes = sizes(alloc, &pool.groups)?;
+    let problem = problem(alloc, terms, &seen.items, turn.stage)?;
+    let sizes = Vec::from_slice(alloc, &seen.sizes)?;
     let ending = ending(terms, turn.stage);
     Ok(Step::new(row.number, turn.stage, problem, ending, sizes, turn.last))
 }
 
 /// The terms of a payment from the presets and from a row's pool: all coins of both count.
-fn row_terms(rates: &Rates, load: &Load, pool: &RowPool) -> Terms
+fn row_terms(rates: &Rates, load: &Load, seen: &RowItems) -> Terms
     requires rates { AreRates rates.now }
     requires load { IsLoad load.now }
     requires few { load.now.coins ≤ 100_000 }
-    requires pool { IsSearchablePool pool.now }
-    ensures { result ≡ terms_of rates.now (load_with load.now (sum_by (λ (g : List Candidate). length g) pool.now.groups)) }
+    requires seen { AreSearched seen.now.items.items seen.now.sizes.items }
+    ensures { result ≡ terms_of rates.now (load_with load.now (sum seen.now.sizes.items)) }
 {
-    let coins = coins(&pool.groups);
+    let coins = coins(&seen.sizes);
     Terms::new(
         rates,
         &Load {
@@ -149,24 +136,24 @@ fn row_terms(rates: &Rates, load: &Load, pool: &RowPool) -> Terms
     )
 }
 
-/// Adds the steps of a row with this pool.
+/// Adds the steps of a row, by what a search sees of its pool.
 pub fn add_steps(
     alloc: Global,
     rates: &Rates,
     load: &Load,
     row: &Row,
-    pool: &RowPool,
+    seen: &RowItems,
     turns: &[Turn],
     steps: &mut Vec<Step>,
 ) -> Result<(), Memory>
     requires ready { AreReady rates.now load.now turns.now }
-    requires pool { IsSearchablePool pool.now }
-    ensures steps { OnOk result (steps.new.items ≡ steps.old.items ++ steps_with rates.now load.now turns.now (record { row = row.now; pool = pool.now })) }
+    requires seen { AreSearched seen.now.items.items seen.now.sizes.items }
+    ensures steps { OnOk result (steps.new.items ≡ steps.old.items ++ steps_by rates.now load.now turns.now row.now.number seen.now.items.items seen.now.sizes.items) }
     ensures fine { OnOk result (AreSteps steps.old.items → AreSteps steps.new.items) }
 {
-    let terms = row_terms(rates, load, pool);
+    let terms = row_terms(rates, load, seen);
     for turn in turns {
-        steps.push(step(alloc, &terms, row, pool, turn)?)?;
+        steps.push(step(alloc, &terms, row, seen, turn)?)?;
     }
     Ok(())
 }

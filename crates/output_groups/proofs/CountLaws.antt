@@ -9,7 +9,7 @@ use Rattle.std.proofs.lemmas.Bool.{cases_Bool}
 use Rattle.fund_base.specs.declared.candidate.Candidate.{Candidate}
 use Rattle.output_groups.specs.Forming.{AreParts, IsGrouping, starts_with}
 use Rattle.output_groups.specs.Pool.{AreKept, CountsKept, keeps}
-use Rattle.output_groups.specs.declared.part.Part.{Part}
+use Rattle.output_groups.specs.Part.{Part}
 use Rattle.output_groups.specs.declared.rows.Row.{Row}
 use Rattle.output_groups.proofs.GroupLaws.{first_script, starts_first}
 use Rattle.output_groups.proofs.PartLaws.{filter_all}

@@ -12,8 +12,8 @@ use Rattle.std.proofs.lemmas.Slice.Eq.{bytes_eq-Decides}
 use Rattle.std.proofs.lemmas.Bool.{false_from_ne_true}
 use Rattle.fund_base.specs.declared.candidate.Candidate.{Candidate}
 use Rattle.output_groups.specs.Forming.{IsGrouping, of_script, parts_of, pays_to, starts_with}
-use Rattle.output_groups.specs.Runs.{IsRun, script_of}
-use Rattle.output_groups.specs.declared.part.Part.{Part}
+use Rattle.output_groups.specs.Runs.{IsRun, run_of, script_of}
+use Rattle.output_groups.specs.Part.{Part}
 use Rattle.output_groups.proofs.PartLaws.{IsFull, filter_all, filter_none, parts_full, parts_of_none, starts_full}
 use Rattle.output_groups.proofs.ScriptLaws.{script_lt, script_order, ties_script, with_script}
 
@@ -22,9 +22,6 @@ pub record IsCut (cs : List Candidate) (start : ℕ) (parts : List Part) : Type 
   pub within : start ≤ length cs
   pub grouping : IsGrouping (take start cs) parts
   pub fresh : (d : Candidate) → start < length cs → of_script (script_of (get_or cs start d)) (take start cs) ≡ []
-
-abbrev pub run_of : List Candidate → ℕ → ℕ → List Candidate
-run_of cs start end = take (end - start) (drop start cs)
 
 taken : (cs : List Candidate) (start end : ℕ) → start ≤ end → take end cs ≡ take start cs ++ run_of cs start end
 taken cs start end up =

@@ -12,7 +12,7 @@ use Rattle.output_groups.specs.Counting.{kept_count, parts_in, scripts_of}
 use Rattle.output_groups.specs.Forming.{AreParts, of_script, parts_of, pays_to, starts_with}
 use Rattle.output_groups.specs.Measures.{is_useful}
 use Rattle.output_groups.specs.Pool.{CountsKept, keeps}
-use Rattle.output_groups.specs.declared.part.Part.{Part}
+use Rattle.output_groups.specs.Part.{Part}
 use Rattle.output_groups.specs.declared.rows.Row.{Row}
 use Rattle.output_groups.proofs.CutLaws.{parts_filled}
 use Rattle.output_groups.proofs.PartLaws.{IsFull, filter_all, filter_none, parts_full, parts_of_none, starts_full}

@@ -7,7 +7,7 @@ use Rattle.fund_base.specs.Candidates.{IsCandidate}
 use Rattle.fund_base.specs.declared.candidate.Candidate.{Candidate}
 use Rattle.output_groups.specs.Forming.{AreParts, IsGrouping, alone, of_script, parts_of, pays_to, starts_with}
 use Rattle.output_groups.specs.Measures.{IsGroup, is_useful}
-use Rattle.output_groups.specs.declared.part.Part.{Part}
+use Rattle.output_groups.specs.Part.{Part}
 use Rattle.output_groups.proofs.Members.{all_from, in_filter}
 use Rattle.output_groups.proofs.PartLaws.{IsFull, parts_full}
 

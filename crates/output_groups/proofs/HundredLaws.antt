@@ -13,7 +13,7 @@ use Rattle.fund_base.proofs.Lists.{in_tail, cons_cases}
 use Rattle.fund_base.specs.declared.candidate.Candidate.{Candidate}
 use Rattle.output_groups.specs.Forming.{IsGrouping, hundred, of_script, part_at, parts_of, starts_with}
 use Rattle.output_groups.specs.Hundreds.{AreHundreds, HasFull}
-use Rattle.output_groups.specs.declared.part.Part.{Part}
+use Rattle.output_groups.specs.Part.{Part}
 use Rattle.output_groups.proofs.Members.{head_in, none_in}
 use Rattle.output_groups.proofs.PartLaws.{IsFull, all_places, parts_full, place_within}
 use Rattle.output_groups.proofs.PlaceLaws.{place_of}

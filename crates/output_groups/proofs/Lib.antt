@@ -11,7 +11,9 @@ pub mod OnceLaws
 pub mod OrderLaws
 pub mod PartLaws
 pub mod PlaceLaws
+pub mod PlacedLaws
 pub mod PoolLaws
+pub mod RunLaws
 pub mod ScriptLaws
 pub mod SortLaws
 pub mod TakenLaws

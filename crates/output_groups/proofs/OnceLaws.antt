@@ -18,7 +18,7 @@ use Rattle.output_groups.specs.Forming.{AreParts, alone, hundred, of_script, par
 use Rattle.output_groups.specs.Measures.{is_useful}
 use Rattle.output_groups.specs.PlainPool.{PlainPool}
 use Rattle.output_groups.specs.Pool.{AreOnce, AreSeparate, IsPool, keeps}
-use Rattle.output_groups.specs.declared.part.Part.{Part}
+use Rattle.output_groups.specs.Part.{Part}
 use Rattle.output_groups.specs.declared.rows.Row.{Row}
 use Rattle.output_groups.proofs.GroupLaws.{first_script, formed_full, part_placed}
 use Rattle.output_groups.proofs.Members.{all_from, in_filter}

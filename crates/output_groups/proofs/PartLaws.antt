@@ -8,7 +8,7 @@ use Rattle.std.proofs.lemmas.List.Elements.{All-drop, All-head, All-tail, All-ta
 use Rattle.std.proofs.lemmas.List.FromFn.{get_or-map-range_with_len, length-map-range_with_len}
 use Rattle.fund_base.specs.declared.candidate.Candidate.{Candidate}
 use Rattle.output_groups.specs.Forming.{hundred, part_at, parts_of, pays_to, starts_with}
-use Rattle.output_groups.specs.declared.part.Part.{Part}
+use Rattle.output_groups.specs.Part.{Part}
 
 pub filter_all : {X : Type 0} (p : X → Bool) (xs : List X) → All (λ x. p x ≡ true) xs → filter p xs ≡ xs
 filter_all p [] all = refl

@@ -11,7 +11,7 @@ use Rattle.std.proofs.lemmas.Slice.Eq.{bytes_eq-Decides}
 use Rattle.fund_base.proofs.Lists.{cons_cases}
 use Rattle.fund_base.specs.declared.candidate.Candidate.{Candidate}
 use Rattle.output_groups.specs.Forming.{IsGrouping, alone, hundred, of_script, part_at, parts_of, pays_to, starts_with}
-use Rattle.output_groups.specs.declared.part.Part.{Part}
+use Rattle.output_groups.specs.Part.{Part}
 use Rattle.output_groups.proofs.GroupLaws.{first_script, part_placed, starts_first}
 use Rattle.output_groups.proofs.Members.{from_filter, from_map, none_in}
 
@@ -75,21 +75,21 @@ pub only : (x a : Candidate) → Contains (x ∷ []) a → x ≡ a
 only x a held = elim (cons_cases x [] a held) [ inl e ↦ e | inr none ↦ absurd (none_in a none) ]
 
 -- what a group by itself is
-pub single_of : (cs : List Candidate) (p : Part) (a : Candidate) → Contains (map alone cs) p → Contains p.coins a → Contains cs a × (p.coins ≡ a ∷ [])
+pub single_of : (cs : List Candidate) (p : Part) (a : Candidate) → Contains (map alone cs) p → Contains p.coins a → Contains cs a × (p ≡ alone a)
 single_of cs p a held has =
     let found = from_map alone cs p held in
     let coins : found.0 ∷ [] ≡ p.coins = ap (λ (x : Part). x.coins) found.2 in
     let e : found.0 ≡ a = only found.0 a (subst (λ (g : List Candidate). Contains g a) (sym coins) has) in
-    (subst (λ (x : Candidate). Contains cs x) e found.1, sym coins ∙ ap (λ (x : Candidate). x ∷ []) e)
+    (subst (λ (x : Candidate). Contains cs x) e found.1, sym found.2 ∙ ap alone e)
 
 -- the hundred of its script that a group is, by one of its coins
-pub record IsHundred (cs : List Candidate) (g : List Candidate) (a : Candidate) : Type 0 where
+pub record IsHundred (cs : List Candidate) (p : Part) (a : Candidate) : Type 0 where
   pub place : ℕ
   pub held : Contains cs a
-  pub is : g ≡ hundred (of_script a.script cs) place
-  pub starts : starts_with a.script g ≡ true
+  pub part : p ≡ part_at (of_script a.script cs) place
+  pub starts : starts_with a.script p.coins ≡ true
 
-pub hundred_of : (cs : List Candidate) (parts : List Part) (p : Part) (a : Candidate) → IsGrouping cs parts → Contains parts p → Contains p.coins a → IsHundred cs p.coins a
+pub hundred_of : (cs : List Candidate) (parts : List Part) (p : Part) (a : Candidate) → IsGrouping cs parts → Contains parts p → Contains p.coins a → IsHundred cs p a
 hundred_of cs parts p a grouping held has =
     let script = first_script p.coins in
     let found = place_of (of_script script cs) p (part_placed cs parts p grouping held) in
@@ -100,6 +100,6 @@ hundred_of cs parts p a grouping held has =
     record {
       place = found.0;
       held = within.0;
-      is = is ∙ ap (λ (s : List ℕ). hundred (of_script s cs) found.0) same;
+      part = sym found.1 ∙ ap (λ (s : List ℕ). part_at (of_script s cs) found.0) same;
       starts = subst (λ (s : List ℕ). starts_with s p.coins ≡ true) same (starts_first p.coins filled);
     }

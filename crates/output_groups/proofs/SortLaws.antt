@@ -1,27 +1,30 @@
 -- The pool of a row as a function is the pool of that row.
-use Rattle.std.specs.Prelude.{◌≡◌, ℕ, zero, suc, ◌+◌, ◌<◌, Bool, true, false, List, [], ◌∷◌, map, filter, length, get_or, IsPermutation, IsSorted, IsSortedBy, if◌then◌else◌}
+use Rattle.std.specs.Prelude.{◌≡◌, ℕ, zero, suc, ◌+◌, ◌<◌, Bool, true, false, List, [], ◌∷◌, map, filter, count_by, length, get_or, IsPermutation, IsSorted, IsSortedBy, if◌then◌else◌}
 use Rattle.std.specs.Cmp.{IsStrictWeakOrder}
 use Rattle.std.specs.Ordering.{is_lt}
-use Rattle.std.proofs.Common.{refl, subst, cond, arith, inl, inr}
+use Rattle.std.proofs.Common.{refl, sym, subst, cond, ◌∙◌, arith, inl, inr}
 use Rattle.std.proofs.lemmas.Bool.{cases_Bool}
 use Rattle.std.proofs.lemmas.List.{get_or-map, length-map}
 use Rattle.std.proofs.lemmas.List.Kept.{IsSortedBy-filter}
-use Rattle.std.proofs.lemmas.List.Sorted.{IsPermutation-cons, IsPermutation-map, IsPermutation-refl, IsPermutation-swap, IsPermutation-trans, ranks_by}
+use Rattle.std.proofs.lemmas.List.Sorted.{Contains-permutation, IsPermutation-cons, IsPermutation-map, IsPermutation-refl, IsPermutation-swap, IsPermutation-sym, IsPermutation-trans, ranks_by, sum_by-IsPermutation}
 use Rattle.fund_base.specs.Candidates.{AreCandidates}
 use Rattle.fund_base.specs.declared.candidate.Candidate.{Candidate}
 use Rattle.output_groups.specs.Counting.{parts_in}
+use Rattle.output_groups.specs.Forming.{AreParts}
 use Rattle.output_groups.specs.Measures.{is_useful}
 use Rattle.output_groups.specs.PlainPool.{PlainPool}
 use Rattle.output_groups.specs.Pool.{IsPool, group_cmp, keeps}
 use Rattle.output_groups.specs.PoolOf.{formed_of, placed, pool_of, sorted}
-use Rattle.output_groups.specs.declared.part.Part.{Part}
+use Rattle.output_groups.specs.Part.{Part}
 use Rattle.output_groups.specs.declared.rows.Row.{Row}
+use Rattle.output_groups.proofs.CountLaws.{same_parts}
 use Rattle.output_groups.proofs.FormedLaws.{are_parts}
-use Rattle.output_groups.proofs.OrderLaws.{group_total, sorted_tail}
-use Rattle.output_groups.proofs.UniqueLaws.{pool_unique}
+use Rattle.output_groups.proofs.OrderLaws.{group_total, sorted_tail, sorted_unique, tied}
+use Rattle.output_groups.proofs.PartLaws.{filter_all}
+use Rattle.output_groups.proofs.UniqueLaws.{parts_tie, pool_unique}
 
 -- the first part comes before the second
-abbrev part_lt : ℕ → ℕ → Part → Part → Bool
+abbrev pub part_lt : ℕ → ℕ → Part → Part → Bool
 part_lt rate long_term p q = is_lt (group_cmp rate long_term p.coins q.coins)
 
 part_order : (rate long_term : ℕ) → IsStrictWeakOrder (part_lt rate long_term)
@@ -92,6 +95,30 @@ placed_sorted rate long_term p (q ∷ qs) up =
 sorted_up : (rate long_term : ℕ) (ps : List Part) → IsSortedBy (part_lt rate long_term) (sorted rate long_term ps)
 sorted_up rate long_term [] = λ k d low below. absurd (omega (arith, below))
 sorted_up rate long_term (p ∷ ps) = placed_sorted rate long_term p (sorted rate long_term ps) (sorted_up rate long_term ps)
+
+-- sorted parts are the same parts
+sorted_whole : (rate long_term : ℕ) (ps : List Part) → IsPermutation ps (sorted rate long_term ps)
+sorted_whole rate long_term ps =
+    let any : Part → Bool = λ p. true in
+    let there = sorted rate long_term ps in
+    let whole : (qs : List Part) → filter any qs ≡ qs = λ qs. filter_all any qs (λ k d below. refl) in
+    subst (λ (xs : List Part). IsPermutation ps xs) (whole there) (subst (λ (xs : List Part). IsPermutation xs (filter any there)) (whole ps) (sorted_filter any rate long_term ps))
+
+-- the groups that useful candidates form, in order, are one list, however they were formed
+pub formed_one : (group : Bool) (rate long_term : ℕ) (cs : List Candidate) (parts now : List Part) → AreCandidates cs → AreParts group (filter (is_useful rate) cs) parts → IsPermutation parts now → IsSortedBy (part_lt rate long_term) now → now ≡ formed_of group rate long_term cs
+unfolding formed_of
+formed_one group rate long_term cs parts now are formed moved up =
+    let all = parts_in group (filter (is_useful rate) cs) in
+    let there = sorted rate long_term all in
+    let formed_too = are_parts group (filter (is_useful rate) cs) in
+    let same = same_parts group (filter (is_useful rate) cs) parts all formed formed_too in
+    let moved_too = sorted_whole rate long_term all in
+    let counts : (t : Part → Bool) → count_by t now ≡ count_by t there =
+    λ t. sum_by-IsPermutation (λ p. cond (t p) 1 0) parts now moved ∙ same.counts t ∙ sym (sum_by-IsPermutation (λ p. cond (t p) 1 0) all there moved_too) in
+    sorted_unique (part_lt rate long_term) (part_order rate long_term) now there up (sorted_up rate long_term all) counts
+    (λ p q held held_too below above.
+    parts_tie group rate long_term cs parts all are formed formed_too p q (Contains-permutation now parts p (IsPermutation-sym parts now moved) held) (Contains-permutation there all q (IsPermutation-sym all there moved_too) held_too)
+    (tied (group_cmp rate long_term p.coins q.coins) (group_cmp rate long_term q.coins p.coins) ((group_total rate long_term).antisymm p.coins q.coins) below above))
 
 coins_sorted : (rate long_term : ℕ) (ps : List Part) → IsSortedBy (part_lt rate long_term) ps → IsSorted (group_cmp rate long_term) (map (λ (p : Part). p.coins) ps)
 coins_sorted rate long_term [] up k d low below = absurd (omega (arith, below))

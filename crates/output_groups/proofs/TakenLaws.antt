@@ -9,7 +9,7 @@ use Rattle.output_groups.specs.Ladder.{GrowLaxer, IsLaxer, ladder_of}
 use Rattle.output_groups.specs.Measures.{ancestors_of, depth_of, descendants_of, is_mine, is_safe}
 use Rattle.output_groups.specs.Pool.{group_meets, keeps}
 use Rattle.output_groups.specs.Taken.{AreMine, IsTaken}
-use Rattle.output_groups.specs.declared.part.Part.{Part}
+use Rattle.output_groups.specs.Part.{Part}
 use Rattle.output_groups.specs.declared.rows.Row.{Row}
 use Rattle.output_groups.proofs.MeetLaws.{depth_below, most_above}
 

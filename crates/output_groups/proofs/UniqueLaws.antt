@@ -12,11 +12,11 @@ use Rattle.fund_base.specs.Candidates.{AreCandidates}
 use Rattle.fund_base.specs.declared.candidate.Candidate.{Candidate}
 use Rattle.fund_base.specs.declared.outpoint.OutPoint.{OutPoint}
 use Rattle.pick_problem.specs.declared.item.Item.{Item}
-use Rattle.output_groups.specs.Forming.{AreParts, hundred, of_script, pays_to}
+use Rattle.output_groups.specs.Forming.{AreParts, alone, hundred, of_script, part_at, pays_to}
 use Rattle.output_groups.specs.Measures.{IsGroup, is_useful, least_of, lesser}
 use Rattle.output_groups.specs.PlainPool.{PlainPool}
 use Rattle.output_groups.specs.Pool.{IsPool, group_cmp, item_of, keeps}
-use Rattle.output_groups.specs.declared.part.Part.{Part}
+use Rattle.output_groups.specs.Part.{Part}
 use Rattle.output_groups.specs.declared.rows.Row.{Row}
 use Rattle.output_groups.proofs.CountLaws.{same_kept}
 use Rattle.output_groups.proofs.GroupLaws.{parts_fine}
@@ -50,56 +50,63 @@ least_in (c ∷ cs) some =
     ]
 
 -- groups that share an outpoint are one
-pub same_group : (group : Bool) (cs : List Candidate) (parts others : List Part) (p q : Part) (a b : Candidate) → AreApart cs → AreParts group cs parts → AreParts group cs others → Contains parts p → Contains others q → Contains p.coins a → Contains q.coins b → a.coin ≡ b.coin → p.coins ≡ q.coins
-same_group true cs parts others p q a b apart formed formed_too held held_too has has_too same =
+same_part : (group : Bool) (cs : List Candidate) (parts others : List Part) (p q : Part) (a b : Candidate) → AreApart cs → AreParts group cs parts → AreParts group cs others → Contains parts p → Contains others q → Contains p.coins a → Contains q.coins b → a.coin ≡ b.coin → p ≡ q
+same_part true cs parts others p q a b apart formed formed_too held held_too has has_too same =
     let at = hundred_of cs parts p a formed held has in
     let at_too = hundred_of cs others q b formed_too held_too has_too in
     let e : a ≡ b = one_coin cs a b apart at.held at_too.held same in
     let mine = of_script a.script cs in
-    let is_too : q.coins ≡ hundred mine at_too.place = at_too.is ∙ ap (λ (c : Candidate). hundred (of_script c.script cs) at_too.place) (sym e) in
-    let in_first : Contains (hundred mine at.place) a = subst (λ (g : List Candidate). Contains g a) at.is has in
-    let in_second : Contains (hundred mine at_too.place) a = subst (λ (g : List Candidate). Contains g a) is_too (subst (λ (c : Candidate). Contains q.coins c) (sym e) has_too) in
+    let is_too : q ≡ part_at mine at_too.place = at_too.part ∙ ap (λ (c : Candidate). part_at (of_script c.script cs) at_too.place) (sym e) in
+    let coins : Part → List Candidate = λ x. x.coins in
+    let in_first : Contains (hundred mine at.place) a = subst (λ (g : List Candidate). Contains g a) (ap coins at.part) has in
+    let in_second : Contains (hundred mine at_too.place) a = subst (λ (g : List Candidate). Contains g a) (ap coins is_too) (subst (λ (c : Candidate). Contains q.coins c) (sym e) has_too) in
     let place : at.place ≡ at_too.place = one_hundred mine at.place at_too.place a (AllPairs-filter (λ (x y : Candidate). x.coin ≢ y.coin) (pays_to a.script) cs apart) in_first in_second in
-    at.is ∙ ap (hundred mine) place ∙ sym is_too
-same_group false cs parts others p q a b apart formed formed_too held held_too has has_too same =
+    at.part ∙ ap (part_at mine) place ∙ sym is_too
+same_part false cs parts others p q a b apart formed formed_too held held_too has has_too same =
     let at = single_of cs p a (subst (λ (ps : List Part). Contains ps p) formed held) has in
     let at_too = single_of cs q b (subst (λ (ps : List Part). Contains ps q) formed_too held_too) has_too in
-    at.1 ∙ ap (λ (c : Candidate). c ∷ []) (one_coin cs a b apart at.0 at_too.0 same) ∙ sym at_too.1
+    at.1 ∙ ap alone (one_coin cs a b apart at.0 at_too.0 same) ∙ sym at_too.1
+
+-- the order tells the groups of useful candidates apart
+pub parts_tie : (group : Bool) (rate long_term : ℕ) (cs : List Candidate) (parts others : List Part) → AreCandidates cs → AreParts group (filter (is_useful rate) cs) parts → AreParts group (filter (is_useful rate) cs) others
+    → (p q : Part) → Contains parts p → Contains others q → group_cmp rate long_term p.coins q.coins ≡ Equal → p ≡ q
+parts_tie group rate long_term cs parts others are formed formed_too p q held held_too tie =
+    let useful = filter (is_useful rate) cs in
+    let apart : AreApart useful = AllPairs-filter (λ (x y : Candidate). x.coin ≢ y.coin) (is_useful rate) cs are.distinct in
+    let Fine : Part → Type 0 = λ x. IsGroup rate x.coins in
+    let first : Fine p = All-contains Fine parts p (parts_fine rate group cs parts are.each formed) held in
+    let second : Fine q = All-contains Fine others q (parts_fine rate group cs others are.each formed_too) held_too in
+    let a = least_in p.coins first.some in
+    let b = least_in q.coins second.some in
+    let outpoint : (a.0).coin ≡ (b.0).coin = a.2 ∙ tie_least rate long_term p.coins q.coins tie ∙ sym b.2 in
+    same_part group useful parts others p q a.0 b.0 apart formed formed_too held held_too a.1 b.1 outpoint
 
 -- the part that a pool's group is
-pub record IsPart (group : Bool) (row : Row) (rate : ℕ) (cs : List Candidate) (parts : List Part) (g : List Candidate) : Type 0 where
+pub record IsPart (parts : List Part) (g : List Candidate) : Type 0 where
   pub part : Part
   pub held : Contains parts part
   pub coins : part.coins ≡ g
-  pub some : 0 < length g
 
-part_of : (group : Bool) (row : Row) (rate long_term : ℕ) (cs : List Candidate) (p : PlainPool) (g : List Candidate) → AreCandidates cs → (is : IsPool group row rate long_term cs p) → Contains p.groups g → IsPart group row rate cs is.are_kept.parts g
-part_of group row rate long_term cs p g are is held =
+part_of : (group : Bool) (row : Row) (rate long_term : ℕ) (cs : List Candidate) (p : PlainPool) (g : List Candidate) → (is : IsPool group row rate long_term cs p) → Contains p.groups g → IsPart is.are_kept.parts g
+part_of group row rate long_term cs p g is held =
     let parts = is.are_kept.parts in
     let kept : Contains is.kept g = Contains-permutation p.groups is.kept g (IsPermutation-sym is.kept p.groups is.moved) held in
     let mapped : Contains (map (λ (x : Part). x.coins) (filter (keeps row) parts)) g = subst (λ (gs : List (List Candidate)). Contains gs g) is.are_kept.kept_are kept in
     let found = from_map (λ (x : Part). x.coins) (filter (keeps row) parts) g mapped in
-    let one : Contains parts found.0 = (from_filter (keeps row) parts found.0 found.1).0 in
-    let fine : IsGroup rate (found.0).coins = All-contains (λ (x : Part). IsGroup rate x.coins) parts found.0 (parts_fine rate group cs parts are.each is.are_kept.formed) one in
-    record { part = found.0; held = one; coins = found.2; some = subst (λ (x : List Candidate). 0 < length x) found.2 fine.some }
+    record { part = found.0; held = (from_filter (keeps row) parts found.0 found.1).0; coins = found.2 }
 
 -- the order tells the groups of a row's pools apart
 pub ties_are_one : (group : Bool) (row : Row) (rate long_term : ℕ) (cs : List Candidate) (p q : PlainPool) → AreCandidates cs → IsPool group row rate long_term cs p → IsPool group row rate long_term cs q → (g h : List Candidate) → Contains p.groups g → Contains q.groups h → group_cmp rate long_term g h ≡ Equal → g ≡ h
 ties_are_one group row rate long_term cs p q are is is_too g h held held_too tie =
-    let useful = filter (is_useful rate) cs in
-    let apart : AreApart useful = AllPairs-filter (λ (x y : Candidate). x.coin ≢ y.coin) (is_useful rate) cs are.distinct in
-    let first = part_of group row rate long_term cs p g are is held in
-    let second = part_of group row rate long_term cs q h are is_too held_too in
-    let a = least_in g first.some in
-    let b = least_in h second.some in
-    let outpoint : (a.0).coin ≡ (b.0).coin = a.2 ∙ tie_least rate long_term g h tie ∙ sym b.2 in
-    let has : Contains (first.part).coins a.0 = subst (λ (x : List Candidate). Contains x a.0) (sym first.coins) a.1 in
-    let has_too : Contains (second.part).coins b.0 = subst (λ (x : List Candidate). Contains x b.0) (sym second.coins) b.1 in
-    sym first.coins
-    ∙ same_group group useful is.are_kept.parts is_too.are_kept.parts first.part second.part a.0 b.0 apart is.are_kept.formed is_too.are_kept.formed first.held second.held has has_too outpoint
-    ∙ second.coins
+    let first = part_of group row rate long_term cs p g is held in
+    let second = part_of group row rate long_term cs q h is_too held_too in
+    let tie_too : group_cmp rate long_term (first.part).coins (second.part).coins ≡ Equal =
+    ap (λ (x : List Candidate). group_cmp rate long_term x (second.part).coins) first.coins ∙ ap (group_cmp rate long_term g) second.coins ∙ tie in
+    let one : first.part ≡ second.part =
+    parts_tie group rate long_term cs is.are_kept.parts is_too.are_kept.parts are is.are_kept.formed is_too.are_kept.formed first.part second.part first.held second.held tie_too in
+    sym first.coins ∙ ap (λ (x : Part). x.coins) one ∙ second.coins
 
-same_pool : (p q : PlainPool) → p.items ≡ q.items → p.groups ≡ q.groups → p ≡ q
+pub same_pool : (p q : PlainPool) → p.items ≡ q.items → p.groups ≡ q.groups → p ≡ q
 same_pool p q items groups =
     let one : PlainPool = record { items = p.items; groups = q.groups } in
     let first : p ≡ one = ap (λ (gs : List (List Candidate)). let x : PlainPool = record { items = p.items; groups = gs } in x) groups in

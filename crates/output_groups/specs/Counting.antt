@@ -5,7 +5,7 @@ use Rattle.fund_base.specs.declared.candidate.Candidate.{Candidate}
 use Rattle.output_groups.specs.Forming.{alone, of_script, parts_of}
 use Rattle.output_groups.specs.Measures.{is_useful}
 use Rattle.output_groups.specs.Pool.{keeps}
-use Rattle.output_groups.specs.declared.part.Part.{Part}
+use Rattle.output_groups.specs.Part.{Part}
 use Rattle.output_groups.specs.declared.rows.Row.{Row}
 
 -- the scripts that coins pay to, each once

@@ -3,7 +3,7 @@ use Rattle.std.specs.Prelude.{◌≡◌, ◌<◌, ℕ, ◌*◌, Bool, true, fals
 use Rattle.std.specs.List.{range_with_len}
 use Rattle.std.specs.Int.{div_ceil}
 use Rattle.fund_base.specs.declared.candidate.Candidate.{Candidate}
-use Rattle.output_groups.specs.declared.part.Part.{Part}
+use Rattle.output_groups.specs.Part.{Part}
 
 -- the coins of one script, in their order
 abbrev pub pays_to : List ℕ → Candidate → Bool

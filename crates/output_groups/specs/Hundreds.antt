@@ -2,7 +2,7 @@
 use Rattle.std.specs.Prelude.{◌≡◌, ◌<◌, ◌≤◌, ◌↔◌, List, All, AllPairs, Contains, IsTrue, length}
 use Rattle.std.specs.List.{flat_map}
 use Rattle.fund_base.specs.declared.candidate.Candidate.{Candidate}
-use Rattle.output_groups.specs.declared.part.Part.{Part}
+use Rattle.output_groups.specs.Part.{Part}
 
 -- one of the groups has 100 coins
 abbrev pub HasFull : List Part → Type 0

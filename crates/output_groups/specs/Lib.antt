@@ -1,9 +1,12 @@
 pub mod Counting
+pub mod Formed
 pub mod Forming
 pub mod Hundreds
-pub mod Kept
 pub mod Ladder
 pub mod Measures
+pub mod Order
+pub mod Part
+pub mod PlainGroups
 pub mod PlainPool
 pub mod Pool
 pub mod PoolOf

@@ -11,7 +11,7 @@ use Rattle.output_groups.specs.Measures.{is_useful, value_of, weight_of, cost_of
 use Rattle.output_groups.specs.PlainPool.{PlainPool}
 use Rattle.output_groups.specs.declared.fault.PoolFault.{PoolFault}
 use Rattle.output_groups.specs.declared.fault.PoolFault.TheVariants.{TooMany, Memory}
-use Rattle.output_groups.specs.declared.part.Part.{Part}
+use Rattle.output_groups.specs.Part.{Part}
 use Rattle.output_groups.specs.declared.rows.Row.{Row}
 
 -- a group meets a row by its least depth, its summed ancestors, its greatest descendants, and what all its coins are

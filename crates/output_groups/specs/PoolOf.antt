@@ -7,7 +7,7 @@ use Rattle.output_groups.specs.Counting.{parts_in}
 use Rattle.output_groups.specs.Measures.{is_useful}
 use Rattle.output_groups.specs.PlainPool.{PlainPool}
 use Rattle.output_groups.specs.Pool.{group_cmp, item_of, keeps}
-use Rattle.output_groups.specs.declared.part.Part.{Part}
+use Rattle.output_groups.specs.Part.{Part}
 use Rattle.output_groups.specs.declared.rows.Row.{Row}
 
 -- a group among sorted ones, after those that come before it

@@ -1,20 +1,28 @@
 //! How coins form groups.
 
-ghost use Rattle.std.specs.Prelude.{◌≡◌, ◌++◌, ◌*◌, ◌<◌, ◌≤◌, ℕ, List, IfOk, OnOk, All, filter, take, map, length, slice_index_or, IsSortedByKey};
+ghost use Rattle.std.specs.Prelude.{◌≡◌, ◌++◌, ◌+◌, ◌*◌, ◌<◌, ◌≤◌, ◌&&◌, ℕ, List, IfOk, OnOk, All, filter, take, map, length, nat_lt, nat_le, bytes_eq, slice_index_or, IsPermutation, IsSorted, IsSortedByKey};
 ghost use Rattle.std.specs.Cmp.Lexicographic.{slice_cmp};
 ghost use Rattle.std.specs.Ordering.{nat_cmp};
 ghost use Rattle.fund_base.specs.Candidates.{IsCandidate};
+ghost use Rattle.fund_base.specs.declared.candidate.Candidate.{Candidate};
+ghost use Rattle.output_groups.specs.Formed.{AreUseful, IsFormed, part_in};
 ghost use Rattle.output_groups.specs.Measures.{is_useful};
 ghost use Rattle.output_groups.specs.Forming.{AreParts, IsGrouping, alone, hundred, of_script, part_at, parts_of};
-ghost use Rattle.output_groups.specs.Runs.{IsRun, script_of};
+ghost use Rattle.output_groups.specs.Order.{formed_cmp};
+ghost use Rattle.output_groups.specs.Runs.{IsRun, run_of, script_of};
 
-use crate::group::{Group, is_useful};
-use crate::part::Part;
+use crate::formed::{Formed, group_of, order};
+use crate::lent::Lent;
+use crate::measures::is_useful;
 use fund_base::{Candidate, Memory};
 use std::alloc::Global;
 
 /// The candidates that bring something at the rate, in their order.
-pub fn useful(alloc: Global, candidates: &[Candidate], rate: u64) -> Result<Vec<Candidate>, Memory>
+pub fn useful<'a>(
+    alloc: Global,
+    candidates: &'a [Candidate],
+    rate: u64,
+) -> Result<Vec<Lent<'a>>, Memory>
     requires rate { rate ≤ 100_000_000 }
     requires candidates { All IsCandidate candidates.now }
     ensures { IfOk result (λ v. v.items ≡ filter (is_useful rate) candidates.now) }
@@ -22,113 +30,166 @@ pub fn useful(alloc: Global, candidates: &[Candidate], rate: u64) -> Result<Vec<
     let mut useful = Vec::new(alloc);
     for candidate in candidates {
         if is_useful(rate, candidate) {
-            let coin = candidate.copy(alloc)?;
-            useful.push(coin)?;
+            useful.push(Lent::new(candidate))?;
         }
     }
     Ok(useful)
 }
 
-/// The groups that the coins form: with `group` by their scripts, and otherwise each by itself.
-pub fn parts(alloc: Global, coins: Vec<Candidate>, group: bool) -> Result<Vec<Part>, Memory>
-    ensures { IfOk result (λ v. AreParts group coins.items v.items) }
-{
-    if group {
-        grouped(alloc, coins)
-    } else {
-        singles(alloc, coins)
-    }
-}
-
-/// Each coin as a group by itself, in their order.
-fn singles(alloc: Global, coins: Vec<Candidate>) -> Result<Vec<Part>, Memory>
-    ensures { IfOk result (λ v. v.items ≡ map alone coins.items) }
-{
-    let mut parts = Vec::new(alloc);
-    for coin in coins {
-        let mut one = Vec::new(alloc);
-        one.push(coin)?;
-        parts.push(Part {
-            coins: Group::new(one),
-            partial: false,
-        })?;
-    }
-    Ok(parts)
-}
-
-/// The coins of each script in hundreds. A stable sort brings those of one script together in their order.
-fn grouped(alloc: Global, mut coins: Vec<Candidate>) -> Result<Vec<Part>, Memory>
-    ensures { IfOk result (λ v. IsGrouping coins.items v.items) }
-{
-    sort_by_script(&mut coins)?;
-    let parts = cut(alloc, &coins)?;
-    Ok(parts)
-}
-
 /// Sorts the coins by script; those of one script stay in their order.
-fn sort_by_script(coins: &mut Vec<Candidate>) -> Result<(), Memory>
+pub fn sort_by_script(coins: &mut Vec<Lent>) -> Result<(), Memory>
     ensures sorted { OnOk result (IsSortedByKey script_of (slice_cmp nat_cmp) coins.new.items) }
+    ensures moved { IsPermutation coins.old.items coins.new.items }
     ensures same { (script : List ℕ) → of_script script coins.new.items ≡ of_script script coins.old.items }
 {
-    coins.sort_by(|a, b| a.script.bytes().cmp(b.script.bytes()))?;
+    coins.sort_by(|a, b| a.coin().script.bytes().cmp(b.coin().script.bytes()))?;
     Ok(())
 }
 
-/// The groups of coins that stand sorted by script.
-fn cut(alloc: Global, coins: &[Candidate]) -> Result<Vec<Part>, Memory>
-    requires { IsSortedByKey script_of (slice_cmp nat_cmp) coins.now }
-    ensures { IfOk result (λ v. IsGrouping coins.now v.items) }
+/// Each coin as a group by itself, in their order.
+pub fn singles<'a>(
+    alloc: Global,
+    coins: &[Lent<'a>],
+    rate: u64,
+    long_term: u64,
+) -> Result<Vec<Formed<'a>>, Memory>
+    requires rate { rate ≤ 100_000_000 }
+    requires long_term { long_term ≤ 100_000_000 }
+    requires coins { AreUseful rate coins.now }
+    ensures parts { IfOk result (λ v. map (part_in coins.now) v.items ≡ map alone coins.now) }
+    ensures each { IfOk result (λ v. All (IsFormed rate long_term coins.now) v.items) }
 {
-    let mut parts = Vec::new(alloc);
+    let mut groups = Vec::with_capacity(alloc, coins.len())?;
+    for place in 0..coins.len() {
+        groups.push(single(coins, place, rate, long_term))?;
+    }
+    Ok(groups)
+}
+
+/// The coin at a place as a group by itself.
+fn single<'a>(coins: &[Lent<'a>], place: usize, rate: u64, long_term: u64) -> Formed<'a>
+    requires rate { rate ≤ 100_000_000 }
+    requires long_term { long_term ≤ 100_000_000 }
+    requires coins { AreUseful rate coins.now }
+    requires place { place < length coins.now }
+    ensures part { (d : Candidate) → part_in coins.now result ≡ alone (slice_index_or coins.now place d) }
+    ensures formed { IsFormed rate long_term coins.now result }
+{
+    group_of(
+        &coins[place..place + 1],
+        place as u32,
+        false,
+        rate,
+        long_term,
+    )
+}
+
+/// The groups of coins that stand sorted by script.
+pub fn cut<'a>(
+    alloc: Global,
+    coins: &[Lent<'a>],
+    rate: u64,
+    long_term: u64,
+) -> Result<Vec<Formed<'a>>, Memory>
+    requires rate { rate ≤ 100_000_000 }
+    requires long_term { long_term ≤ 100_000_000 }
+    requires coins { AreUseful rate coins.now }
+    requires sorted { IsSortedByKey script_of (slice_cmp nat_cmp) coins.now }
+    ensures parts { IfOk result (λ v. IsGrouping coins.now (map (part_in coins.now) v.items)) }
+    ensures each { IfOk result (λ v. All (IsFormed rate long_term coins.now) v.items) }
+{
+    let mut groups = Vec::with_capacity(alloc, coins.len())?;
     let mut start = 0;
     while start < coins.len() {
         let end = end_of_run(coins, start);
-        add_parts(alloc, &mut parts, &coins[start..end])?;
+        add_run(&mut groups, coins, start, end, rate, long_term)?;
         start = end;
     }
-    Ok(parts)
+    Ok(groups)
 }
 
 /// Where the coins end that pay to the same script as the one at `start`, and stand behind it without a gap.
-fn end_of_run(coins: &[Candidate], start: usize) -> usize
+fn end_of_run(coins: &[Lent], start: usize) -> usize
     requires { start < length coins.now }
     ensures { IsRun coins.now start result }
 {
     let mut end = start + 1;
-    while end < coins.len() && coins[end].script.bytes() == coins[start].script.bytes() {
+    while end < coins.len() && pay_alike(&coins[end], &coins[start]) {
         end += 1;
     }
     end
 }
 
-/// Appends the groups of coins that all pay to one script.
-fn add_parts(alloc: Global, parts: &mut Vec<Part>, coins: &[Candidate]) -> Result<(), Memory>
-    ensures { OnOk result (parts.new.items ≡ parts.old.items ++ parts_of coins.now) }
+/// Whether the coins pay to one script.
+fn pay_alike(a: &Lent, b: &Lent) -> bool
+    ensures { result ≡ bytes_eq (script_of a.now) (script_of b.now) }
 {
-    let count = coins.len().div_ceil(100);
+    a.coin().script.bytes() == b.coin().script.bytes()
+}
+
+/// Appends the groups of the coins from `start` up to `end`, which all pay to one script.
+fn add_run<'a>(
+    groups: &mut Vec<Formed<'a>>,
+    coins: &[Lent<'a>],
+    start: usize,
+    end: usize,
+    rate: u64,
+    long_term: u64,
+) -> Result<(), Memory>
+    requires rate { rate ≤ 100_000_000 }
+    requires long_term { long_term ≤ 100_000_000 }
+    requires coins { AreUseful rate coins.now }
+    requires order { start ≤ end }
+    requires within { end ≤ length coins.now }
+    ensures parts { OnOk result (map (part_in coins.now) groups.new.items ≡ map (part_in coins.now) groups.old.items ++ parts_of (run_of coins.now start end)) }
+    ensures each { OnOk result (All (IsFormed rate long_term coins.now) groups.old.items → All (IsFormed rate long_term coins.now) groups.new.items) }
+{
+    let count = (end - start).div_ceil(100);
     for place in 0..count {
-        let part = part_at(alloc, coins, place)?;
-        parts.push(part)?;
+        groups.push(hundred_at(coins, start, end, place, rate, long_term))?;
     }
     Ok(())
 }
 
-/// The group at a place of them.
-fn part_at(alloc: Global, coins: &[Candidate], place: usize) -> Result<Part, Memory>
-    requires { 100 * place ≤ length coins.now }
-    ensures { IfOk result (λ p. p ≡ part_at coins.now place) }
+/// The group at a place of those of the coins from `start` up to `end`.
+fn hundred_at<'a>(
+    coins: &[Lent<'a>],
+    start: usize,
+    end: usize,
+    place: usize,
+    rate: u64,
+    long_term: u64,
+) -> Formed<'a>
+    requires rate { rate ≤ 100_000_000 }
+    requires long_term { long_term ≤ 100_000_000 }
+    requires coins { AreUseful rate coins.now }
+    requires order { start ≤ end }
+    requires within { end ≤ length coins.now }
+    requires place { start + 100 * place < end }
+    ensures part { part_in coins.now result ≡ part_at (run_of coins.now start end) place }
+    ensures formed { IsFormed rate long_term coins.now result }
 {
-    let hundred = hundred(coins, place);
-    let partial = hundred.len() < 100 && coins.len() >= 100;
-    let copies = Candidate::copy_all(alloc, hundred)?;
-    Ok(Part {
-        coins: Group::new(copies),
+    let run = &coins[start..end];
+    let hundred = hundred(run, place);
+    let partial = is_partial(hundred, run);
+    group_of(
+        hundred,
+        (start + 100 * place) as u32,
         partial,
-    })
+        rate,
+        long_term,
+    )
+}
+
+/// Whether it has fewer than 100 coins where the run has a full hundred.
+fn is_partial(hundred: &[Lent], run: &[Lent]) -> bool
+    ensures { result ≡ (nat_lt (length hundred.now) 100 && nat_le 100 (length run.now)) }
+{
+    hundred.len() < 100 && run.len() >= 100
 }
 
 /// The hundred at a place, or what there is of it.
-fn hundred(coins: &[Candidate], place: usize) -> &[Candidate]
+fn hundred<'b, 'a>(coins: &'b [Lent<'a>], place: usize) -> &'b [Lent<'a>]
     requires { 100 * place ≤ length coins.now }
     ensures { result.now ≡ hundred coins.now place }
 {
@@ -136,7 +197,7 @@ fn hundred(coins: &[Candidate], place: usize) -> &[Candidate]
 }
 
 /// The first `most` coins, or all where there are fewer.
-fn front(coins: &[Candidate], most: usize) -> &[Candidate]
+fn front<'b, 'a>(coins: &'b [Lent<'a>], most: usize) -> &'b [Lent<'a>]
     ensures { result.now ≡ take most coins.now }
 {
     if coins.len() <= most {
@@ -144,4 +205,12 @@ fn front(coins: &[Candidate], most: usize) -> &[Candidate]
     } else {
         &coins[..most]
     }
+}
+
+/// Sorts groups into the order of a pool.
+pub fn sort(groups: &mut Vec<Formed>)
+    ensures moved { IsPermutation groups.old.items groups.new.items }
+    ensures sorted { IsSorted formed_cmp groups.new.items }
+{
+    groups.sort_unstable_by(|a, b| order(a, b));
 }

@@ -15,7 +15,7 @@ ghost use Rattle.output_groups.specs.PlainPool.{PlainPool};
 ghost use Rattle.output_groups.specs.Pool.{IsPool, CountsKept, group_cmp, keeps};
 ghost use Rattle.output_groups.specs.PoolOf.{pool_of};
 ghost use Rattle.output_groups.specs.Taken.{IsTaken};
-ghost use Rattle.output_groups.specs.declared.part.Part.{Part};
+ghost use Rattle.output_groups.specs.Part.{Part};
 ghost use Rattle.output_groups.specs.declared.rows.Row.{Row};
 
 /// Of one row, the same rates and the same candidates there is one pool: the order tells any two of its groups apart.

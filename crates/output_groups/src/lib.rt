@@ -3,16 +3,19 @@
 #![tactic(auto)]
 
 mod fault;
+mod formed;
 mod forming;
 mod group;
-mod kept;
+mod groups;
 mod laws;
-mod part;
+mod lent;
+mod measures;
 mod row_pool;
 mod rows;
 
 pub use fault::PoolFault;
 pub use group::Group;
+pub use groups::{Groups, RowItems};
 pub use laws::{
     counts_kept, least_stands_first, one_pool, pool_is_one, rows_grow_laxer, rows_take_groups,
     scripts_stand_in_hundreds, values_are_effective,

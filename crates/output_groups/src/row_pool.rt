@@ -9,14 +9,12 @@ ghost use Rattle.output_groups.specs.Pool.{AreOnce, IsPool, IsDue, CountsKept};
 ghost use Rattle.output_groups.specs.PoolOf.{pool_of};
 
 use crate::fault::PoolFault;
-use crate::forming::{parts, useful};
 use crate::group::Group;
-use crate::kept::{keep, unzipped};
+use crate::groups::Groups;
 use crate::rows::Row;
 use fund_base::Candidate;
 use pick_problem::Item;
 use std::alloc::Global;
-use std::cmp::Reverse;
 use std::marker::Model;
 
 /// The groups of a row's pool, in order, and beside each, at the same place, the item that a search sees of it.
@@ -33,9 +31,6 @@ impl Model for RowPool {
 
     ghost view = { λ p. record { items = p.items.items; groups = p.groups.items } };
 }
-
-/// The greatest number of groups of a pool.
-const MOST_GROUPS: usize = 10_000;
 
 /// The pool of a row at `rate` and `long_term`, both in satoshi per 1,000 virtual bytes.
 ///
@@ -74,20 +69,7 @@ pub fn pool(
     ensures few { IfOk result (λ _. (n : ℕ) → CountsKept group row.now rate candidates.now n → n ≤ 10_000) }
     ensures many { IfErr result (λ e. IsDue group row.now rate candidates.now e) }
 {
-    let coins = useful(alloc, candidates, rate)?;
-    let parts = parts(alloc, coins, group)?;
-    let mut groups = keep(alloc, parts, row, rate, long_term)?;
-    if groups.len() > MOST_GROUPS {
-        return Err(PoolFault::TooMany(groups.len() as u64));
-    }
-    groups.sort_unstable_by_key(|one| {
-        (
-            Reverse(one.item.value),
-            one.item.weight,
-            one.item.cost,
-            one.least,
-        )
-    });
-    let pool = unzipped(alloc, groups)?;
+    let groups = Groups::new(alloc, candidates, rate, long_term, group)?;
+    let pool = groups.pool(alloc, row)?;
     Ok(pool)
 }

@@ -1,5 +1,6 @@
 use Rattle.std.specs.Prelude.{All, filter, not}
 use Rattle.std.proofs.Common.{◌≡◌, ◌≤◌, ◌∙◌, refl, sym, ap, subst, arith, List, Vec, Global}
+use Rattle.std.proofs.lemmas.Result.{err_from_is_err_and}
 use Rattle.fund_base.specs.Candidates.{AreCandidates}
 use Rattle.fund_base.specs.declared.candidate.Candidate.{Candidate}
 use Rattle.request_text.specs.PlainRequest.{PlainRequest}
@@ -25,6 +26,25 @@ fit_of r cs presets is h few = subst AreWithin (sym is) (taken_within (is_preset
 
 pub total-sum-requires : goal.total-sum-requires
 total-sum-requires c = rw c.deref.ensures.value (value_within c.args.candidates.items c.requires.candidates)
+
+-- Memory is told behind the test of the sum.
+pub returns-in_err-presets-clause-fault : goal.returns-in_err-presets-clause-fault
+returns-in_err-presets-clause-fault c =
+    let few : value_of c.deref.result.now ≤ 2_100_000_000_000_000 = omega (arith, c.if-sum-from.false, c.from.ensures, c.total-sum.ensures) in
+    let p = err_from_is_err_and c.from_residual.result c.from_residual.ensures.1 in
+    rw (p.1, p.2) (subst (λ (l : List Candidate). value_of l ≤ 2_100_000_000_000_000) c.deref.ensures.value few)
+
+pub returns-in_err-point-clause-fault : goal.returns-in_err-point-clause-fault
+returns-in_err-point-clause-fault c =
+    let few : value_of c.deref.result.now ≤ 2_100_000_000_000_000 = omega (arith, c.if-sum-from.false, c.from.ensures, c.total-sum.ensures) in
+    let p = err_from_is_err_and c.from_residual-in_err-point.result c.from_residual-in_err-point.ensures.1 in
+    rw (p.1, p.2) (subst (λ (l : List Candidate). value_of l ≤ 2_100_000_000_000_000) c.deref.ensures.value few)
+
+pub returns-in_err-row-clause-fault : goal.returns-in_err-row-clause-fault
+returns-in_err-row-clause-fault c =
+    let few : value_of c.deref.result.now ≤ 2_100_000_000_000_000 = omega (arith, c.if-sum-from.false, c.from.ensures, c.total-sum.ensures) in
+    let p = err_from_is_err_and c.from_residual-in_err-row.result c.from_residual-in_err-row.ensures.1 in
+    rw (p.1, p.2) (subst (λ (l : List Candidate). value_of l ≤ 2_100_000_000_000_000) c.deref.ensures.value few)
 
 pub returns-in-Some-clause-fault : goal.returns-in-Some-clause-fault
 returns-in-Some-clause-fault c =

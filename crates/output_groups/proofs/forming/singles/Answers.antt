@@ -1,0 +1,18 @@
+use Rattle.std.proofs.Common.{subst, sym}
+use Rattle.std.specs.Prelude.{All, List}
+use Rattle.std.proofs.lemmas.List.Elements.{All-push}
+use Rattle.output_groups.specs.Formed.{IsFormed, part_in}
+use Rattle.output_groups.specs.declared.formed.Formed.{Formed}
+use Rattle.output_groups.proofs.RunLaws.{single_more}
+use Rattle.output_groups.proofs.forming.singles.Goals as goal
+
+pub loop-place-preserved : goal.loop-place-preserved
+loop-place-preserved c =
+    let a = c.args in
+    let kept = c.loop-place.invariant in
+    let items = c.in_ok-push.ensures.items in
+    let P : Formed → Type 0 = IsFormed a.rate a.long_term a.coins.now in
+    record {
+      parts = single_more (part_in a.coins.now) a.coins.now c.loop-place.groups.items c.push.new.self.items c.loop-place.place c.single.result c.loop-place-test.true items kept.parts c.single.ensures.part;
+      each = subst (λ (fs : List Formed). All P fs) (sym items) (All-push P c.loop-place.groups.items c.single.result kept.each c.single.ensures.formed);
+    }

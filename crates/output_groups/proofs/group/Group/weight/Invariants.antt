@@ -1,7 +1,0 @@
-use Rattle.std.proofs.Common.{◌≡◌, ◌≤◌, ◌*◌, take}
-use Rattle.std.specs.Prelude.{sum_by}
-use Rattle.fund_base.specs.declared.candidate.Candidate.{Candidate}
-use Rattle.output_groups.proofs.group.Group.weight.Given as goal
-
-abbrev pub invariant-loop-coin : goal.invariant-loop-coin
-invariant-loop-coin l = (l.sum ≡ sum_by (λ (c : Candidate). c.weight) (take l.coin-index l.coin-items)) × (l.sum ≤ 400_000 * l.coin-index) × (l.coin-index ≤ l.sum)

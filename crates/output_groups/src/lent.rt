@@ -1,0 +1,36 @@
+//! Coins that are lent from a list of candidates.
+
+ghost use Rattle.std.specs.Prelude.{◌≡◌};
+
+use fund_base::Candidate;
+use std::marker::Model;
+
+/// A coin in the list where it stands: a copy of it takes no script. It is seen as the coin.
+#[derive(Drop)]
+pub struct Lent<'a> {
+    coin: &'a Candidate,
+}
+
+impl<'a> Model for Lent<'a> {
+    ghost use Rattle.fund_base.specs.declared.candidate.Candidate.{Candidate};
+
+    ghost Value = { Candidate };
+
+    ghost view = { λ l. l.coin.now };
+}
+
+impl<'a> Lent<'a> {
+    /// The coin, lent.
+    pub fn new(coin: &'a Candidate) -> Lent<'a>
+        ensures { result ≡ coin.now }
+    {
+        Lent { coin }
+    }
+
+    /// The coin.
+    pub fn coin(&self) -> &'a Candidate
+        ensures { result.now ≡ self.now }
+    {
+        self.coin
+    }
+}
