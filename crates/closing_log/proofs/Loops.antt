@@ -1,9 +1,10 @@
 -- Steps of the loops that read.
-use Rattle.std.proofs.Common.{◌≡◌, ℕ, suc, ◌+◌, ◌-◌, ◌<◌, ◌≤◌, min, Bool, true, false, eqb, List, [], ◌∷◌, ◌++◌, length, get_or, take, drop, Some, None, Result, Ok, Err, refl, sym, ap, ◌∙◌, arith, add-one, drop-cons, eq-eqb, ne_eqb}
+use Rattle.std.proofs.Common.{◌≡◌, ℕ, suc, ◌+◌, ◌-◌, ◌<◌, ◌≤◌, min, Bool, true, false, cond, eqb, List, [], ◌∷◌, ◌++◌, length, get_or, take, drop, Some, None, Result, Ok, Err, refl, sym, ap, ◌∙◌, arith, add-one, drop-cons, eq-eqb, ne_eqb}
 use Rattle.std.specs.Prelude.{is_some}
-use Rattle.std.specs.List.{prefix_len}
-use Rattle.std.proofs.lemmas.List.{drop_all, take_min}
-use Rattle.std.proofs.lemmas.List.Sums.{prefix_len_is}
+use Rattle.std.specs.List.{list_all, prefix_len, slice_range}
+use Rattle.std.proofs.lemmas.List.{drop_all, length-drop, length-take-le, take_min}
+use Rattle.std.proofs.lemmas.List.Folds.{drop_split, prefix_len-append}
+use Rattle.std.proofs.lemmas.List.Sums.{AllPass-from_list_all, prefix_len_is}
 use Rattle.std.proofs.Math.Seq.{take-suc}
 use Rattle.hex.specs.Hex.{decode_sized, is_hex_digit}
 use Rattle.hex.specs.declared.error.FromHexError.{FromHexError}
@@ -19,6 +20,17 @@ prefix_found p xs i lt below here = prefix_len_is p xs i 0 (omega arith) below (
 
 pub prefix_whole : (p : ℕ → Bool) (xs : List ℕ) (i : ℕ) → length xs ≤ i → ((k : ℕ) → k < i → p (get_or xs k 0) ≡ true) → prefix_len p xs ≡ length xs
 prefix_whole p xs i le below = prefix_len_is p xs (length xs) 0 (omega arith) (λ k h. below k (omega arith)) (λ h. absurd (omega arith))
+
+-- behind a part that passes as a whole it goes on
+pub prefix_block : (p : ℕ → Bool) (xs : List ℕ) (at end whole : ℕ) → at ≤ end → end ≤ length xs → list_all p (slice_range xs at end) ≡ true → at + prefix_len p (drop at xs) ≡ whole → end + prefix_len p (drop end xs) ≡ whole
+prefix_block p xs at end whole le within all so_far =
+    let part : List ℕ = slice_range xs at end in
+    let passes : prefix_len p part ≡ length part = prefix_whole p part (length part) (omega arith) (λ k lt. AllPass-from_list_all p part all k 0 lt) in
+    let same : eqb (prefix_len p part) (length part) ≡ true = eq-eqb _ _ passes in
+    let size : length part ≡ end - at = length-take-le (end - at) (drop at xs) (omega (arith, within, length-drop at xs)) in
+    let joined : prefix_len p (drop at xs) ≡ length part + prefix_len p (drop end xs) =
+    ap (prefix_len p) (drop_split xs at end le) ∙ prefix_len-append p part (drop end xs) ∙ ap (λ (b : Bool). cond b (length part + prefix_len p (drop end xs)) (prefix_len p part)) same in
+    omega (arith, so_far, joined, size)
 
 -- ---- words
 

@@ -10,6 +10,7 @@ mod mark;
 mod part;
 mod reading;
 mod tail;
+mod tries;
 mod writing;
 
 pub use fault::{LineFault, LogTextFault};
@@ -18,4 +19,5 @@ pub use lines::{Worded, read_choice, read_digest, read_number, read_places, read
 pub use log::{LogText, OpenSection, Section, Stage};
 pub use mark::Mark;
 pub use reading::read_sections;
+pub use tries::tries_in;
 pub use writing::{write_decimal, write_digest, write_places, write_sections, write_tail};

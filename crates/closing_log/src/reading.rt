@@ -1,7 +1,7 @@
 //! A log read back from its text.
 
-ghost use Rattle.std.specs.Prelude.{◌≡◌, ◌≤◌, ◌-◌, length, IfErr, IfOk, MatchResult};
-ghost use Rattle.std.specs.List.{prefix_len};
+ghost use Rattle.std.specs.Prelude.{◌≡◌, ◌≤◌, ◌+◌, ◌-◌, drop, length, IfErr, IfOk, MatchResult};
+ghost use Rattle.std.specs.List.{list_all, prefix_len};
 ghost use Rattle.closing_log.specs.declared.fault.LogTextFault.TheVariants as faults;
 ghost use Rattle.closing_log.specs.Gives.{Gives, IsFault, Reads, Tells};
 ghost use Rattle.closing_log.specs.Log.{PlainLog};
@@ -39,9 +39,39 @@ fn is_letter_byte(byte: u8) -> bool
     (33..=126).contains(&byte)
 }
 
-/// How many letters stand in front.
+/// How many bytes are tested together.
+const BLOCK: usize = 64;
+
+/// Whether all bytes can be letters. No branch hangs on a byte.
+#[tactic(auto, using(std::proofs::lemmas::List::Folds::list_all_more))]
+fn are_letters(bytes: &[u8]) -> bool
+    ensures { result ≡ list_all is_letter bytes.now }
+{
+    let mut all = true;
+    for byte in bytes {
+        all &= is_letter_byte(*byte);
+    }
+    all
+}
+
+/// The length of the whole blocks in front that have letters alone.
+fn blocks_len(bytes: &[u8]) -> usize
+    ensures within { result ≤ length bytes.now }
+    ensures letters { result + prefix_len is_letter (drop result bytes.now) ≡ prefix_len is_letter bytes.now }
+{
+    let mut front = 0;
+    while bytes.len() - front >= BLOCK {
+        if !are_letters(&bytes[front..front + BLOCK]) {
+            return front;
+        }
+        front += BLOCK;
+    }
+    front
+}
+
+/// How many letters stand in front, counted one by one.
 #[tactic(auto, using(crate::proofs::Loops::prefix_found, crate::proofs::Loops::prefix_whole))]
-fn letters_len(bytes: &[u8]) -> usize
+fn single_letters_len(bytes: &[u8]) -> usize
     ensures within { result ≤ length bytes.now }
     ensures value { result ≡ prefix_len is_letter bytes.now }
 {
@@ -51,6 +81,15 @@ fn letters_len(bytes: &[u8]) -> usize
         }
     }
     bytes.len()
+}
+
+/// How many letters stand in front.
+fn letters_len(bytes: &[u8]) -> usize
+    ensures within { result ≤ length bytes.now }
+    ensures value { result ≡ prefix_len is_letter bytes.now }
+{
+    let front = blocks_len(bytes);
+    front + single_letters_len(&bytes[front..])
 }
 
 /// Letters up to the end of the bytes, or some letters and a line feed; whether it was the line feed.

@@ -1,8 +1,9 @@
 -- Tries are counted section by section.
 use Rattle.std.specs.Prelude.{ℕ, ◌≡◌, ◌<◌, ◌≤◌, ◌+◌, ◌==◌, ◌↔◌, List, length, filter}
-use Rattle.std.proofs.Common.{ap, ◌∙◌, arith, drop, get_or}
+use Rattle.std.specs.List.{count_by}
+use Rattle.std.proofs.Common.{ap, sym, ◌∙◌, arith, drop, get_or}
 use Rattle.std.proofs.lemmas.List.{drop_all}
-use Rattle.std.proofs.lemmas.List.Sums.{sum_by-cons}
+use Rattle.std.proofs.lemmas.List.Sums.{length-filter, sum_by-cons}
 use Rattle.closing_log.specs.Log.{PlainSection}
 use Rattle.report_check.specs.Proved.{tries_in}
 use Rattle.report_check.proofs.SliceLaws.{drop_step}
@@ -10,6 +11,10 @@ use Rattle.report_check.proofs.SliceLaws.{drop_step}
 -- how many tries the letters of a section tell of
 abbrev pub tries_at : PlainSection → ℕ
 tries_at s = length (filter (λ (b : ℕ). b == 73) s.letters)
+
+-- a count of those that pass, and how many are left of a list of them
+pub tries_counted : (letters : List ℕ) → count_by (λ (b : ℕ). b == 73) letters ≡ length (filter (λ (b : ℕ). b == 73) letters)
+tries_counted letters = sym (length-filter (λ (b : ℕ). b == 73) letters)
 
 -- those from a section on are its own and those behind it
 tries_from : (sections : List PlainSection) (i : ℕ) (s : PlainSection) → i < length sections → s ≡ get_or sections i s → tries_in (drop i sections) ≡ tries_at s + tries_in (drop (i + 1) sections)

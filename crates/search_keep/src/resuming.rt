@@ -5,11 +5,12 @@ ghost use Rattle.pick_problem.specs.Walk.{walk};
 ghost use Rattle.search_keep.specs.declared.fault.SavedFault.TheVariants as faults;
 ghost use Rattle.search_keep.specs.Resumed.{CanStand, IsDue, IsRefusal, IsSavedWalk, open_position};
 ghost use Rattle.search_keep.specs.Walks.{kind_of, search_of};
-ghost use Rattle.walk_engine.specs.Search.{IsAfter, restored, tries_in};
+ghost use Rattle.walk_engine.specs.Search.{IsAfter, restored};
 
 use crate::fault::SavedFault;
 use crate::saved::Saved;
 use crate::walk::Walk;
+use closing_log::tries_in;
 use fund_base::{Memory, Places};
 use pick_problem::{Position, Problem};
 use std::alloc::Global;
@@ -17,13 +18,6 @@ use walk_engine::may_stand;
 
 /// How many tries a job has.
 const MOST_TRIES: u64 = 10_000_000;
-
-/// How many tries letters tell of: each writes one I.
-fn tries_in(letters: &[u8]) -> u64
-    ensures { result ≡ tries_in letters.now }
-{
-    letters.iter().filter(|letter| **letter == b'I').count() as u64
-}
 
 fn copy_best(alloc: Global, best: &Option<Places>) -> Result<Option<Places>, Memory>
     ensures { IfOk result (λ copied. copied ≡ best.now) }

@@ -9,7 +9,6 @@ ghost use Rattle.search_run.specs.Judged.{IsRefusedFor, saved_in};
 ghost use Rattle.search_run.specs.Kept.{Along, IsDueAt, IsOpenAt, Names, NamesFirst, PlainSaved, first_search, kept_walk};
 ghost use Rattle.search_run.specs.Walks.{kept_position};
 ghost use Rattle.search_run.specs.declared.fault.RestoreRefused.TheVariants as refused;
-ghost use Rattle.walk_engine.specs.Search.{tries_in};
 
 use crate::coming::{Coming, answered, first};
 use crate::fault::RestoreRefused;
@@ -18,7 +17,7 @@ use crate::keeping::{copy_answer, copy_section};
 use crate::outcome::drawn_result;
 use crate::step::Step;
 use crate::trail::{Trail, next};
-use closing_log::{LogText, OpenSection, Section, Stage};
+use closing_log::{LogText, OpenSection, Section, Stage, tries_in};
 use fund_base::{Memory, Places};
 use pick_problem::{Position, Problem, RestoreFault};
 use search_keep::{Saved, Walk};
@@ -69,13 +68,6 @@ fn is_open_right(steps: &[Step], at: usize, saved: &Saved, tail: &OpenSection) -
     names_at(steps, at, tail.row, tail.stage, &tail.digest)
         && tail.row == saved.row
         && tail.stage == saved.stage
-}
-
-/// How many tries letters tell of: each writes one I.
-fn tries_in(letters: &[u8]) -> u64
-    ensures { result ≡ tries_in letters.now }
-{
-    letters.iter().filter(|letter| **letter == b'I').count() as u64
 }
 
 /// What is saved, as the open position of a search after these letters. The error is out of memory.
