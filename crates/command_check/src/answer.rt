@@ -2,9 +2,11 @@
 
 ghost use Rattle.std.specs.Prelude.{◌≡◌, ◌++◌, codes, IfOk, string_bytes};
 ghost use Rattle.fund_base.specs.Causes.{CountsNeverFall};
+ghost use Rattle.fund_files.specs.declared.refusal.File.{File};
 ghost use Rattle.command_end.specs.AnswerLines.{IsAnswered};
 ghost use Rattle.command_end.specs.Names.{plain_sources};
 ghost use Rattle.command_fund.specs.Names.{plain_payment};
+ghost use Rattle.command_fund.specs.declared.refusal.Stop.TheVariants as payments;
 ghost use Rattle.command_check.specs.Evidence.{evidence_name};
 ghost use Rattle.command_check.specs.Words.{IsStopped, check_fault_words, evidence_word};
 
@@ -63,7 +65,7 @@ fn refuse_report<O: Sink>(alloc: Global, fault: &CheckFault, out: &mut O) -> Sta
     }
 }
 
-/// Puts the line of a stop.
+/// Puts the line of a stop. That a read failed is never said to be want of memory.
 pub fn answer<O: Sink>(
     alloc: Global,
     sources: &Sources,
@@ -73,6 +75,8 @@ pub fn answer<O: Sink>(
     out: &mut O,
 ) -> Status
     ensures line { IsStopped O.tells (plain_sources sources.now) (plain_payment payment.now) report.now stop (O.view out.old) (O.view out.new) result }
+    ensures read { (file : Evidence) → stop ≡ Stop.Read file → result ≡ Status.ReadFault }
+    ensures read_payment { (file : File) → stop ≡ Stop.Payment (payments.Read file) → result ≡ Status.ReadFault }
     ensures counts { CountsNeverFall (O.view out.old) (O.view out.new) }
 {
     match stop {

@@ -1,6 +1,6 @@
 //! The report and the log, read one by one.
 
-ghost use Rattle.std.specs.Prelude.{◌≡◌, ◌↔◌, [], ◌∷◌, IfErr, IfOk, IsTrue, OnOk};
+ghost use Rattle.std.specs.Prelude.{◌≡◌, ◌≢◌, ◌↔◌, [], ◌∷◌, IfErr, IfOk, IsTrue, OnOk};
 ghost use Rattle.fund_base.specs.Causes.{Asks, OnlyReads};
 ghost use Rattle.report_check.specs.Verdict.{HasLog};
 ghost use Rattle.command_check.specs.Evidence.{HasReport, IsTooLong, IsWithin};
@@ -38,6 +38,7 @@ fn read_evidence<H: Shelf>(
     ensures frame { OnlyReads H.tells (H.view shelf.old) (H.view shelf.new) }
     ensures stop { IfErr result (StopsReading H.tells file name.now (H.view shelf.old) (H.view shelf.new)) }
     ensures asked { H.tells → Asks (name.now ∷ []) (H.view shelf.old).asked (H.view shelf.new).asked }
+    ensures all_read { result ≢ Err (Stop.Read file) → (H.view shelf.new).reads ≡ (H.view shelf.old).reads }
 {
     match read_whole(alloc, shelf, name, LIMIT) {
         Ok(bytes) => Ok(bytes),
@@ -61,6 +62,7 @@ pub fn read_found<H: Shelf>(alloc: Global, name: &str, shelf: &mut H) -> Result<
     ensures frame { OnlyReads H.tells (H.view shelf.old) (H.view shelf.new) }
     ensures stop { IfErr result (StopsAtReport H.tells name.now (H.view shelf.old) (H.view shelf.new)) }
     ensures asked { H.tells → Asks (name.now ∷ []) (H.view shelf.old).asked (H.view shelf.new).asked }
+    ensures all_read { result ≢ Err (Stop.Read Evidence.Report) → (H.view shelf.new).reads ≡ (H.view shelf.old).reads }
 {
     let bytes = read_evidence(alloc, Evidence::Report, name, shelf)?;
     match read_report(alloc, &bytes) {
@@ -94,6 +96,7 @@ pub fn read_beside<H: Shelf>(
     ensures stop { IfErr result (StopsAtLog H.tells report.now name.now (H.view shelf.old) (H.view shelf.new)) }
     ensures asked { H.tells → Asks (name.now ∷ []) (H.view shelf.old).asked (H.view shelf.new).asked }
     ensures unread { (HasLog report.now → ⊥) → (H.view shelf.new) ≡ (H.view shelf.old) }
+    ensures all_read { result ≢ Err (Stop.Read Evidence.Log) → (H.view shelf.new).reads ≡ (H.view shelf.old).reads }
 {
     if has_log(report) {
         read_evidence(alloc, Evidence::Log, name, shelf)

@@ -1,8 +1,9 @@
 //! What a report of the files is judged against.
 
-ghost use Rattle.std.specs.Prelude.{◌≡◌, None, IfErr, IfOk};
+ghost use Rattle.std.specs.Prelude.{◌≡◌, ◌≢◌, None, IfErr, IfOk};
 ghost use Rattle.fund_base.specs.Causes.{OnlyReads};
 ghost use Rattle.fund_files.specs.Chain.{IsHeld};
+ghost use Rattle.fund_files.specs.declared.refusal.File.{File};
 ghost use Rattle.fund_steps.specs.Plan.{IsPlan};
 ghost use Rattle.command_end.specs.Names.{plain_sources};
 ghost use Rattle.command_fund.specs.Due.{not_taken, plan_of};
@@ -49,6 +50,7 @@ pub fn examiner<H: Shelf>(
     ensures stop { IfErr result (StopsFor H.tells (plain_sources sources.now) (plain_payment payment.now) (H.view shelf.old) (H.view shelf.new)) }
     ensures asked { H.tells → AsksInOrder (plain_sources sources.now) (plain_payment payment.now) (H.view shelf.old) (H.view shelf.new) }
     ensures none_behind { H.tells → NoneBehind (plain_sources sources.now) (H.view shelf.old) (H.view shelf.new) }
+    ensures all_read { ((file : File) → result ≢ Err (Stop.Read file)) → (H.view shelf.new).reads ≡ (H.view shelf.old).reads }
 {
     let Inputs { held, request } = read_inputs(alloc, sources, payment, shelf)?;
     made(alloc, held, request)

@@ -1,7 +1,8 @@
 //! Whether a report of the files is accepted with its log.
 
-ghost use Rattle.std.specs.Prelude.{◌≡◌, ◌∷◌, [], IfErr, IfOk, string_bytes};
+ghost use Rattle.std.specs.Prelude.{◌≡◌, ◌≢◌, ◌∷◌, [], IfErr, IfOk, string_bytes};
 ghost use Rattle.fund_base.specs.Causes.{Asks, OnlyReads};
+ghost use Rattle.fund_files.specs.declared.refusal.File.{File};
 ghost use Rattle.command_end.specs.Names.{plain_sources};
 ghost use Rattle.command_fund.specs.Inputs.{NoneBehind};
 ghost use Rattle.command_fund.specs.Names.{plain_payment};
@@ -16,10 +17,10 @@ ghost use Rattle.command_check.specs.Words.{accepted_text};
 
 use crate::evidence::{read_beside, read_found};
 use crate::examining::examiner;
-use crate::stop::Stop;
+use crate::stop::{Evidence, Stop};
 use crate::words::accepted_text;
 use command_end::Sources;
-use command_fund::Payment;
+use command_fund::{Payment, Stop as PaymentStop};
 use fund_base::Shelf;
 use fund_report::Report;
 use report_check::Examiner;
@@ -39,6 +40,7 @@ fn read_pair<H: Shelf>(alloc: Global, report: &str, log: &str, shelf: &mut H) ->
     ensures stop { IfErr result (StopsAtEvidence H.tells report.now log.now (H.view shelf.old) (H.view shelf.new)) }
     ensures asked { H.tells → Asks (report.now ∷ log.now ∷ []) (H.view shelf.old).asked (H.view shelf.new).asked }
     ensures no_log { H.tells → (HasLoggedReport ((H.view shelf.old).files report.now) → ⊥) → Asks (report.now ∷ []) (H.view shelf.old).asked (H.view shelf.new).asked }
+    ensures all_read { ((file : Evidence) → result ≢ Err (Stop.Read file)) → (H.view shelf.new).reads ≡ (H.view shelf.old).reads }
 {
     let found = read_found(alloc, report, shelf)?;
     let log = read_beside(alloc, &found, log, shelf)?;
@@ -73,6 +75,7 @@ pub fn accepted<H: Shelf>(
     ensures none_behind { H.tells → NoneBehind (plain_sources sources.now) (H.view shelf.old) (H.view shelf.new) }
     ensures no_log { H.tells → (HasLoggedReport ((H.view shelf.old).files report.now) → ⊥) → AsksNoLog (plain_sources sources.now) (plain_payment payment.now) report.now (H.view shelf.old) (H.view shelf.new) }
     ensures unread { H.tells → ((plan : PlainPlan) → HavePlan (H.view shelf.old).files (plain_sources sources.now) (plain_payment payment.now) plan → ⊥) → AsksPayment (plain_sources sources.now) (plain_payment payment.now) (H.view shelf.old) (H.view shelf.new) }
+    ensures all_read { ((file : Evidence) → result ≢ Err (Stop.Read file)) → ((file : File) → result ≢ Err (Stop.Payment (PaymentStop.Read file))) → (H.view shelf.new).reads ≡ (H.view shelf.old).reads }
 {
     let examiner = examiner(alloc, sources, payment, shelf)?;
     let pair = read_pair(alloc, report, payment.log, shelf)?;

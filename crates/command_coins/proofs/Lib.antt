@@ -1,2 +1,3 @@
 pub mod AskingLaws
+pub mod EndsLaws
 pub mod ListingLaws

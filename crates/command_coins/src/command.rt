@@ -1,6 +1,6 @@
 //! The command.
 
-ghost use Rattle.std.specs.Prelude.{◌≡◌, [], ◌∷◌, true, IfErr, IfOk, string_bytes};
+ghost use Rattle.std.specs.Prelude.{◌≡◌, ◌≢◌, [], ◌∷◌, true, IfErr, IfOk, string_bytes};
 ghost use Rattle.fund_base.specs.Causes.{Asks, CountsNeverFall, OnlyReads};
 ghost use Rattle.fund_files.specs.Cause.{FileCause};
 ghost use Rattle.fund_files.specs.FileStops.{IsWalletCause, StopsChain, is_of_wallet};
@@ -23,6 +23,7 @@ fn listed<H: Shelf>(alloc: Global, sources: &Sources, shelf: &mut H) -> Result<S
     ensures asked { H.tells → Asks (sources.now.wallet.now ∷ sources.now.blocks.now ∷ []) (H.view shelf.old).asked (H.view shelf.new).asked }
     ensures wallet_alone { H.tells → IfErr result (λ stop. is_of_wallet stop ≡ true → Asks (sources.now.wallet.now ∷ []) (H.view shelf.old).asked (H.view shelf.new).asked) }
     ensures refused_alone { H.tells → (cause : FileCause) → IsWalletCause ((H.view shelf.old).files sources.now.wallet.now) cause → Asks (sources.now.wallet.now ∷ []) (H.view shelf.old).asked (H.view shelf.new).asked }
+    ensures all_read { ((file : File) → result ≢ Err (Stop.Read file)) → (H.view shelf.new).reads ≡ (H.view shelf.old).reads }
 {
     let held = read_chain(alloc, sources.wallet, sources.blocks, shelf)?;
     match listing_text(alloc, &held) {
@@ -42,9 +43,10 @@ fn name_of<'a>(sources: &Sources<'a>, file: File) -> &'a str
     }
 }
 
-/// Puts the line of a stop.
-fn answer<O: Sink>(alloc: Global, sources: &Sources, stop: Stop, out: &mut O) -> Status
+/// Puts the line of a stop. That a read failed is never said to be want of memory.
+pub fn answer<O: Sink>(alloc: Global, sources: &Sources, stop: Stop, out: &mut O) -> Status
     ensures line { IsStopped O.tells (plain_sources sources.now) stop (O.view out.old) (O.view out.new) result }
+    ensures read { (file : File) → stop ≡ Stop.Read file → result ≡ Status.ReadFault }
     ensures counts { CountsNeverFall (O.view out.old) (O.view out.new) }
 {
     match stop {
@@ -66,6 +68,8 @@ pub fn coins<H: Shelf, O: Sink>(
 ) -> Status
     // By the status: what was found in the files, and what the sink has got.
     ensures ends { Ends H.tells O.tells (plain_sources sources.now) (H.view shelf.old) (H.view shelf.new) (O.view out.old) (O.view out.new) result }
+    // A read that failed is told as that, and as nothing else.
+    ensures all_read { result ≢ Status.ReadFault → (H.view shelf.new).reads ≡ (H.view shelf.old).reads }
     // Nothing is written.
     ensures frame { OnlyReads H.tells (H.view shelf.old) (H.view shelf.new) }
 

@@ -6,5 +6,5 @@ mod command;
 mod laws;
 mod listing;
 
-pub use command::coins;
+pub use command::{answer as refuse_chain, coins};
 pub use laws::listings_are_due;

@@ -66,7 +66,7 @@ pub fn name_of<'a>(sources: &Sources<'a>, payment: &Payment<'a>, file: File) -> 
     }
 }
 
-/// Puts the line of a stop. That the keeper failed is never said to be want of memory.
+/// Puts the line of a stop. That a read or the keeper failed is never said to be want of memory.
 pub fn answer<O: Sink>(
     alloc: Global,
     sources: &Sources,
@@ -75,6 +75,7 @@ pub fn answer<O: Sink>(
     out: &mut O,
 ) -> Status
     ensures line { IsStopped O.tells (plain_sources sources.now) (plain_payment payment.now) stop (O.view out.old) (O.view out.new) result }
+    ensures read { (file : File) → stop ≡ Stop.Read file → result ≡ Status.ReadFault }
     ensures keep { stop ≡ Stop.Keep → result ≡ Status.KeepFault }
     ensures counts { CountsNeverFall (O.view out.old) (O.view out.new) }
 {

@@ -2,6 +2,7 @@
 
 ghost use Rattle.std.specs.Prelude.{◌≡◌, ◌≢◌, ◌≤◌, None, IfErr, IfOk, option_map};
 ghost use Rattle.fund_base.specs.Causes.{CountsNeverFall, NeverFall, OnlyReads, SameElsewhere};
+ghost use Rattle.fund_files.specs.declared.refusal.File.{File};
 ghost use Rattle.kept_job.specs.SavingRules.{CanBeKept};
 ghost use Rattle.command_end.specs.Names.{plain_sources};
 ghost use Rattle.command_fund.specs.Inputs.{AsksInOrder, AsksTwice, NoneBehind};
@@ -35,6 +36,7 @@ fn outcome<H: Shelf>(
     ensures stop { IfErr result (StopsFor H.tells (plain_sources sources.now) (plain_payment payment.now) (H.view shelf.old) (H.view shelf.new)) }
     ensures asked { H.tells → AsksInOrder (plain_sources sources.now) (plain_payment payment.now) (H.view shelf.old) (H.view shelf.new) }
     ensures none_behind { H.tells → NoneBehind (plain_sources sources.now) (H.view shelf.old) (H.view shelf.new) }
+    ensures all_read { ((file : File) → result ≢ Err (Stop.Read file)) → (H.view shelf.new).reads ≡ (H.view shelf.old).reads }
 {
     let Inputs { held, request } = read_inputs(alloc, sources, payment, shelf)?;
     conclude(alloc, &held, &request)
@@ -57,6 +59,7 @@ fn leave<H: Shelf, O: Sink, K: Keeper>(
     ensures frame { OnlyReads H.tells (H.view shelf.old) (H.view shelf.new) }
     ensures asked { H.tells → AsksInOrder (plain_sources sources.now) (plain_payment payment.now) (H.view shelf.old) (H.view shelf.new) }
     ensures unasked { job.entry ≡ None → (H.view shelf.new) ≡ (H.view shelf.old) }
+    ensures all_read { result ≢ Status.ReadFault → (H.view shelf.new).reads ≡ (H.view shelf.old).reads }
     ensures counts { CountsNeverFall (O.view out.old) (O.view out.new) }
     ensures unfailed { result ≢ Status.KeepFault → (K.view keeper.new).faults ≡ (K.view keeper.old).faults }
     ensures faults { (K.view keeper.old).faults ≤ (K.view keeper.new).faults }
@@ -103,6 +106,9 @@ pub fn fund<H: Shelf, O: Sink, K: Keeper>(
     ensures asked_once { H.tells → job.entry ≡ None → AsksInOrder (plain_sources sources.now) (plain_payment payment.now) (H.view shelf.old) (H.view shelf.new) }
     // Once alone where the files come to a payment, to none or to a refusal, with a job too.
     ensures read_once { H.tells → IsOfTheFiles result → AsksInOrder (plain_sources sources.now) (plain_payment payment.now) (H.view shelf.old) (H.view shelf.new) }
+
+    // A read that failed is told as that, and as nothing else.
+    ensures all_read { result ≢ Status.ReadFault → (H.view shelf.new).reads ≡ (H.view shelf.old).reads }
 
     // A failure of the keeper is told as that, and as nothing else.
     ensures unfailed { result ≢ Status.KeepFault → (K.view keeper.new).faults ≡ (K.view keeper.old).faults }

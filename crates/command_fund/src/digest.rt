@@ -1,6 +1,6 @@
 //! The digest of the job of some files.
 
-ghost use Rattle.std.specs.Prelude.{◌≡◌, ◌∷◌, [], IfErr, IfOk};
+ghost use Rattle.std.specs.Prelude.{◌≡◌, ◌≢◌, ◌∷◌, [], IfErr, IfOk};
 ghost use Rattle.fund_base.specs.Causes.{Asks, OnlyReads};
 ghost use Rattle.command_end.specs.Names.{plain_sources};
 ghost use Rattle.command_fund.specs.Digest.{AreWithin, digest_in};
@@ -30,6 +30,7 @@ fn digest_of<H: Shelf>(
     ensures frame { OnlyReads H.tells (H.view shelf.old) (H.view shelf.new) }
     ensures stop { IfErr result (StopsReading (plain_sources sources.now) (plain_payment payment.now) (H.view shelf.old) (H.view shelf.new)) }
     ensures asked { H.tells → Asks (name_in (plain_sources sources.now) (plain_payment payment.now) file ∷ []) (H.view shelf.old).asked (H.view shelf.new).asked }
+    ensures all_read { result ≢ Err (Stop.Read file) → (H.view shelf.new).reads ≡ (H.view shelf.old).reads }
 {
     match file_digest(alloc, shelf, name_of(sources, payment, file)) {
         Ok(digest) => Ok(digest),
@@ -50,6 +51,8 @@ pub fn read_digest<H: Shelf>(
     ensures frame { OnlyReads H.tells (H.view shelf.old) (H.view shelf.new) }
     ensures stop { IfErr result (StopsReading (plain_sources sources.now) (plain_payment payment.now) (H.view shelf.old) (H.view shelf.new)) }
     ensures asked { H.tells → AsksInOrder (plain_sources sources.now) (plain_payment payment.now) (H.view shelf.old) (H.view shelf.new) }
+    // A count of failed reads rises only where one of the three files wasn't read.
+    ensures all_read { ((file : File) → result ≢ Err (Stop.Read file)) → (H.view shelf.new).reads ≡ (H.view shelf.old).reads }
 {
     let wallet = digest_of(alloc, sources, payment, File::Wallet, shelf)?;
     let blocks = digest_of(alloc, sources, payment, File::Blocks, shelf)?;

@@ -1,7 +1,8 @@
 //! What the files of a payment hold.
 
-ghost use Rattle.std.specs.Prelude.{◌≡◌, IfErr, IfOk, option_map};
+ghost use Rattle.std.specs.Prelude.{◌≡◌, ◌≢◌, IfErr, IfOk, option_map};
 ghost use Rattle.fund_base.specs.Causes.{OnlyReads};
+ghost use Rattle.fund_files.specs.declared.refusal.File.{File};
 ghost use Rattle.command_end.specs.Names.{plain_sources};
 ghost use Rattle.command_fund.specs.Cause.{cause_of};
 ghost use Rattle.command_fund.specs.Due.{not_taken};
@@ -48,6 +49,8 @@ pub fn read_inputs<H: Shelf>(
     ensures stop { IfErr result (StopsFor H.tells (plain_sources sources.now) (plain_payment payment.now) (H.view shelf.old) (H.view shelf.new)) }
     ensures asked { H.tells → AsksInOrder (plain_sources sources.now) (plain_payment payment.now) (H.view shelf.old) (H.view shelf.new) }
     ensures none_behind { H.tells → NoneBehind (plain_sources sources.now) (H.view shelf.old) (H.view shelf.new) }
+    // A count of failed reads rises only where one of the three files wasn't read.
+    ensures all_read { ((file : File) → result ≢ Err (Stop.Read file)) → (H.view shelf.new).reads ≡ (H.view shelf.old).reads }
 {
     let held = read_chain(alloc, sources.wallet, sources.blocks, shelf)?;
     let request = read_asked(alloc, payment.request, shelf)?;

@@ -2,6 +2,7 @@
 
 ghost use Rattle.std.specs.Prelude.{◌≡◌, ◌≢◌, ◌≤◌, IfErr, OnErr, OnOk};
 ghost use Rattle.fund_base.specs.Causes.{OnlyReads};
+ghost use Rattle.fund_files.specs.declared.refusal.File.{File};
 ghost use Rattle.fund_outside.specs.Kept.{SameForOthers};
 ghost use Rattle.kept_job.specs.Saving.{IsSavedBehind};
 ghost use Rattle.kept_job.specs.SavingRules.{CanBeKept};
@@ -40,6 +41,8 @@ pub fn keep_anew<H: Shelf, K: Keeper>(
     ensures stop { IfErr result (StopsKeeping (plain_sources sources.now) (plain_payment payment.now) (H.view shelf.old) (H.view shelf.new) (K.view keeper.old) (K.view keeper.new)) }
     // A failure of the keeper is told as that, and as nothing else.
     ensures unfailed { result ≢ Err Stop.Keep → (K.view keeper.new).faults ≡ (K.view keeper.old).faults }
+    // So is a failed read.
+    ensures all_read { ((file : File) → result ≢ Err (Stop.Read file)) → (H.view shelf.new).reads ≡ (H.view shelf.old).reads }
     ensures asked { H.tells → AsksInOrder (plain_sources sources.now) (plain_payment payment.now) (H.view shelf.old) (H.view shelf.new) }
     ensures faults { (K.view keeper.old).faults ≤ (K.view keeper.new).faults }
 {

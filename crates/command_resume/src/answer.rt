@@ -2,9 +2,11 @@
 
 ghost use Rattle.std.specs.Prelude.{◌≡◌};
 ghost use Rattle.fund_base.specs.Causes.{CountsNeverFall};
+ghost use Rattle.fund_files.specs.declared.refusal.File.{File};
 ghost use Rattle.command_end.specs.AnswerLines.{IsAnswered};
 ghost use Rattle.command_end.specs.Names.{plain_sources};
 ghost use Rattle.command_fund.specs.Names.{plain_payment};
+ghost use Rattle.command_fund.specs.declared.refusal.Stop.TheVariants as funding;
 ghost use Rattle.command_resume.specs.Words.{IsStopped, kept_status, kept_words};
 
 use crate::stop::Stop;
@@ -31,7 +33,7 @@ fn refuse_kept<O: Sink>(alloc: Global, fault: &KeptFault, out: &mut O) -> Status
     }
 }
 
-/// Puts the line of a stop. That the keeper failed is never said to be want of memory.
+/// Puts the line of a stop. That a read or the keeper failed is never said to be want of memory.
 pub fn answer<O: Sink>(
     alloc: Global,
     sources: &Sources,
@@ -40,6 +42,7 @@ pub fn answer<O: Sink>(
     out: &mut O,
 ) -> Status
     ensures line { IsStopped O.tells (plain_sources sources.now) (plain_payment payment.now) stop (O.view out.old) (O.view out.new) result }
+    ensures read { (file : File) → stop ≡ Stop.Funding (funding.Read file) → result ≡ Status.ReadFault }
     ensures keep { stop ≡ Stop.Kept KeptFault.Failed → result ≡ Status.KeepFault }
     ensures counts { CountsNeverFall (O.view out.old) (O.view out.new) }
 {

@@ -3,6 +3,7 @@
 ghost use Rattle.std.specs.Prelude.{◌≡◌, ◌≢◌, ◌≤◌, Err, IfErr, IfOk, IsErrOf};
 ghost use Rattle.fund_base.specs.Causes.{OnlyReads, Rose};
 ghost use Rattle.fund_files.specs.Chain.{IsHeld};
+ghost use Rattle.fund_files.specs.declared.refusal.File.{File};
 ghost use Rattle.command_end.specs.Names.{plain_sources};
 ghost use Rattle.command_fund.specs.Inputs.{AsksTwice, NoneBehind};
 ghost use Rattle.command_fund.specs.Names.{plain_payment};
@@ -115,6 +116,7 @@ fn prepare<H: Shelf>(
     ensures stop { IfErr result (payments.StopsFor H.tells (plain_sources sources.now) (plain_payment payment.now) (H.view shelf.old) (H.view shelf.new)) }
     ensures asked { H.tells → AsksTwice (plain_sources sources.now) (plain_payment payment.now) (H.view shelf.old) (H.view shelf.new) }
     ensures none_behind { H.tells → NoneBehind (plain_sources sources.now) (H.view shelf.old) (H.view shelf.new) }
+    ensures all_read { ((file : File) → result ≢ Err (FundStop.Read file)) → (H.view shelf.new).reads ≡ (H.view shelf.old).reads }
 {
     let Inputs { held, request } = read_inputs(alloc, sources, payment, shelf)?;
     let plan = new_plan(alloc, &held, &request)?;
@@ -175,6 +177,7 @@ pub fn go_on<H: Shelf, K: Keeper>(
     ensures stop { IfErr result (StopsFor H.tells K.tells (plain_sources sources.now) (plain_payment payment.now) job.now (H.view shelf.old) (H.view shelf.new) (K.view keeper.old) (K.view keeper.new)) }
     ensures asked { H.tells → AsksTwice (plain_sources sources.now) (plain_payment payment.now) (H.view shelf.old) (H.view shelf.new) }
     ensures none_behind { H.tells → NoneBehind (plain_sources sources.now) (H.view shelf.old) (H.view shelf.new) }
+    ensures all_read { ((file : File) → result ≢ Err (Stop.Funding (FundStop.Read file))) → (H.view shelf.new).reads ≡ (H.view shelf.old).reads }
     ensures jobs { K.tells → (K.view keeper.new).jobs ≡ (K.view keeper.old).jobs }
     ensures unfailed { result ≢ Err (Stop.Kept KeptFault.Failed) → (K.view keeper.new).faults ≡ (K.view keeper.old).faults }
     ensures faults { (K.view keeper.old).faults ≤ (K.view keeper.new).faults }

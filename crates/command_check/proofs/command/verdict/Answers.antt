@@ -13,3 +13,9 @@ pub returns-in-Err-clause-ends : goal.returns-in-Err-clause-ends
 returns-in-Err-clause-ends g c =
     stop_ends _ _ (plain_sources c.args.sources.now) (plain_payment c.args.payment.now) c.args.report.now (g.H.Shelf.view c.args.shelf.now) (g.H.Shelf.view c.accepted.new.shelf) (g.O.Sink.view c.args.out.now) (g.O.Sink.view c.answer.new.out)
     c.in-Err.stop c.answer.result c.in-Err.ensures.stop c.answer.ensures.line
+
+pub returns-in-Ok-clause-all_read : goal.returns-in-Ok-clause-all_read
+returns-in-Ok-clause-all_read g c = λ other. c.in-Ok.ensures.all_read (λ file e. cc) (λ file e. cc)
+
+pub returns-in-Err-clause-all_read : goal.returns-in-Err-clause-all_read
+returns-in-Err-clause-all_read g c = λ other. c.in-Err.ensures.all_read (λ file e. other (c.answer.ensures.read file cc)) (λ file e. other (c.answer.ensures.read_payment file cc))

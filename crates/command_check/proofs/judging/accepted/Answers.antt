@@ -1,3 +1,4 @@
+use Rattle.std.proofs.Common.{◌∙◌}
 use Rattle.std.proofs.lemmas.Result.{err_from_is_err_and}
 use Rattle.fund_files.proofs.FrameLaws.{only_reads_on}
 use Rattle.command_end.specs.Names.{plain_sources}
@@ -70,3 +71,18 @@ pub returns-clause-none_behind : goal.returns-clause-none_behind
 returns-clause-none_behind g c =
     let h = c.in_ok-examiner.ensures.plan in
     inputs_behind _ (plain_sources c.args.sources.now) (plain_payment c.args.payment.now) h.wallet h.blocks h.asked (g.H.Shelf.view c.args.shelf.now) (g.H.Shelf.view c.read_pair.new.shelf) h.inputs
+
+-- ---- failed reads
+
+pub returns-in_err-examiner-clause-all_read : goal.returns-in_err-examiner-clause-all_read
+returns-in_err-examiner-clause-all_read g c =
+    let p = err_from_is_err_and c.from_residual.result c.from_residual.ensures.1 in
+    rw (p.1, p.2) (λ none others. c.in_err-examiner.ensures.all_read (λ file e. others file cc))
+
+pub returns-in_err-pair-clause-all_read : goal.returns-in_err-pair-clause-all_read
+returns-in_err-pair-clause-all_read g c =
+    let p = err_from_is_err_and c.from_residual-in_err-pair.result c.from_residual-in_err-pair.ensures.1 in
+    rw (p.1, p.2) (λ none others. c.in_err-pair.ensures.all_read (λ file e. none file cc) ∙ c.in_ok-examiner.ensures.all_read (λ file e. cc))
+
+pub returns-clause-all_read : goal.returns-clause-all_read
+returns-clause-all_read g c = λ none others. c.in_ok-pair.ensures.all_read (λ file e. cc) ∙ c.in_ok-examiner.ensures.all_read (λ file e. cc)

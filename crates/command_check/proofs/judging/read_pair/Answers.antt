@@ -1,7 +1,9 @@
+use Rattle.std.proofs.Common.{◌∙◌}
 use Rattle.std.proofs.lemmas.Result.{err_from_is_err_and}
 use Rattle.fund_files.proofs.FrameLaws.{only_reads_on}
 use Rattle.command_check.proofs.AskedLaws.{asked_still, report_alone, report_and_log}
 use Rattle.command_check.proofs.StopLaws.{beside_stops, found_stops, pair_is}
+use Rattle.command_check.specs.declared.stop.Evidence.TheVariants.{Report, Log}
 use Rattle.command_check.proofs.judging.read_pair.Goals as goal
 
 pub returns-in_err-found-clause-stop : goal.returns-in_err-found-clause-stop
@@ -46,3 +48,18 @@ pub returns-clause-no_log : goal.returns-clause-no_log
 returns-clause-no_log g c = λ t none.
     asked_still c.args.report.now (g.H.Shelf.view c.args.shelf.now) (g.H.Shelf.view c.read_found.new.shelf) (g.H.Shelf.view c.read_beside.new.shelf) (c.read_found.ensures.asked t)
     (c.read_beside.ensures.unread (λ has. none (c.in_ok-found.found, c.in_ok-found.ensures.report t, has)))
+
+-- ---- failed reads
+
+pub returns-in_err-found-clause-all_read : goal.returns-in_err-found-clause-all_read
+returns-in_err-found-clause-all_read g c =
+    let p = err_from_is_err_and c.from_residual.result c.from_residual.ensures.1 in
+    rw (p.1, p.2) (λ none. c.in_err-found.ensures.all_read (λ e. none Report cc))
+
+pub returns-in_err-log-clause-all_read : goal.returns-in_err-log-clause-all_read
+returns-in_err-log-clause-all_read g c =
+    let p = err_from_is_err_and c.from_residual-in_err-log.result c.from_residual-in_err-log.ensures.1 in
+    rw (p.1, p.2) (λ none. c.in_err-log.ensures.all_read (λ e. none Log cc) ∙ c.in_ok-found.ensures.all_read (λ e. cc))
+
+pub returns-clause-all_read : goal.returns-clause-all_read
+returns-clause-all_read g c = λ none. c.in_ok-log.ensures.all_read (λ e. cc) ∙ c.in_ok-found.ensures.all_read (λ e. cc)

@@ -111,3 +111,17 @@ returns-in-Ok-Funded-clause-jobs g c = λ t. same_jobs _ _ (g.K.Keeper.view c.ar
 
 pub returns-in-Err-clause-jobs : goal.returns-in-Err-clause-jobs
 returns-in-Err-clause-jobs g c = λ t. same_jobs _ _ (g.K.Keeper.view c.args.keeper.now) (g.K.Keeper.view c.args.keeper.now) refl
+
+-- ---- failed reads
+
+pub returns-in-Ok-Unfinished-clause-all_read : goal.returns-in-Ok-Unfinished-clause-all_read
+returns-in-Ok-Unfinished-clause-all_read g c = λ other. c.leave.ensures.all_read other ∙ c.in-Ok-Unfinished.ensures.all_read (λ file e. cc)
+
+pub returns-in-Ok-NoSelection-clause-all_read : goal.returns-in-Ok-NoSelection-clause-all_read
+returns-in-Ok-NoSelection-clause-all_read g c = λ other. c.finish.ensures.reads ∙ c.in-Ok-NoSelection.ensures.all_read (λ file e. cc)
+
+pub returns-in-Ok-Funded-clause-all_read : goal.returns-in-Ok-Funded-clause-all_read
+returns-in-Ok-Funded-clause-all_read g c = λ other. c.finish-in-Ok-Funded.ensures.reads ∙ c.in-Ok-Funded.ensures.all_read (λ file e. cc)
+
+pub returns-in-Err-clause-all_read : goal.returns-in-Err-clause-all_read
+returns-in-Err-clause-all_read g c = λ other. c.in-Err.ensures.all_read (λ file e. other (c.answer.ensures.read file cc))

@@ -38,3 +38,12 @@ returns-in-None-clause-jobs g c = λ k. same_jobs _ _ (g.K.Keeper.view c.args.ke
 
 pub returns-in-Err-clause-unfailed : goal.returns-in-Err-clause-unfailed
 returns-in-Err-clause-unfailed g c = λ other. c.in-Err.ensures.unfailed (λ e. other (c.answer.ensures.keep (same_stop _ _ e)))
+
+pub returns-in-Ok-clause-all_read : goal.returns-in-Ok-clause-all_read
+returns-in-Ok-clause-all_read g c = λ other. c.in-Ok.ensures.all_read (λ file e. cc)
+
+pub returns-in-Err-clause-all_read : goal.returns-in-Err-clause-all_read
+returns-in-Err-clause-all_read g c = λ other. c.in-Err.ensures.all_read (λ file e. other (c.answer.ensures.read file (same_stop _ _ e)))
+
+pub returns-in-None-clause-all_read : goal.returns-in-None-clause-all_read
+returns-in-None-clause-all_read g c = λ other. refl

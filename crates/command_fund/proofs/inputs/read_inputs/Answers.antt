@@ -1,11 +1,17 @@
-use Rattle.std.proofs.Common.{sym}
+use Rattle.std.proofs.Common.{◌≡◌, ◌∙◌, Result, Err, ap, sym}
 use Rattle.std.proofs.lemmas.Result.{err_from_is_err_and}
 use Rattle.fund_files.proofs.FrameLaws.{only_reads_on}
+use Rattle.fund_files.specs.declared.refusal.File.TheVariants.{Wallet, Blocks, Request}
+use Rattle.fund_files.specs.declared.stop.Stop.{Stop as FileStop}
 use Rattle.command_end.specs.Names.{plain_sources}
 use Rattle.command_fund.specs.Cause.{cause_of}
 use Rattle.command_fund.specs.Names.{plain_payment}
+use Rattle.command_fund.specs.Stops.{lifted}
 use Rattle.command_fund.proofs.InputLaws.{all_asked, asked_is, asked_stops, chain_asked, chain_stops, none_behind, taken_stops}
 use Rattle.command_fund.proofs.inputs.read_inputs.Goals as goal
+
+same_stop : {T : Type 0} (a b : FileStop) → ◌≡◌ {A = Result T FileStop} (Err a) (Err b) → a ≡ b
+same_stop a b e = cc
 
 pub returns-in_err-held-clause-stop : goal.returns-in_err-held-clause-stop
 returns-in_err-held-clause-stop g c =
@@ -58,3 +64,21 @@ returns-in-Some-clause-none_behind g c = λ t. none_behind (plain_sources c.args
 
 pub returns-in-None-clause-none_behind : goal.returns-in-None-clause-none_behind
 returns-in-None-clause-none_behind g c = λ t. none_behind (plain_sources c.args.sources.now) c.in_ok-held.held.wallet c.in_ok-held.ensures.held.held.blocks (g.H.Shelf.view c.args.shelf.now) (g.H.Shelf.view c.read_asked.new.shelf) (c.in_ok-held.ensures.held.chain t)
+
+-- ---- failed reads
+
+pub returns-in_err-held-clause-all_read : goal.returns-in_err-held-clause-all_read
+returns-in_err-held-clause-all_read g c =
+    let p = err_from_is_err_and c.from_residual.result c.from_residual.ensures.1 in
+    rw (p.1, p.2) (λ none. c.in_err-held.ensures.unfailed (λ e. none Wallet (ap (λ (x : FileStop). Err (lifted x)) (same_stop _ _ e))) (λ e. none Blocks (ap (λ (x : FileStop). Err (lifted x)) (same_stop _ _ e))))
+
+pub returns-in_err-request-clause-all_read : goal.returns-in_err-request-clause-all_read
+returns-in_err-request-clause-all_read g c =
+    let p = err_from_is_err_and c.from_residual-in_err-request.result c.from_residual-in_err-request.ensures.1 in
+    rw (p.1, p.2) (λ none. c.in_err-request.ensures.unfailed (λ e. none Request (ap (λ (x : FileStop). Err (lifted x)) (same_stop _ _ e))) ∙ c.in_ok-held.ensures.unfailed (λ e. cc) (λ e. cc))
+
+pub returns-in-Some-clause-all_read : goal.returns-in-Some-clause-all_read
+returns-in-Some-clause-all_read g c = λ none. c.in_ok-request.ensures.unfailed (λ e. cc) ∙ c.in_ok-held.ensures.unfailed (λ e. cc) (λ e. cc)
+
+pub returns-in-None-clause-all_read : goal.returns-in-None-clause-all_read
+returns-in-None-clause-all_read g c = λ none. c.in_ok-request.ensures.unfailed (λ e. cc) ∙ c.in_ok-held.ensures.unfailed (λ e. cc) (λ e. cc)

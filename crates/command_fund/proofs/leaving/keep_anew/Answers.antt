@@ -30,3 +30,14 @@ pub returns-in_err-keep-clause-unfailed : goal.returns-in_err-keep-clause-unfail
 returns-in_err-keep-clause-unfailed g c =
     let p = err_from_is_err_and c.from_residual-in_err-keep.result c.from_residual-in_err-keep.ensures.1 in
     rw (p.1, p.2) (λ other. c.in_err-keep.ensures.unfailed (λ e. other (ap (λ (x : KeepFault). Err (of_keeper x)) (same_fault _ _ e))))
+
+pub returns-in_err-digest-clause-all_read : goal.returns-in_err-digest-clause-all_read
+returns-in_err-digest-clause-all_read g c =
+    let p = err_from_is_err_and c.from_residual.result c.from_residual.ensures.1 in
+    rw (p.1, p.2) (λ none. c.in_err-digest.ensures.all_read (λ file e. none file cc))
+
+pub returns-in_err-keep-clause-all_read : goal.returns-in_err-keep-clause-all_read
+returns-in_err-keep-clause-all_read g c = λ none. c.in_ok-digest.ensures.all_read (λ file e. cc)
+
+pub returns-clause-all_read : goal.returns-clause-all_read
+returns-clause-all_read g c = λ none. c.in_ok-digest.ensures.all_read (λ file e. cc)

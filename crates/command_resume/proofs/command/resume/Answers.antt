@@ -84,3 +84,17 @@ pub returns-in-Ok-Funded-clause-none_behind : goal.returns-in-Ok-Funded-clause-n
 returns-in-Ok-Funded-clause-none_behind g c =
     let ends = rw c.in-Ok-Funded.field-0-is at c.in-Ok-Funded.ensures.ends in
     inputs_behind _ (plain_sources c.args.sources.now) (plain_payment c.args.payment.now) ends.wallet ends.blocks ends.asked (g.H.Shelf.view c.args.shelf.now) (g.H.Shelf.view c.finish-in-Ok-Funded.new.shelf) ends.inputs
+
+-- ---- failed reads
+
+pub returns-in-Ok-Unfinished-clause-all_read : goal.returns-in-Ok-Unfinished-clause-all_read
+returns-in-Ok-Unfinished-clause-all_read g c = λ other. c.in-Ok-Unfinished.ensures.all_read (λ file e. cc)
+
+pub returns-in-Ok-NoSelection-clause-all_read : goal.returns-in-Ok-NoSelection-clause-all_read
+returns-in-Ok-NoSelection-clause-all_read g c = λ other. c.finish.ensures.reads ∙ c.in-Ok-NoSelection.ensures.all_read (λ file e. cc)
+
+pub returns-in-Ok-Funded-clause-all_read : goal.returns-in-Ok-Funded-clause-all_read
+returns-in-Ok-Funded-clause-all_read g c = λ other. c.finish-in-Ok-Funded.ensures.reads ∙ c.in-Ok-Funded.ensures.all_read (λ file e. cc)
+
+pub returns-in-Err-clause-all_read : goal.returns-in-Err-clause-all_read
+returns-in-Err-clause-all_read g c = λ other. c.in-Err.ensures.all_read (λ file e. other (c.answer.ensures.read file (same_stop _ _ e)))

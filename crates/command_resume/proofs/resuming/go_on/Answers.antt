@@ -40,3 +40,14 @@ returns-in_err-ending-clause-none_behind g c = c.prepare.ensures.none_behind
 
 pub returns-clause-none_behind : goal.returns-clause-none_behind
 returns-clause-none_behind g c = c.prepare.ensures.none_behind
+
+pub returns-in_err-ready-clause-all_read : goal.returns-in_err-ready-clause-all_read
+returns-in_err-ready-clause-all_read g c =
+    let p = err_from_is_err_and c.from_residual.result c.from_residual.ensures.1 in
+    rw (p.1, p.2) (λ none. c.in_err-ready.ensures.all_read (λ file e. none file cc))
+
+pub returns-in_err-ending-clause-all_read : goal.returns-in_err-ending-clause-all_read
+returns-in_err-ending-clause-all_read g c = λ none. c.in_ok-ready.ensures.all_read (λ file e. cc)
+
+pub returns-clause-all_read : goal.returns-clause-all_read
+returns-clause-all_read g c = λ none. c.in_ok-ready.ensures.all_read (λ file e. cc)

@@ -1,11 +1,19 @@
+use Rattle.std.proofs.Common.{◌≡◌, ◌∙◌, Result, Ok, Err, ap}
 use Rattle.std.proofs.lemmas.Result.{err_from_is_err_and}
 use Rattle.fund_files.proofs.FrameLaws.{only_reads_on}
 use Rattle.command_end.specs.Names.{plain_sources}
 use Rattle.command_fund.proofs.InputLaws.{inputs_behind}
 use Rattle.command_fund.proofs.LeavingLaws.{asked_once, asked_twice}
 use Rattle.command_fund.specs.Names.{plain_payment}
+use Rattle.command_fund.specs.declared.refusal.Stop.{Stop as FundStop}
 use Rattle.command_resume.proofs.GoingLaws.{named_on, plan_stopped, reading_stopped}
 use Rattle.command_resume.proofs.resuming.prepare.Goals as goal
+
+same_stop : {T : Type 0} (a b : FundStop) → ◌≡◌ {A = Result T FundStop} (Err a) (Err b) → a ≡ b
+same_stop a b e = cc
+
+ok_is_no_error : {T E : Type 0} (a : T) (b : E) → ◌≡◌ {A = Result T E} (Ok a) (Err b) → ⊥
+ok_is_no_error a b e = cc
 
 pub returns-in_err-held-clause-asked : goal.returns-in_err-held-clause-asked
 returns-in_err-held-clause-asked g c = λ t. asked_once (plain_sources c.args.sources.now) (plain_payment c.args.payment.now) (g.H.Shelf.view c.args.shelf.now) (g.H.Shelf.view c.read_inputs.new.shelf) (c.read_inputs.ensures.asked t)
@@ -67,3 +75,21 @@ returns-in_err-held-clause-none_behind g c = c.read_inputs.ensures.none_behind
 
 pub returns-in_err-plan-clause-none_behind : goal.returns-in_err-plan-clause-none_behind
 returns-in_err-plan-clause-none_behind g c = c.read_inputs.ensures.none_behind
+
+-- ---- failed reads
+
+pub returns-in_err-held-clause-all_read : goal.returns-in_err-held-clause-all_read
+returns-in_err-held-clause-all_read g c =
+    let p = err_from_is_err_and c.from_residual.result c.from_residual.ensures.1 in
+    rw (p.1, p.2) (λ none. c.in_err-held.ensures.all_read (λ file e. none file (ap (λ (x : FundStop). Err x) (same_stop _ _ e))))
+
+pub returns-in_err-plan-clause-all_read : goal.returns-in_err-plan-clause-all_read
+returns-in_err-plan-clause-all_read g c = λ none. c.in_ok-held.ensures.all_read (λ file e. ok_is_no_error _ _ e)
+
+pub returns-in_err-digest-clause-all_read : goal.returns-in_err-digest-clause-all_read
+returns-in_err-digest-clause-all_read g c =
+    let p = err_from_is_err_and c.from_residual-in_err-digest.result c.from_residual-in_err-digest.ensures.1 in
+    rw (p.1, p.2) (λ none. c.in_err-digest.ensures.all_read (λ file e. none file (ap (λ (x : FundStop). Err x) (same_stop _ _ e))) ∙ c.in_ok-held.ensures.all_read (λ file e. ok_is_no_error _ _ e))
+
+pub returns-clause-all_read : goal.returns-clause-all_read
+returns-clause-all_read g c = λ none. c.in_ok-digest.ensures.all_read (λ file e. ok_is_no_error _ _ e) ∙ c.in_ok-held.ensures.all_read (λ file e. ok_is_no_error _ _ e)
