@@ -1,5 +1,5 @@
 -- The ends of each command are those of all, and the other way.
-use Rattle.std.proofs.Common.{ℕ, List, Option}
+use Rattle.std.proofs.Common.{ℕ, List, Option, inl, inr}
 use Rattle.fund_base.specs.Causes.{ShelfView, SinkView}
 use Rattle.fund_outside.specs.Kept.{KeeperView}
 use Rattle.command_end.specs.Names.{Sources}
@@ -7,12 +7,13 @@ use Rattle.command_end.specs.declared.status.Status.{Status}
 use Rattle.command_end.specs.declared.status.Status.TheVariants as statuses
 use Rattle.command_check.specs.Statuses as checks
 use Rattle.command_coins.specs.Statuses as listings
+use Rattle.command_desk.specs.Statuses as desks
 use Rattle.command_fund.specs.Names.{Payment}
 use Rattle.command_fund.specs.Statuses as payments
 use Rattle.command_resume.specs.Statuses as resumes
 use Rattle.command_work.specs.Statuses as loads
 use Rattle.fund_top.specs.Statuses.{Ends}
-use Rattle.fund_top.specs.Words.{Coins, Fund, Resume, Check, Work}
+use Rattle.fund_top.specs.Words.{Coins, Fund, Resume, Check, Work, Desk}
 
 pub listing_ends : (told_files told told_jobs : Type 0) (s : Sources) (shelf shelf' : ShelfView) (sink sink' : SinkView) (keeper keeper' : KeeperView) (status : Status) → listings.Ends told_files told s shelf shelf' sink sink' status → Ends told_files told told_jobs (Coins s) shelf shelf' sink sink' keeper keeper' status
 listing_ends told_files told told_jobs s shelf shelf' sink sink' keeper keeper' statuses.Done h = h
@@ -83,6 +84,29 @@ load_ends told_files told told_jobs number count shelf shelf' sink sink' keeper 
 load_ends told_files told told_jobs number count shelf shelf' sink sink' keeper keeper' statuses.Memory h = h
 load_ends told_files told told_jobs number count shelf shelf' sink sink' keeper keeper' statuses.Saved h = h
 load_ends told_files told told_jobs number count shelf shelf' sink sink' keeper keeper' statuses.CheckRefused h = h
+
+pub desk_ends : (told_files told told_jobs : Type 0) (s : Sources) (script : List ℕ) (shelf shelf' : ShelfView) (sink sink' : SinkView) (keeper keeper' : KeeperView) (status : Status) → desks.Ends told_files told s script shelf shelf' sink sink' status → Ends told_files told told_jobs (Desk s script) shelf shelf' sink sink' keeper keeper' status
+desk_ends told_files told told_jobs s script shelf shelf' sink sink' keeper keeper' statuses.Done (inl h) = absurd h
+desk_ends told_files told told_jobs s script shelf shelf' sink sink' keeper keeper' statuses.Done (inr h) = h
+desk_ends told_files told told_jobs s script shelf shelf' sink sink' keeper keeper' statuses.NoSelection (inl h) = absurd h
+desk_ends told_files told told_jobs s script shelf shelf' sink sink' keeper keeper' statuses.NoSelection (inr h) = absurd h.runs
+desk_ends told_files told told_jobs s script shelf shelf' sink sink' keeper keeper' statuses.Unfinished (inl h) = absurd h
+desk_ends told_files told told_jobs s script shelf shelf' sink sink' keeper keeper' statuses.Unfinished (inr h) = absurd h.runs
+desk_ends told_files told told_jobs s script shelf shelf' sink sink' keeper keeper' statuses.Usage (inl h) = absurd h
+desk_ends told_files told told_jobs s script shelf shelf' sink sink' keeper keeper' statuses.Usage (inr h) = absurd h.runs
+desk_ends told_files told told_jobs s script shelf shelf' sink sink' keeper keeper' statuses.Input (inl h) = h
+desk_ends told_files told told_jobs s script shelf shelf' sink sink' keeper keeper' statuses.Input (inr h) = absurd h.runs
+desk_ends told_files told told_jobs s script shelf shelf' sink sink' keeper keeper' statuses.Limit h = h
+desk_ends told_files told told_jobs s script shelf shelf' sink sink' keeper keeper' statuses.ReadFault h = h
+desk_ends told_files told told_jobs s script shelf shelf' sink sink' keeper keeper' statuses.WriteFault (inl h) = absurd h
+desk_ends told_files told told_jobs s script shelf shelf' sink sink' keeper keeper' statuses.WriteFault (inr h) = h
+desk_ends told_files told told_jobs s script shelf shelf' sink sink' keeper keeper' statuses.KeepFault (inl h) = absurd h
+desk_ends told_files told told_jobs s script shelf shelf' sink sink' keeper keeper' statuses.KeepFault (inr h) = absurd h.runs
+desk_ends told_files told told_jobs s script shelf shelf' sink sink' keeper keeper' statuses.Memory h = h
+desk_ends told_files told told_jobs s script shelf shelf' sink sink' keeper keeper' statuses.Saved (inl h) = absurd h
+desk_ends told_files told told_jobs s script shelf shelf' sink sink' keeper keeper' statuses.Saved (inr h) = absurd h.runs
+desk_ends told_files told told_jobs s script shelf shelf' sink sink' keeper keeper' statuses.CheckRefused (inl h) = absurd h
+desk_ends told_files told told_jobs s script shelf shelf' sink sink' keeper keeper' statuses.CheckRefused (inr h) = absurd h.runs
 
 -- ---- and the other way
 
@@ -155,3 +179,17 @@ load_back told_files told told_jobs number count shelf shelf' sink sink' keeper 
 load_back told_files told told_jobs number count shelf shelf' sink sink' keeper keeper' statuses.Memory h = h
 load_back told_files told told_jobs number count shelf shelf' sink sink' keeper keeper' statuses.Saved h = h
 load_back told_files told told_jobs number count shelf shelf' sink sink' keeper keeper' statuses.CheckRefused h = h
+
+pub desk_back : (told_files told told_jobs : Type 0) (s : Sources) (script : List ℕ) (shelf shelf' : ShelfView) (sink sink' : SinkView) (keeper keeper' : KeeperView) (status : Status) → Ends told_files told told_jobs (Desk s script) shelf shelf' sink sink' keeper keeper' status → desks.Ends told_files told s script shelf shelf' sink sink' status
+desk_back told_files told told_jobs s script shelf shelf' sink sink' keeper keeper' statuses.Done h = inr h
+desk_back told_files told told_jobs s script shelf shelf' sink sink' keeper keeper' statuses.NoSelection h = absurd h
+desk_back told_files told told_jobs s script shelf shelf' sink sink' keeper keeper' statuses.Unfinished h = absurd h
+desk_back told_files told told_jobs s script shelf shelf' sink sink' keeper keeper' statuses.Usage h = absurd h
+desk_back told_files told told_jobs s script shelf shelf' sink sink' keeper keeper' statuses.Input h = inl h
+desk_back told_files told told_jobs s script shelf shelf' sink sink' keeper keeper' statuses.Limit h = h
+desk_back told_files told told_jobs s script shelf shelf' sink sink' keeper keeper' statuses.ReadFault h = h
+desk_back told_files told told_jobs s script shelf shelf' sink sink' keeper keeper' statuses.WriteFault h = inr h
+desk_back told_files told told_jobs s script shelf shelf' sink sink' keeper keeper' statuses.KeepFault h = absurd h
+desk_back told_files told told_jobs s script shelf shelf' sink sink' keeper keeper' statuses.Memory h = h
+desk_back told_files told told_jobs s script shelf shelf' sink sink' keeper keeper' statuses.Saved h = absurd h
+desk_back told_files told told_jobs s script shelf shelf' sink sink' keeper keeper' statuses.CheckRefused h = absurd h

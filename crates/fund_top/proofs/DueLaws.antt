@@ -1,5 +1,5 @@
 -- What the files of a command mean is what they come to.
-use Rattle.std.proofs.Common.{◌≡◌, ◌≤◌, ◌∙◌, ℕ, List, Option, sym, ap, refl}
+use Rattle.std.proofs.Common.{◌≡◌, ◌≤◌, ◌∙◌, ℕ, List, Option, Result, sym, ap, refl}
 use Rattle.block_feed.specs.Block.{ChainBlock}
 use Rattle.fund_outside.specs.Kept.{KeptJob}
 use Rattle.fund_plan.specs.Outcome.{outcome_at}
@@ -12,6 +12,10 @@ use Rattle.fund_files.specs.Contents.{HasChain}
 use Rattle.command_end.specs.Names.{Sources}
 use Rattle.command_check.proofs.OutcomeLaws.{one_outcome}
 use Rattle.command_check.specs.Due as checks
+use Rattle.fund_files.proofs.ChainLaws.{chain_due}
+use Rattle.fund_files.specs.Cause.{FileCause}
+use Rattle.fund_files.specs.declared.held.Held.{Held}
+use Rattle.command_desk.specs.Due as desks
 use Rattle.command_coins.proofs.ListingLaws as listings
 use Rattle.command_coins.specs.Due.{listing_in}
 use Rattle.command_fund.proofs.DueLaws as payments
@@ -25,13 +29,18 @@ use Rattle.command_resume.proofs.OneLaws as jobs_of
 use Rattle.command_resume.specs.Due as resumes
 use Rattle.command_work.proofs.DueLaws as loads
 use Rattle.command_work.specs.Due.{load_of, load_plan, summed}
-use Rattle.fund_top.specs.Due.{ComesTo, Outcome, Refused, Listed, check_outcome, IsListingMeant, IsMeant, listing_outcome, load_outcome, payment_outcome, resume_outcome}
-use Rattle.fund_top.specs.Words.{Command, Coins, Fund, Resume, Check, Work}
+use Rattle.fund_top.specs.Due.{ComesTo, Outcome, Refused, Listed, check_outcome, IsListingMeant, IsMeant, desk_outcome, listing_outcome, load_outcome, payment_outcome, resume_outcome}
+use Rattle.fund_top.specs.Words.{Command, Coins, Fund, Resume, Check, Work, Desk}
 
 listing_refused : (files : List ℕ → List ℕ) (jobs : List ℕ → Option KeptJob) (s : Sources) (cause : Cause) → IsListingMeant (files s.wallet) (files s.blocks) cause → ComesTo files jobs (Coins s) (Refused cause)
 listing_refused files jobs s (Files cause) h = sym (ap listing_outcome (listings.refused_due files s cause h))
 listing_refused files jobs s BumpNotYet h = absurd h
 listing_refused files jobs s (Plan fault) h = absurd h
+
+desk_refused : (files : List ℕ → List ℕ) (jobs : List ℕ → Option KeptJob) (s : Sources) (script : List ℕ) (cause : Cause) → IsListingMeant (files s.wallet) (files s.blocks) cause → ComesTo files jobs (Desk s script) (Refused cause)
+desk_refused files jobs s script (Files cause) h = sym (ap (λ (held : Result Held FileCause). desk_outcome (desks.by_chain files (files script) held)) (chain_due (files s.wallet) (files s.blocks) cause h))
+desk_refused files jobs s script BumpNotYet h = absurd h
+desk_refused files jobs s script (Plan fault) h = absurd h
 
 pub refusal_due : (files : List ℕ → List ℕ) (jobs : List ℕ → Option KeptJob) (c : Command) (cause : Cause) → IsMeant files c cause → ComesTo files jobs c (Refused cause)
 refusal_due files jobs (Coins s) cause h = listing_refused files jobs s cause h
@@ -39,6 +48,7 @@ refusal_due files jobs (Fund s p job) cause h = sym (ap payment_outcome (payment
 refusal_due files jobs (Resume s p job) cause h = (resumes.Refused cause, (payments.refusal_due files s p cause h, h), refl)
 refusal_due files jobs (Check s p report) cause h = (checks.Refused cause, (payments.refusal_due files s p cause h, h), refl)
 refusal_due files jobs (Work number count) cause h = sym (ap load_outcome (loads.collision_due number count cause h))
+refusal_due files jobs (Desk s script) cause h = desk_refused files jobs s script cause h
 
 pub listing_due : (files : List ℕ → List ℕ) (jobs : List ℕ → Option KeptJob) (s : Sources) (w : PlainWallet) (blocks : List ChainBlock) → HasChain (files s.wallet) (files s.blocks) w blocks → ComesTo files jobs (Coins s) (Listed (listing_in (held_of w blocks)))
 listing_due files jobs s w blocks h = sym (ap listing_outcome (listings.listing_due files s w blocks h))
@@ -57,3 +67,4 @@ one_due files jobs (Fund s p job) a b x y = x ∙ sym y
 one_due files jobs (Resume s p job) a b x y = x.2 ∙ ap resume_outcome (jobs_of.one_outcome files s p (jobs job) x.0 y.0 x.1 y.1) ∙ sym y.2
 one_due files jobs (Check s p report) a b x y = x.2 ∙ ap check_outcome (one_outcome files s p report x.0 y.0 x.1 y.1) ∙ sym y.2
 one_due files jobs (Work number count) a b x y = x ∙ sym y
+one_due files jobs (Desk s script) a b x y = x ∙ sym y

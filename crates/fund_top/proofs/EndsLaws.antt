@@ -10,6 +10,8 @@ use Rattle.command_end.specs.declared.status.Status.TheVariants as statuses
 use Rattle.command_check.proofs.OutcomeLaws.{one_outcome}
 use Rattle.command_check.specs.Due as check_files
 use Rattle.command_check.specs.Statuses as checks
+use Rattle.command_desk.proofs.DueLaws as desk_laws
+use Rattle.command_desk.specs.Due as desk_files
 use Rattle.command_coins.specs.Due as listing_files
 use Rattle.command_coins.specs.Statuses as listings
 use Rattle.command_fund.specs.Cause.{Cause, Files, cause_of, status_of_cause}
@@ -21,10 +23,10 @@ use Rattle.command_resume.specs.Due as resume_files
 use Rattle.command_resume.proofs.EndsLaws.{gone_not, resume_complete, resume_refused}
 use Rattle.command_work.specs.Due as load_words
 use Rattle.command_work.specs.Statuses as loads
-use Rattle.fund_top.specs.Due.{ComesTo, IsRefusal, IsTold, Outcome, Refused, check_outcome, listing_outcome, load_outcome, payment_outcome, resume_outcome}
+use Rattle.fund_top.specs.Due.{ComesTo, IsRefusal, IsTold, Outcome, Refused, check_outcome, desk_outcome, listing_outcome, load_outcome, payment_outcome, resume_outcome}
 use Rattle.fund_top.specs.Statuses.{Ends, NoneFailed, NoneUnkept, NoneUnread, status_of}
-use Rattle.fund_top.specs.Words.{Command, Coins, Fund, Resume, Check, Work}
-use Rattle.fund_top.proofs.CommandEnds.{check_back, listing_back, load_back, payment_back, resume_back}
+use Rattle.fund_top.specs.Words.{Command, Coins, Fund, Resume, Check, Work, Desk}
+use Rattle.fund_top.proofs.CommandEnds.{check_back, desk_back, listing_back, load_back, payment_back, resume_back}
 use Rattle.fund_top.proofs.KeptLaws.{job_refused}
 
 -- ---- a report isn't due where the files are refused
@@ -158,6 +160,23 @@ check_complete told_files told told_jobs s p report shelf shelf' sink sink' keep
 check_complete told_files told told_jobs s p report shelf shelf' sink sink' keeper keeper' statuses.Saved h t none due d = absurd h
 check_complete told_files told told_jobs s p report shelf shelf' sink sink' keeper keeper' statuses.CheckRefused h t none due d = inl (check_status shelf.files s p report (check_files.Broken h.0) due statuses.CheckRefused (h.2 t) d refl)
 
+-- the status of what a desk comes to
+same_desk : (due : desk_files.Outcome) → desk_files.status_of due ≡ status_of (desk_outcome due)
+same_desk (desk_files.Refused cause) = refl
+same_desk desk_files.TooLong = refl
+same_desk desk_files.Halted = refl
+same_desk desk_files.Replied = refl
+
+of_desk : {status : Status} (due : desk_files.Outcome) → (status ≡ desk_files.status_of due) ⊎ (status ≡ statuses.Memory) → IsOf status (desk_outcome due)
+of_desk due (inl e) = inl (e ∙ same_desk due)
+of_desk due (inr e) = inr e
+
+desk_refusal : (due : desk_files.Outcome) → IsRefusal (desk_outcome due) → desk_files.IsRefusal due
+desk_refusal (desk_files.Refused cause) refusal = tt
+desk_refusal desk_files.TooLong refusal = refusal
+desk_refusal desk_files.Halted refusal = refusal
+desk_refusal desk_files.Replied refusal = refusal
+
 -- it is the status of what the command comes to, or want of memory
 pub ends_complete : (told_files told told_jobs : Type 0) (c : Command) (shelf shelf' : ShelfView) (sink sink' : SinkView) (keeper keeper' : KeeperView) (status : Status) → Ends told_files told told_jobs c shelf shelf' sink sink' keeper keeper' status → IsTold told_files told_jobs c → NoneFailed c shelf shelf' sink sink' keeper keeper' → (due : Outcome) → ComesTo shelf.files keeper.jobs c due
     → (status ≡ status_of due) ⊎ (status ≡ statuses.Memory)
@@ -171,6 +190,10 @@ ends_complete told_files told told_jobs (Check s p report) shelf shelf' sink sin
     subst (λ (x : Outcome). IsOf status x) (sym is.2) (check_complete told_files told told_jobs s p report shelf shelf' sink sink' keeper keeper' status (check_back told_files told told_jobs s p report shelf shelf' sink sink' keeper keeper' status h) t none is.0 is.1)
 ends_complete told_files told told_jobs (Work number count) shelf shelf' sink sink' keeper keeper' status h t none due is =
     subst (λ (x : Outcome). IsOf status x) (sym is) (load_complete told_files told told_jobs number count shelf shelf' sink sink' keeper keeper' status (load_back told_files told told_jobs number count shelf shelf' sink sink' keeper keeper' status h) none)
+ends_complete told_files told told_jobs (Desk s script) shelf shelf' sink sink' keeper keeper' status h t none due is =
+    subst (λ (x : Outcome). IsOf status x) (sym is)
+    (of_desk (desk_files.due_of shelf.files s script)
+    (desk_laws.ends_complete told_files told s script shelf shelf' sink sink' t (record { reads = none.reads; sinks = none.sinks }) status (desk_back told_files told told_jobs s script shelf shelf' sink sink' keeper keeper' status h)))
 
 -- ---- where the files are refused and none wasn't read
 
@@ -290,3 +313,7 @@ ends_refused told_files told told_jobs (Work number count) shelf shelf' sink sin
     subst (λ (x : Outcome). IsOf status x) (sym is)
     (load_any status (load_words.due_of number count) (load_words.due_of number count) refl (subst IsRefusal is refusal)
     (λ cause e. load_refused told_files told told_jobs number count shelf shelf' sink sink' keeper keeper' status (load_back told_files told told_jobs number count shelf shelf' sink sink' keeper keeper' status h) cause e))
+ends_refused told_files told told_jobs (Desk s script) shelf shelf' sink sink' keeper keeper' status h t none due refusal keeps is =
+    subst (λ (x : Outcome). IsOf status x) (sym is)
+    (of_desk (desk_files.due_of shelf.files s script)
+    (desk_laws.ends_refused told_files told s script shelf shelf' sink sink' t none (desk_refusal (desk_files.due_of shelf.files s script) (subst IsRefusal is refusal)) status (desk_back told_files told told_jobs s script shelf shelf' sink sink' keeper keeper' status h)))

@@ -22,7 +22,7 @@ use Rattle.command_resume.proofs.OneLaws.{by_reading, ready_not_refused}
 use Rattle.command_resume.proofs.RefusedLaws.{kept_limit, kept_not_saved}
 use Rattle.command_resume.specs.Statuses as resumes
 use Rattle.fund_top.specs.Statuses.{Ends, GoesOnUninterrupted, IsJobOf, WhereResuming}
-use Rattle.fund_top.specs.Words.{Command, Coins, Fund, Resume, Check, Work}
+use Rattle.fund_top.specs.Words.{Command, Coins, Fund, Resume, Check, Work, Desk}
 use Rattle.fund_top.proofs.CommandEnds.{resume_back}
 
 -- what is due by one reading of the files is due by another
@@ -75,3 +75,4 @@ ends_uninterrupted tf t tj (Fund s p job) shelf shelf' sink sink' keeper keeper'
 ends_uninterrupted tf t tj (Resume s p job) shelf shelf' sink sink' keeper keeper' status h f u j = goes_on tf t tj s p job shelf shelf' sink sink' keeper keeper' status (resume_back tf t tj s p job shelf shelf' sink sink' keeper keeper' status h) f u j
 ends_uninterrupted tf t tj (Check s p report) shelf shelf' sink sink' keeper keeper' status h f u j = tt
 ends_uninterrupted tf t tj (Work number count) shelf shelf' sink sink' keeper keeper' status h f u j = tt
+ends_uninterrupted tf t tj (Desk s script) shelf shelf' sink sink' keeper keeper' status h f u j = tt

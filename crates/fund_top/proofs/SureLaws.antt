@@ -1,5 +1,5 @@
 -- What is true of how a command ends whose files, sink and keeper are told.
-use Rattle.std.proofs.Common.{◌≡◌, ℕ, List, Option, Some, None, IfSome, arith}
+use Rattle.std.proofs.Common.{◌≡◌, ℕ, List, Option, Some, None, IfSome, arith, subst}
 use Rattle.std.specs.Prelude.{◌⊎◌}
 use Rattle.fund_base.specs.Causes.{Rose, ShelfView, SinkView}
 use Rattle.fund_files.specs.FileStops as files
@@ -14,13 +14,17 @@ use Rattle.command_fund.specs.Statuses as payments
 use Rattle.command_end.specs.Names.{Sources}
 use Rattle.command_fund.specs.Names.{Payment}
 use Rattle.command_end.specs.declared.status.Status.TheVariants as statuses
+use Rattle.desk_machine.specs.State.{PlainDesk}
+use Rattle.desk_script.specs.Script.{lines_of}
+use Rattle.command_desk.specs.Course.{Course}
+use Rattle.command_desk.specs.Statuses as desks
 use Rattle.command_resume.specs.Statuses as resumes
 use Rattle.command_work.specs.Statuses as loads
 use Rattle.command_end.specs.declared.status.Status.{Status}
 use Rattle.fund_top.specs.Due.{ComesTo, IsTold, Outcome}
-use Rattle.fund_top.specs.InMemory.{Accepts, Funds, FundsNot, FundsOpen, Resumes, Sums}
-use Rattle.fund_top.specs.Statuses.{EndsNotFunded, EndsUnfinished, IsLogUnwritten, NoneFailed, NoneUnread, WhereChecking, WhereFunding, WhereResuming, WhereWorking, status_of}
-use Rattle.fund_top.specs.Words.{Command, Coins, Fund, Resume, Check, Work}
+use Rattle.fund_top.specs.InMemory.{Accepts, Funds, FundsNot, FundsOpen, Replies, Resumes, Sums}
+use Rattle.fund_top.specs.Statuses.{EndsNotFunded, EndsUnfinished, IsLogUnwritten, NoneFailed, NoneUnread, WhereChecking, WhereDesk, WhereFunding, WhereResuming, WhereWorking, status_of}
+use Rattle.fund_top.specs.Words.{Command, Coins, Fund, Resume, Check, Work, Desk}
 
 pub funds : (c : Option Command) (shelf shelf' : ShelfView) (sink sink' : SinkView) → WhereFunding c (λ s p. payments.EndsFunded (Unit {0}) (Unit {0}) s p shelf shelf' sink sink') → WhereFunding c (λ s p. Funds s p shelf shelf' sink sink')
 funds None shelf shelf' sink sink' h = tt
@@ -29,6 +33,7 @@ funds (Some (Fund s p job)) shelf shelf' sink sink' h = (h.0, h.1, h.2, h.3 tt, 
 funds (Some (Resume s p job)) shelf shelf' sink sink' h = tt
 funds (Some (Check s p report)) shelf shelf' sink sink' h = tt
 funds (Some (Work number count)) shelf shelf' sink sink' h = tt
+funds (Some (Desk s script)) shelf shelf' sink sink' h = tt
 
 pub resumes_there : (c : Option Command) (shelf shelf' : ShelfView) (sink sink' : SinkView) (keeper : KeeperView) → WhereResuming c (λ s p job. resumes.EndsFunded (Unit {0}) (Unit {0}) (Unit {0}) s p job shelf shelf' sink sink' keeper)
     → WhereResuming c (λ s p job. Resumes s p job shelf shelf' sink sink' keeper)
@@ -38,6 +43,7 @@ resumes_there (Some (Fund s p job)) shelf shelf' sink sink' keeper h = tt
 resumes_there (Some (Resume s p job)) shelf shelf' sink sink' keeper h = (h.0, h.1, h.2, h.3 tt, h.4 tt)
 resumes_there (Some (Check s p report)) shelf shelf' sink sink' keeper h = tt
 resumes_there (Some (Work number count)) shelf shelf' sink sink' keeper h = tt
+resumes_there (Some (Desk s script)) shelf shelf' sink sink' keeper h = tt
 
 pub funds_not : (c : Option Command) (shelf shelf' : ShelfView) (sink sink' : SinkView) (keeper : KeeperView) → IfSome c (λ d. EndsNotFunded (Unit {0}) (Unit {0}) (Unit {0}) d shelf shelf' sink sink' keeper) → IfSome c (λ d. FundsNot d shelf shelf' sink sink' keeper)
 funds_not None shelf shelf' sink sink' keeper h = tt
@@ -46,6 +52,7 @@ funds_not (Some (Fund s p job)) shelf shelf' sink sink' keeper h = (h.0, h.1, h.
 funds_not (Some (Resume s p job)) shelf shelf' sink sink' keeper h = (h.0, h.1, h.2, h.3 tt, h.4 tt)
 funds_not (Some (Check s p report)) shelf shelf' sink sink' keeper h = absurd h
 funds_not (Some (Work number count)) shelf shelf' sink sink' keeper h = (h.0, h.1, h.2 tt)
+funds_not (Some (Desk s script)) shelf shelf' sink sink' keeper h = absurd h
 
 pub funds_open : (c : Option Command) (shelf shelf' : ShelfView) (sink sink' : SinkView) (keeper keeper' : KeeperView) → IfSome c (λ d. EndsUnfinished (Unit {0}) (Unit {0}) (Unit {0}) d shelf shelf' sink sink' keeper keeper') → IfSome c (λ d. FundsOpen d shelf shelf' sink sink' keeper keeper')
 funds_open None shelf shelf' sink sink' keeper keeper' h = tt
@@ -54,6 +61,7 @@ funds_open (Some (Fund s p job)) shelf shelf' sink sink' keeper keeper' h = (h.0
 funds_open (Some (Resume s p job)) shelf shelf' sink sink' keeper keeper' h = (h.0, h.1, h.2 tt, h.3 tt, h.4 tt)
 funds_open (Some (Check s p report)) shelf shelf' sink sink' keeper keeper' h = absurd h
 funds_open (Some (Work number count)) shelf shelf' sink sink' keeper keeper' h = (h.0, h.1, h.2 tt)
+funds_open (Some (Desk s script)) shelf shelf' sink sink' keeper keeper' h = absurd h
 
 pub sums : (c : Option Command) (sink sink' : SinkView) → WhereWorking c (λ number count. loads.EndsSummed (Unit {0}) number count statuses.Done sink sink') → WhereWorking c (λ number count. Sums statuses.Done number count sink sink')
 sums None sink sink' h = tt
@@ -62,6 +70,7 @@ sums (Some (Fund s p job)) sink sink' h = tt
 sums (Some (Resume s p job)) sink sink' h = tt
 sums (Some (Check s p report)) sink sink' h = tt
 sums (Some (Work number count)) sink sink' h = (h.0, h.1, h.2 tt)
+sums (Some (Desk s script)) sink sink' h = tt
 
 pub accepts : (c : Option Command) (shelf : ShelfView) (sink sink' : SinkView) → WhereChecking c (λ s p report. checks.EndsAccepted (Unit {0}) (Unit {0}) s p report shelf sink sink') → WhereChecking c (λ s p report. Accepts s p report shelf sink sink')
 accepts None shelf sink sink' h = tt
@@ -70,6 +79,25 @@ accepts (Some (Fund s p job)) shelf sink sink' h = tt
 accepts (Some (Resume s p job)) shelf sink sink' h = tt
 accepts (Some (Check s p report)) shelf sink sink' h = (h.0, h.1, h.2 tt)
 accepts (Some (Work number count)) shelf sink sink' h = tt
+accepts (Some (Desk s script)) shelf sink sink' h = tt
+
+pub replies : (c : Option Command) (shelf shelf' : ShelfView) (sink sink' : SinkView) → WhereDesk c (λ s script. desks.EndsRunning (Unit {0}) (Unit {0}) s script shelf shelf' sink sink' statuses.Done) → WhereDesk c (λ s script. Replies s script shelf sink sink')
+replies None shelf shelf' sink sink' h = tt
+replies (Some (Coins s)) shelf shelf' sink sink' h = tt
+replies (Some (Fund s p job)) shelf shelf' sink sink' h = tt
+replies (Some (Resume s p job)) shelf shelf' sink sink' h = tt
+replies (Some (Check s p report)) shelf shelf' sink sink' h = tt
+replies (Some (Work number count)) shelf shelf' sink sink' h = tt
+replies (Some (Desk s script)) shelf shelf' sink sink' h = (
+  h.starts.wallet,
+  h.starts.blocks,
+  h.runs.0,
+  h.runs.1,
+  h.starts.inputs tt,
+  subst (λ (d : PlainDesk). Course shelf.files (lines_of (shelf.files script)) d h.runs.0 h.runs.1) h.starts.desk_is
+      (subst (λ (text : List ℕ). Course shelf.files (lines_of text) h.desk h.runs.0 h.runs.1) (h.starts.text_is tt) (h.runs.2 tt)),
+  h.runs.3 tt,
+)
 
 -- ---- where no count is above nothing, none rose
 
@@ -98,6 +126,11 @@ none_unread (Check s p report) shelf shelf' a b = record {
   evidence = λ file h. flat (shelf.reads (evidence_name p report file)) (shelf'.reads (evidence_name p report file)) (a.reads (evidence_name p report file)) (b.reads (evidence_name p report file)) h;
 }
 none_unread (Work number count) shelf shelf' a b = tt
+none_unread (Desk s script) shelf shelf' a b = record {
+  chain = listing_unread s shelf shelf' a b;
+  the_script = λ h. flat (shelf.reads script) (shelf'.reads script) (a.reads script) (b.reads script) h;
+  lines = λ line want there names h. flat (shelf.reads want.file) (shelf'.reads want.file) (a.reads want.file) (b.reads want.file) h;
+}
 
 none_unwritten : (c : Command) (shelf shelf' : ShelfView) → IsSure shelf → IsSure shelf' → IsLogUnwritten c shelf shelf' → ⊥
 none_unwritten (Coins s) shelf shelf' a b h = h
@@ -105,6 +138,7 @@ none_unwritten (Fund s p job) shelf shelf' a b h = flat (shelf.writes p.log) (sh
 none_unwritten (Resume s p job) shelf shelf' a b h = flat (shelf.writes p.log) (shelf'.writes p.log) (a.writes p.log) (b.writes p.log) h
 none_unwritten (Check s p report) shelf shelf' a b h = h
 none_unwritten (Work number count) shelf shelf' a b h = h
+none_unwritten (Desk s script) shelf shelf' a b h = h
 
 none_failed : (c : Command) (shelf shelf' : ShelfView) (sink sink' : SinkView) (keeper keeper' : KeeperView) → IsSure shelf → IsSure shelf' → sink.faults ≡ 0 → sink'.faults ≡ 0 → keeper.faults ≡ 0 → keeper'.faults ≡ 0 → NoneFailed c shelf shelf' sink sink' keeper keeper'
 none_failed c shelf shelf' sink sink' keeper keeper' a b d e f g =
@@ -116,6 +150,7 @@ told (Fund s p job) = tt
 told (Resume s p job) = (tt, tt)
 told (Check s p report) = tt
 told (Work number count) = tt
+told (Desk s script) = tt
 
 pub completes : (c : Option Command) (shelf shelf' : ShelfView) (sink sink' : SinkView) (keeper keeper' : KeeperView) (status : Status) → IsSure shelf → IsSure shelf' → sink.faults ≡ 0 → sink'.faults ≡ 0 → keeper.faults ≡ 0 → keeper'.faults ≡ 0
     → IfSome c (λ d. IsTold (Unit {0}) (Unit {0}) d → NoneFailed d shelf shelf' sink sink' keeper keeper' → (due : Outcome) → ComesTo shelf.files keeper.jobs d due → (status ≡ status_of due) ⊎ (status ≡ statuses.Memory))

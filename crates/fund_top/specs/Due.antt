@@ -9,17 +9,18 @@ use Rattle.kept_job.specs.declared.fault.KeptFault.{KeptFault}
 use Rattle.command_check.specs.Due as checks
 use Rattle.command_check.specs.declared.stop.Evidence.{Evidence}
 use Rattle.command_coins.specs.Due as listings
+use Rattle.command_desk.specs.Due as desks
 use Rattle.command_fund.specs.Cause.{Cause, Files, BumpNotYet, Plan}
 use Rattle.command_fund.specs.Due as payments
 use Rattle.command_fund.specs.Meant as payment_causes
 use Rattle.command_resume.specs.Due as resumes
 use Rattle.command_work.specs.Due as loads
 use Rattle.command_end.specs.declared.status.Status.{Status}
-use Rattle.fund_top.specs.Words.{Command, Coins, Fund, Resume, Check, Work}
+use Rattle.fund_top.specs.Words.{Command, Coins, Fund, Resume, Check, Work, Desk}
 
 -- a refusal of the files, or of a kept job; the listing; a report with which the tries are used up; a report and a log, where
 -- nothing pays or of a payment; a file that is judged and too long, the first rule that a report breaks, or a report that is
--- accepted; or the summary of a run with this status
+-- accepted; the summary of a run with this status; or what a desk comes to whose wallet and blocks are in order
 pub data Outcome : Type 0 where
   Refused : Cause → Outcome
   NotKept : KeptFault → Outcome
@@ -31,6 +32,7 @@ pub data Outcome : Type 0 where
   Broken : CheckFault → Outcome
   Accepted : Report → Outcome
   Summed : (status : Status) → (summary : List ℕ) → Outcome
+  Ran : desks.Outcome → Outcome
 
 -- that of a listing
 abbrev pub listing_outcome : Result (List ℕ) FileCause → Outcome
@@ -56,6 +58,13 @@ abbrev pub load_outcome : loads.Outcome → Outcome
 load_outcome (loads.Refused cause) = Refused cause
 load_outcome (loads.Summed status summary) = Summed status summary
 
+-- that of a desk
+abbrev pub desk_outcome : desks.Outcome → Outcome
+desk_outcome (desks.Refused cause) = Refused (Files cause)
+desk_outcome desks.TooLong = Ran desks.TooLong
+desk_outcome desks.Halted = Ran desks.Halted
+desk_outcome desks.Replied = Ran desks.Replied
+
 -- that of a job
 abbrev pub resume_outcome : resumes.Outcome → Outcome
 resume_outcome (resumes.Refused cause) = Refused cause
@@ -70,6 +79,7 @@ ComesTo files jobs (Fund s p job) o = o ≡ payment_outcome (payments.due_of fil
 ComesTo files jobs (Resume s p job) o = (due : resumes.Outcome) × resumes.ComesTo files s p (jobs job) due × (o ≡ resume_outcome due)
 ComesTo files jobs (Check s p report) o = (due : checks.Outcome) × checks.ComesTo files s p report due × (o ≡ check_outcome due)
 ComesTo files jobs (Work number count) o = o ≡ load_outcome (loads.due_of number count)
+ComesTo files jobs (Desk s script) o = o ≡ desk_outcome (desks.due_of files s script)
 
 -- where what a command comes to is told: its files are, and the jobs too where it goes on with one
 abbrev pub IsTold : (told_files told_jobs : Type 0) → Command → Type 0
@@ -78,6 +88,7 @@ IsTold told_files told_jobs (Fund s p job) = told_files
 IsTold told_files told_jobs (Resume s p job) = told_files × told_jobs
 IsTold told_files told_jobs (Check s p report) = told_files
 IsTold told_files told_jobs (Work number count) = Unit {0}
+IsTold told_files told_jobs (Desk s script) = told_files
 
 -- the files are refused, or the job is, or what is judged is
 abbrev pub IsRefusal : Outcome → Type 0
@@ -91,8 +102,9 @@ IsRefusal (TooLong file) = Unit {0}
 IsRefusal (Broken fault) = Unit {0}
 IsRefusal (Accepted report) = ⊥
 IsRefusal (Summed status summary) = ⊥
+IsRefusal (Ran due) = desks.IsRefusal due
 
--- what the cause of a listing's refusal means by itself: its files are the wallet and the blocks alone
+-- what the cause of a listing's refusal, or of a desk's, means by itself: its files are the wallet and the blocks alone
 abbrev pub IsListingMeant : (wallet blocks : List ℕ) → Cause → Type 0
 IsListingMeant wallet blocks (Files cause) = IsChainMeant wallet blocks cause
 IsListingMeant wallet blocks BumpNotYet = ⊥
@@ -105,3 +117,4 @@ IsMeant files (Fund s p job) cause = payment_causes.IsMeant files s p cause
 IsMeant files (Resume s p job) cause = payment_causes.IsMeant files s p cause
 IsMeant files (Check s p report) cause = payment_causes.IsMeant files s p cause
 IsMeant files (Work number count) cause = loads.IsCollision number count cause
+IsMeant files (Desk s script) cause = IsListingMeant (files s.wallet) (files s.blocks) cause

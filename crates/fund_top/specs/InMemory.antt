@@ -14,7 +14,13 @@ use Rattle.command_end.specs.declared.status.Status.{Status}
 use Rattle.command_end.specs.declared.status.Status.TheVariants as statuses
 use Rattle.command_resume.specs.Resumed as resumed
 use Rattle.command_work.specs.Statuses.{IsSummary}
-use Rattle.fund_top.specs.Words.{Command, Coins, Fund, Resume, Check, Work}
+use Rattle.block_feed.specs.Block.{ChainBlock}
+use Rattle.wallet_text.specs.PlainWallet.{PlainWallet}
+use Rattle.desk_machine.specs.State.{PlainDesk, new_desk}
+use Rattle.desk_script.specs.Script.{lines_of}
+use Rattle.command_desk.specs.Course.{Course}
+use Rattle.command_desk.specs.Starts.{AreInputs}
+use Rattle.fund_top.specs.Words.{Command, Coins, Fund, Resume, Check, Work, Desk}
 
 -- the listing is printed whole
 abbrev pub Lists : Sources → ShelfView → SinkView → SinkView → Type 0
@@ -38,6 +44,12 @@ Accepts s p report shelf sink sink' = (text : List ℕ) × IsVouched (Unit {0}) 
 abbrev pub Sums : Status → ℕ → ℕ → SinkView → SinkView → Type 0
 Sums status number count sink sink' = (summary : List ℕ) × IsSummary number count status summary × (sink'.written ≡ sink.written ++ summary)
 
+-- to each line of the script its reply is printed whole
+abbrev pub Replies : Sources → (script : List ℕ) → ShelfView → SinkView → SinkView → Type 0
+Replies s script shelf sink sink' =
+    (w : PlainWallet) × (blocks : List ChainBlock) × (printed : List ℕ) × (new : PlainDesk) × AreInputs shelf.files s script w blocks
+    × Course shelf.files (lines_of (shelf.files script)) (new_desk (held_of w blocks)) printed new × (sink'.written ≡ sink.written ++ printed)
+
 -- the log is written, and the report of none is printed whole; or the summary is
 abbrev pub FundsNot : Command → ShelfView → ShelfView → SinkView → SinkView → KeeperView → Type 0
 FundsNot (Coins s) shelf shelf' sink sink' keeper = ⊥
@@ -47,6 +59,7 @@ FundsNot (Resume s p job) shelf shelf' sink sink' keeper =
     (report : List ℕ) × (log : List ℕ) × resumed.IsNotFunded (Unit {0}) (Unit {0}) shelf.files s p (keeper.jobs job) report log × (shelf'.files p.log ≡ log) × (sink'.written ≡ sink.written ++ report)
 FundsNot (Check s p report) shelf shelf' sink sink' keeper = ⊥
 FundsNot (Work number count) shelf shelf' sink sink' keeper = Sums statuses.NoSelection number count sink sink'
+FundsNot (Desk s script) shelf shelf' sink sink' keeper = ⊥
 
 -- no file is written, the run is kept where there is a job, and the report of the open search, or the summary, is printed whole
 abbrev pub FundsOpen : Command → ShelfView → ShelfView → SinkView → SinkView → KeeperView → KeeperView → Type 0
@@ -59,3 +72,4 @@ FundsOpen (Resume s p job) shelf shelf' sink sink' keeper keeper' =
     × resumed.IsLeftOn (Unit {0}) (Unit {0}) shelf.files s p job report keeper keeper' u
 FundsOpen (Check s p report) shelf shelf' sink sink' keeper keeper' = ⊥
 FundsOpen (Work number count) shelf shelf' sink sink' keeper keeper' = Sums statuses.Unfinished number count sink sink'
+FundsOpen (Desk s script) shelf shelf' sink sink' keeper keeper' = ⊥

@@ -17,6 +17,9 @@ use Rattle.command_end.specs.declared.status.Status.{Status}
 use Rattle.command_end.specs.declared.status.Status.TheVariants as statuses
 use Rattle.command_check.specs.Statuses as checks
 use Rattle.command_coins.specs.Statuses as listings
+use Rattle.command_desk.specs.Due as desk_dues
+use Rattle.command_desk.specs.Endings as desk_endings
+use Rattle.command_desk.specs.Statuses as desks
 use Rattle.command_fund.specs.Cause.{status_of_cause}
 use Rattle.command_fund.specs.Digest.{digest_in}
 use Rattle.command_fund.specs.Due.{plan_of, planned_after}
@@ -28,8 +31,8 @@ use Rattle.command_fund.specs.Statuses as payments
 use Rattle.command_resume.specs.Statuses as resumes
 use Rattle.command_resume.specs.Words.{kept_status}
 use Rattle.command_work.specs.Statuses as loads
-use Rattle.fund_top.specs.Due.{Outcome, Refused, NotKept, Listed, Unfinished, NoSelection, Funded, TooLong, Broken, Accepted, Summed}
-use Rattle.fund_top.specs.Words.{Command, Coins, Fund, Resume, Check, Work}
+use Rattle.fund_top.specs.Due.{Outcome, Refused, NotKept, Listed, Unfinished, NoSelection, Funded, TooLong, Broken, Accepted, Summed, Ran}
+use Rattle.fund_top.specs.Words.{Command, Coins, Fund, Resume, Check, Work, Desk}
 
 -- the status of what a command comes to, where nothing fails
 abbrev pub status_of : Outcome → Status
@@ -43,6 +46,7 @@ status_of (TooLong file) = statuses.Limit
 status_of (Broken fault) = statuses.CheckRefused
 status_of (Accepted report) = statuses.Done
 status_of (Summed status summary) = status
+status_of (Ran due) = desk_dues.status_of due
 
 -- the sources of a command that lists coins have this
 abbrev pub WhereListing : Option Command → (Sources → Type 0) → Type 0
@@ -52,6 +56,7 @@ WhereListing (Some (Fund s p job)) P = Unit {0}
 WhereListing (Some (Resume s p job)) P = Unit {0}
 WhereListing (Some (Check s p report)) P = Unit {0}
 WhereListing (Some (Work number count)) P = Unit {0}
+WhereListing (Some (Desk s script)) P = Unit {0}
 
 -- the files of a command that funds a payment have this
 abbrev pub WhereFunding : Option Command → (Sources → Payment → Type 0) → Type 0
@@ -61,6 +66,7 @@ WhereFunding (Some (Fund s p job)) P = P s p
 WhereFunding (Some (Resume s p job)) P = Unit {0}
 WhereFunding (Some (Check s p report)) P = Unit {0}
 WhereFunding (Some (Work number count)) P = Unit {0}
+WhereFunding (Some (Desk s script)) P = Unit {0}
 
 -- the files and the job of a command that goes on have this
 abbrev pub WhereResuming : Option Command → (Sources → Payment → List ℕ → Type 0) → Type 0
@@ -70,6 +76,7 @@ WhereResuming (Some (Fund s p job)) P = Unit {0}
 WhereResuming (Some (Resume s p job)) P = P s p job
 WhereResuming (Some (Check s p report)) P = Unit {0}
 WhereResuming (Some (Work number count)) P = Unit {0}
+WhereResuming (Some (Desk s script)) P = Unit {0}
 
 -- the files of a command that checks a report have this
 abbrev pub WhereChecking : Option Command → (Sources → Payment → List ℕ → Type 0) → Type 0
@@ -79,6 +86,7 @@ WhereChecking (Some (Fund s p job)) P = Unit {0}
 WhereChecking (Some (Resume s p job)) P = Unit {0}
 WhereChecking (Some (Check s p report)) P = P s p report
 WhereChecking (Some (Work number count)) P = Unit {0}
+WhereChecking (Some (Desk s script)) P = Unit {0}
 
 -- the number and the count of a command that sums up a workload have this
 abbrev pub WhereWorking : Option Command → (ℕ → ℕ → Type 0) → Type 0
@@ -88,6 +96,17 @@ WhereWorking (Some (Fund s p job)) P = Unit {0}
 WhereWorking (Some (Resume s p job)) P = Unit {0}
 WhereWorking (Some (Check s p report)) P = Unit {0}
 WhereWorking (Some (Work number count)) P = P number count
+WhereWorking (Some (Desk s script)) P = Unit {0}
+
+-- the files of a command that runs a script at a desk have this
+abbrev pub WhereDesk : Option Command → (Sources → List ℕ → Type 0) → Type 0
+WhereDesk None P = Unit {0}
+WhereDesk (Some (Coins s)) P = Unit {0}
+WhereDesk (Some (Fund s p job)) P = Unit {0}
+WhereDesk (Some (Resume s p job)) P = Unit {0}
+WhereDesk (Some (Check s p report)) P = Unit {0}
+WhereDesk (Some (Work number count)) P = Unit {0}
+WhereDesk (Some (Desk s script)) P = P s script
 
 -- the job that a command names
 abbrev pub job_of : Command → Option (List ℕ)
@@ -96,32 +115,36 @@ job_of (Fund s p job) = job
 job_of (Resume s p job) = Some job
 job_of (Check s p report) = None
 job_of (Work number count) = None
+job_of (Desk s script) = None
 
 -- ---- by the status
 
--- done: a listing, a payment with its log, a report that is accepted, or the summary of a payment
+-- done: a listing, a payment with its log, a report that is accepted, the summary of a payment, or the replies of a desk
 abbrev pub EndsDone : Type 0 → Type 0 → Type 0 → Command → ShelfView → ShelfView → SinkView → SinkView → KeeperView → Type 0
 EndsDone told_files told told_jobs (Coins s) shelf shelf' sink sink' keeper = listings.EndsListed told_files told s shelf sink sink'
 EndsDone told_files told told_jobs (Fund s p job) shelf shelf' sink sink' keeper = payments.EndsFunded told_files told s p shelf shelf' sink sink'
 EndsDone told_files told told_jobs (Resume s p job) shelf shelf' sink sink' keeper = resumes.EndsFunded told_files told told_jobs s p job shelf shelf' sink sink' keeper
 EndsDone told_files told told_jobs (Check s p report) shelf shelf' sink sink' keeper = checks.EndsAccepted told_files told s p report shelf sink sink'
 EndsDone told_files told told_jobs (Work number count) shelf shelf' sink sink' keeper = loads.EndsSummed told number count statuses.Done sink sink'
+EndsDone told_files told told_jobs (Desk s script) shelf shelf' sink sink' keeper = desks.EndsRunning told_files told s script shelf shelf' sink sink' statuses.Done
 
--- no selection, which no listing and no check ends with
+-- no selection, which no listing, no check and no desk ends with
 abbrev pub EndsNotFunded : Type 0 → Type 0 → Type 0 → Command → ShelfView → ShelfView → SinkView → SinkView → KeeperView → Type 0
 EndsNotFunded told_files told told_jobs (Coins s) shelf shelf' sink sink' keeper = ⊥
 EndsNotFunded told_files told told_jobs (Fund s p job) shelf shelf' sink sink' keeper = payments.EndsNotFunded told_files told s p shelf shelf' sink sink'
 EndsNotFunded told_files told told_jobs (Resume s p job) shelf shelf' sink sink' keeper = resumes.EndsNotFunded told_files told told_jobs s p job shelf shelf' sink sink' keeper
 EndsNotFunded told_files told told_jobs (Check s p report) shelf shelf' sink sink' keeper = ⊥
 EndsNotFunded told_files told told_jobs (Work number count) shelf shelf' sink sink' keeper = loads.EndsSummed told number count statuses.NoSelection sink sink'
+EndsNotFunded told_files told told_jobs (Desk s script) shelf shelf' sink sink' keeper = ⊥
 
--- unfinished, which no listing and no check ends with
+-- unfinished, which no listing, no check and no desk ends with
 abbrev pub EndsUnfinished : Type 0 → Type 0 → Type 0 → Command → ShelfView → ShelfView → SinkView → SinkView → KeeperView → KeeperView → Type 0
 EndsUnfinished told_files told told_jobs (Coins s) shelf shelf' sink sink' keeper keeper' = ⊥
 EndsUnfinished told_files told told_jobs (Fund s p job) shelf shelf' sink sink' keeper keeper' = payments.EndsUnfinished told_files told told_jobs s p job shelf shelf' sink sink' keeper keeper'
 EndsUnfinished told_files told told_jobs (Resume s p job) shelf shelf' sink sink' keeper keeper' = resumes.EndsUnfinished told_files told told_jobs s p job shelf shelf' sink sink' keeper keeper'
 EndsUnfinished told_files told told_jobs (Check s p report) shelf shelf' sink sink' keeper keeper' = ⊥
 EndsUnfinished told_files told told_jobs (Work number count) shelf shelf' sink sink' keeper keeper' = loads.EndsSummed told number count statuses.Unfinished sink sink'
+EndsUnfinished told_files told told_jobs (Desk s script) shelf shelf' sink sink' keeper keeper' = ⊥
 
 -- a rule of the input that a file breaks, or what it asks for, with its line
 abbrev pub EndsInput : Type 0 → Type 0 → Command → ShelfView → SinkView → SinkView → Type 0
@@ -130,14 +153,16 @@ EndsInput told_files told (Fund s p job) shelf sink sink' = payments.EndsRefused
 EndsInput told_files told (Resume s p job) shelf sink sink' = payments.EndsRefused statuses.Input told_files told s p shelf sink sink'
 EndsInput told_files told (Check s p report) shelf sink sink' = payments.EndsRefused statuses.Input told_files told s p shelf sink sink'
 EndsInput told_files told (Work number count) shelf sink sink' = loads.EndsRefused statuses.Input told number count sink sink'
+EndsInput told_files told (Desk s script) shelf sink sink' = desk_endings.EndsRefused statuses.Input told_files told s shelf sink sink'
 
--- a limit: of a file, of one that is judged too or, where a job is gone on with, of the job
-abbrev pub EndsLimited : Type 0 → Type 0 → Type 0 → Command → ShelfView → SinkView → SinkView → KeeperView → Type 0
-EndsLimited told_files told told_jobs (Coins s) shelf sink sink' keeper = listings.EndsRefused statuses.Limit told_files told s shelf sink sink'
-EndsLimited told_files told told_jobs (Fund s p job) shelf sink sink' keeper = payments.EndsRefused statuses.Limit told_files told s p shelf sink sink'
-EndsLimited told_files told told_jobs (Resume s p job) shelf sink sink' keeper = resumes.EndsLimited told_files told told_jobs s p job shelf sink sink' keeper
-EndsLimited told_files told told_jobs (Check s p report) shelf sink sink' keeper = checks.EndsLimited told_files told s p report shelf sink sink'
-EndsLimited told_files told told_jobs (Work number count) shelf sink sink' keeper = loads.EndsRefused statuses.Limit told number count sink sink'
+-- a limit: of a file, of one that is judged or that a line of a script names too or, where a job is gone on with, of the job
+abbrev pub EndsLimited : Type 0 → Type 0 → Type 0 → Command → ShelfView → ShelfView → SinkView → SinkView → KeeperView → Type 0
+EndsLimited told_files told told_jobs (Coins s) shelf shelf' sink sink' keeper = listings.EndsRefused statuses.Limit told_files told s shelf sink sink'
+EndsLimited told_files told told_jobs (Fund s p job) shelf shelf' sink sink' keeper = payments.EndsRefused statuses.Limit told_files told s p shelf sink sink'
+EndsLimited told_files told told_jobs (Resume s p job) shelf shelf' sink sink' keeper = resumes.EndsLimited told_files told told_jobs s p job shelf sink sink' keeper
+EndsLimited told_files told told_jobs (Check s p report) shelf shelf' sink sink' keeper = checks.EndsLimited told_files told s p report shelf sink sink'
+EndsLimited told_files told told_jobs (Work number count) shelf shelf' sink sink' keeper = loads.EndsRefused statuses.Limit told number count sink sink'
+EndsLimited told_files told told_jobs (Desk s script) shelf shelf' sink sink' keeper = desks.Ends told_files told s script shelf shelf' sink sink' statuses.Limit
 
 -- the kept job is refused for a fault of its own
 abbrev pub EndsNotKept : Type 0 → Type 0 → Type 0 → Command → ShelfView → SinkView → SinkView → KeeperView → Type 0
@@ -146,6 +171,7 @@ EndsNotKept told_files told told_jobs (Fund s p job) shelf sink sink' keeper = �
 EndsNotKept told_files told told_jobs (Resume s p job) shelf sink sink' keeper = resumes.EndsNotKept statuses.Saved told_files told told_jobs s p job shelf sink sink' keeper
 EndsNotKept told_files told told_jobs (Check s p report) shelf sink sink' keeper = ⊥
 EndsNotKept told_files told told_jobs (Work number count) shelf sink sink' keeper = ⊥
+EndsNotKept told_files told told_jobs (Desk s script) shelf sink sink' keeper = ⊥
 
 -- a report that isn't accepted, and the first rule that it breaks; no other command ends so
 abbrev pub EndsBroken : Type 0 → Type 0 → Command → ShelfView → SinkView → SinkView → Type 0
@@ -154,6 +180,7 @@ EndsBroken told_files told (Fund s p job) shelf sink sink' = ⊥
 EndsBroken told_files told (Resume s p job) shelf sink sink' = ⊥
 EndsBroken told_files told (Check s p report) shelf sink sink' = checks.EndsBroken told_files told s p report shelf sink sink'
 EndsBroken told_files told (Work number count) shelf sink sink' = ⊥
+EndsBroken told_files told (Desk s script) shelf sink sink' = ⊥
 
 -- a file of the command wasn't read, those before it being in order, and the line names it
 abbrev pub EndsUnread : Type 0 → Type 0 → Command → ShelfView → ShelfView → SinkView → SinkView → Type 0
@@ -162,6 +189,7 @@ EndsUnread told_files told (Fund s p job) shelf shelf' sink sink' = payments.End
 EndsUnread told_files told (Resume s p job) shelf shelf' sink sink' = payments.EndsUnread told_files told s p shelf shelf' sink sink'
 EndsUnread told_files told (Check s p report) shelf shelf' sink sink' = checks.EndsUnread told_files told s p report shelf shelf' sink sink'
 EndsUnread told_files told (Work number count) shelf shelf' sink sink' = ⊥
+EndsUnread told_files told (Desk s script) shelf shelf' sink sink' = desks.Ends told_files told s script shelf shelf' sink sink' statuses.ReadFault
 
 -- the keeper failed: where a job is gone on with, or where a payment has a job and its run is unfinished
 abbrev pub EndsUnkept : Type 0 → Type 0 → Command → ShelfView → SinkView → SinkView → KeeperView → KeeperView → Type 0
@@ -170,6 +198,7 @@ EndsUnkept told_files told (Fund s p job) shelf sink sink' keeper keeper' = paym
 EndsUnkept told_files told (Resume s p job) shelf sink sink' keeper keeper' = resumes.EndsUnkept told_files told s p shelf sink sink' keeper keeper'
 EndsUnkept told_files told (Check s p report) shelf sink sink' keeper keeper' = ⊥
 EndsUnkept told_files told (Work number count) shelf sink sink' keeper keeper' = ⊥
+EndsUnkept told_files told (Desk s script) shelf sink sink' keeper keeper' = ⊥
 
 -- nothing is refused, and the log wasn't written, or the sink failed and has got a part of what is due
 abbrev pub EndsUnwritten : Type 0 → Type 0 → Type 0 → Command → ShelfView → ShelfView → SinkView → SinkView → KeeperView → KeeperView → Type 0
@@ -178,6 +207,7 @@ EndsUnwritten told_files told told_jobs (Fund s p job) shelf shelf' sink sink' k
 EndsUnwritten told_files told told_jobs (Resume s p job) shelf shelf' sink sink' keeper keeper' = resumes.EndsUnwritten told_files told told_jobs s p job shelf shelf' sink sink' keeper keeper'
 EndsUnwritten told_files told told_jobs (Check s p report) shelf shelf' sink sink' keeper keeper' = checks.EndsUnwritten told_files told s p report shelf sink sink'
 EndsUnwritten told_files told told_jobs (Work number count) shelf shelf' sink sink' keeper keeper' = loads.EndsUnwritten told number count sink sink'
+EndsUnwritten told_files told told_jobs (Desk s script) shelf shelf' sink sink' keeper keeper' = desks.EndsRunning told_files told s script shelf shelf' sink sink' statuses.WriteFault
 
 -- there was not enough memory, and the line says so, or the sink found none and has got a part of what is due
 abbrev pub EndsWithoutMemory : Type 0 → Type 0 → Type 0 → Command → ShelfView → ShelfView → SinkView → SinkView → KeeperView → KeeperView → Type 0
@@ -186,6 +216,7 @@ EndsWithoutMemory told_files told told_jobs (Fund s p job) shelf shelf' sink sin
 EndsWithoutMemory told_files told told_jobs (Resume s p job) shelf shelf' sink sink' keeper keeper' = resumes.EndsWithoutMemory told_files told told_jobs s p job shelf shelf' sink sink' keeper keeper'
 EndsWithoutMemory told_files told told_jobs (Check s p report) shelf shelf' sink sink' keeper keeper' = checks.EndsWithoutMemory told_files told s p report shelf sink sink'
 EndsWithoutMemory told_files told told_jobs (Work number count) shelf shelf' sink sink' keeper keeper' = loads.EndsWithoutMemory told number count sink sink'
+EndsWithoutMemory told_files told told_jobs (Desk s script) shelf shelf' sink sink' keeper keeper' = desks.Ends told_files told s script shelf shelf' sink sink' statuses.Memory
 
 abbrev pub Ends : Type 0 → Type 0 → Type 0 → Command → ShelfView → ShelfView → SinkView → SinkView → KeeperView → KeeperView → Status → Type 0
 Ends told_files told told_jobs c shelf shelf' sink sink' keeper keeper' statuses.Done = EndsDone told_files told told_jobs c shelf shelf' sink sink' keeper
@@ -193,7 +224,7 @@ Ends told_files told told_jobs c shelf shelf' sink sink' keeper keeper' statuses
 Ends told_files told told_jobs c shelf shelf' sink sink' keeper keeper' statuses.Unfinished = EndsUnfinished told_files told told_jobs c shelf shelf' sink sink' keeper keeper'
 Ends told_files told told_jobs c shelf shelf' sink sink' keeper keeper' statuses.Usage = ⊥
 Ends told_files told told_jobs c shelf shelf' sink sink' keeper keeper' statuses.Input = EndsInput told_files told c shelf sink sink'
-Ends told_files told told_jobs c shelf shelf' sink sink' keeper keeper' statuses.Limit = EndsLimited told_files told told_jobs c shelf sink sink' keeper
+Ends told_files told told_jobs c shelf shelf' sink sink' keeper keeper' statuses.Limit = EndsLimited told_files told told_jobs c shelf shelf' sink sink' keeper
 Ends told_files told told_jobs c shelf shelf' sink sink' keeper keeper' statuses.ReadFault = EndsUnread told_files told c shelf shelf' sink sink'
 Ends told_files told told_jobs c shelf shelf' sink sink' keeper keeper' statuses.WriteFault = EndsUnwritten told_files told told_jobs c shelf shelf' sink sink' keeper keeper'
 Ends told_files told told_jobs c shelf shelf' sink sink' keeper keeper' statuses.KeepFault = EndsUnkept told_files told c shelf sink sink' keeper keeper'
@@ -210,6 +241,7 @@ KeepsOthers (Fund s p job) old new = SameElsewhere p.log old new
 KeepsOthers (Resume s p job) old new = SameElsewhere p.log old new
 KeepsOthers (Check s p report) old new = new ≡ old
 KeepsOthers (Work number count) old new = new ≡ old
+KeepsOthers (Desk s script) old new = new ≡ old
 
 -- ---- where nothing failed
 
@@ -220,6 +252,7 @@ NoneUnread (Fund s p job) shelf shelf' = (file : File) → inputs.IsUnread s p f
 NoneUnread (Resume s p job) shelf shelf' = (file : File) → inputs.IsUnread s p file shelf shelf' → ⊥
 NoneUnread (Check s p report) shelf shelf' = checks.NoneUnread s p report shelf shelf'
 NoneUnread (Work number count) shelf shelf' = Unit {0}
+NoneUnread (Desk s script) shelf shelf' = desks.NoneUnread s script shelf shelf'
 
 -- where a job is refused, the jobs are told, and the keeper didn't fail
 abbrev pub NoneUnkept : (told_jobs : Type 0) → Outcome → KeeperView → KeeperView → Type 0
@@ -233,6 +266,7 @@ IsLogUnwritten (Fund s p job) shelf shelf' = Rose (shelf.writes p.log) (shelf'.w
 IsLogUnwritten (Resume s p job) shelf shelf' = Rose (shelf.writes p.log) (shelf'.writes p.log)
 IsLogUnwritten (Check s p report) shelf shelf' = ⊥
 IsLogUnwritten (Work number count) shelf shelf' = ⊥
+IsLogUnwritten (Desk s script) shelf shelf' = ⊥
 
 -- no read failed, nor did a write of the log, nor the sink, nor the keeper
 pub record NoneFailed (c : Command) (shelf shelf' : ShelfView) (sink sink' : SinkView) (keeper keeper' : KeeperView) : Type 0 where

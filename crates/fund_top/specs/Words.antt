@@ -7,13 +7,14 @@ use Rattle.command_end.specs.Names.{Sources}
 use Rattle.command_fund.specs.Names.{Payment}
 
 -- to list payments and coins; to fund a payment, with a job to keep it as where it isn't finished; to go on with a job; to
--- check the report of a payment; or to fund one from a workload
+-- check the report of a payment; to fund one from a workload; or to run a script at a desk
 pub data Command : Type 0 where
   Coins : Sources → Command
   Fund : Sources → Payment → (job : Option (List ℕ)) → Command
   Resume : Sources → Payment → (job : List ℕ) → Command
   Check : Sources → Payment → (report : List ℕ) → Command
   Work : (number count : ℕ) → Command
+  Desk : Sources → (script : List ℕ) → Command
 
 -- no name is empty
 abbrev pub are_named : Sources → Bool
@@ -59,6 +60,10 @@ abbrev pub check_of : (wallet blocks request report log : List ℕ) → Option C
 check_of wallet blocks request report log =
     where_stands (are_judged (record { wallet = wallet; blocks = blocks }) (record { request = request; log = log }) report) (Check (record { wallet = wallet; blocks = blocks }) (record { request = request; log = log }) report)
 
+-- a desk of files, where their names stand
+abbrev pub desk_of : (wallet blocks script : List ℕ) → Option Command
+desk_of wallet blocks script = where_stands (are_named (record { wallet = wallet; blocks = blocks }) && nat_lt 0 (length script)) (Desk (record { wallet = wallet; blocks = blocks }) script)
+
 -- a workload of some coins, of two numbers that were read
 abbrev pub work_by : Option ℕ → Option ℕ → Option Command
 work_by None count = None
@@ -77,6 +82,7 @@ IsInRange (Fund s p job) = Unit {0}
 IsInRange (Resume s p job) = Unit {0}
 IsInRange (Check s p report) = Unit {0}
 IsInRange (Work number count) = (1 ≤ count) × (count ≤ 10_000)
+IsInRange (Desk s script) = Unit {0}
 
 -- a command with a job, by its verb
 abbrev pub job_command : Sources → Payment → (verb job : List ℕ) → Option Command
@@ -85,13 +91,15 @@ job_command s p verb job =
     then where_stands (names_stand s p && is_job job) (Fund s p (Some job))
     else (if bytes_eq verb (codes "resume") then where_stands (names_stand s p && is_job job) (Resume s p job) else None)
 
--- the command that the words are: coins WALLET BLOCKS, work NUMBER COUNT, fund WALLET BLOCKS REQUEST LOG, with or without a
--- JOB, resume WALLET BLOCKS REQUEST LOG JOB, or check WALLET BLOCKS REQUEST REPORT LOG
+-- the command that the words are: coins WALLET BLOCKS, work NUMBER COUNT, desk WALLET BLOCKS SCRIPT, fund WALLET BLOCKS
+-- REQUEST LOG, with or without a JOB, resume WALLET BLOCKS REQUEST LOG JOB, or check WALLET BLOCKS REQUEST REPORT LOG
 abbrev pub command_of : List (String Global) → Option Command
 command_of (verb ∷ first ∷ second ∷ []) =
     if bytes_eq (string_bytes verb) (codes "coins")
     then listing_of (string_bytes first) (string_bytes second)
     else if bytes_eq (string_bytes verb) (codes "work") then work_of (string_bytes first) (string_bytes second) else None
+command_of (verb ∷ wallet ∷ blocks ∷ script ∷ []) =
+    if bytes_eq (string_bytes verb) (codes "desk") then desk_of (string_bytes wallet) (string_bytes blocks) (string_bytes script) else None
 command_of (verb ∷ wallet ∷ blocks ∷ request ∷ log ∷ []) =
     if bytes_eq (string_bytes verb) (codes "fund")
     then where_stands (names_stand (sources wallet blocks) (payment request log)) (Fund (sources wallet blocks) (payment request log) None)

@@ -15,6 +15,7 @@ ghost use Rattle.fund_files.specs.Contents.{HasChain};
 ghost use Rattle.fund_payment.specs.Report.{report_of};
 ghost use Rattle.command_end.specs.Names.{Sources};
 ghost use Rattle.command_check.specs.Due as checks;
+ghost use Rattle.command_desk.specs.Due as desks;
 ghost use Rattle.command_coins.specs.Due.{listing_in};
 ghost use Rattle.command_fund.specs.Cause.{Cause};
 ghost use Rattle.command_fund.specs.Due.{log_text_at, none_report_at, open_report_at, plan_of};
@@ -29,15 +30,15 @@ ghost use Rattle.command_end.specs.declared.status.Status.TheVariants as statuse
 ghost use Rattle.command_fund.specs.Due as dues;
 ghost use Rattle.command_resume.specs.Due.{IsGone, IsNotKept};
 ghost use Rattle.command_work.specs.Due.{load_of, load_plan};
-ghost use Rattle.fund_top.specs.Due.{Refused, NotKept, Listed, Unfinished, NoSelection, Funded, Summed, ComesTo, IsMeant, Outcome, check_outcome, payment_outcome};
-ghost use Rattle.fund_top.specs.Words.{Command, Coins, Fund, Resume, Check, Work, command_of};
+ghost use Rattle.fund_top.specs.Due.{Refused, NotKept, Listed, Unfinished, NoSelection, Funded, Summed, ComesTo, IsMeant, Outcome, check_outcome, desk_outcome, payment_outcome};
+ghost use Rattle.fund_top.specs.Words.{Command, Coins, Fund, Resume, Check, Work, Desk, command_of};
 
 /// The law of what the files of a command and the jobs of a keeper come to: to one outcome at most. A cause for a refusal which
 /// the files mean is what they come to. Where they hold a wallet and blocks, they come to the listing of these; and where they
 /// hold a request too, of which the plan keeps its rules, to what that plan comes to with the request's tries. Where a job is
 /// gone on with, they come to its fault, or to what the plan comes to that goes on from it. What a report comes to that is
 /// checked, its command comes to. A workload of which no two transactions have one txid comes to the summary of what its plan
-/// comes to. A call does nothing.
+/// comes to; and so does what a script comes to at a desk. A call does nothing.
 pub fn outcomes_are_due()
     ensures one { (files : List ℕ → List ℕ) (jobs : List ℕ → Option KeptJob) (c : Command) (a b : Outcome) → ComesTo files jobs c a → ComesTo files jobs c b → a ≡ b }
     ensures refused { (files : List ℕ → List ℕ) (jobs : List ℕ → Option KeptJob) (c : Command) (cause : Cause) → IsMeant files c cause → ComesTo files jobs c (Refused cause) }
@@ -48,6 +49,7 @@ pub fn outcomes_are_due()
     ensures gone { (files : List ℕ → List ℕ) (jobs : List ℕ → Option KeptJob) (s : Sources) (p : Payment) (job : List ℕ) (due : dues.Outcome) → IsGone files s p (jobs job) due → ComesTo files jobs (Resume s p job) (payment_outcome due) }
     ensures not_kept { (files : List ℕ → List ℕ) (jobs : List ℕ → Option KeptJob) (s : Sources) (p : Payment) (job : List ℕ) (fault : KeptFault) → IsNotKept files s p (jobs job) fault → ComesTo files jobs (Resume s p job) (NotKept fault) }
     ensures judged { (files : List ℕ → List ℕ) (jobs : List ℕ → Option KeptJob) (s : Sources) (p : Payment) (report : List ℕ) (due : checks.Outcome) → checks.ComesTo files s p report due → ComesTo files jobs (Check s p report) (check_outcome due) }
+    ensures ran { (files : List ℕ → List ℕ) (jobs : List ℕ → Option KeptJob) (s : Sources) (script : List ℕ) → ComesTo files jobs (Desk s script) (desk_outcome (desks.due_of files s script)) }
     ensures summed { (files : List ℕ → List ℕ) (jobs : List ℕ → Option KeptJob) (number count : ℕ) (f : PlainFunded) → 1 ≤ count → count ≤ 10_000 → AreDistinctEarlier (earlier_of number count) → outcome_at (load_plan number count) 100_000 ≡ answers.Funded f → ComesTo files jobs (Work number count) (Summed statuses.Done (summary_text number count (report_of (load_of number count).book (request_of number count) (wallet_of number count).change (tries_at (load_plan number count) 100_000) f))) }
     ensures summed_none { (files : List ℕ → List ℕ) (jobs : List ℕ → Option KeptJob) (number count : ℕ) → 1 ≤ count → count ≤ 10_000 → AreDistinctEarlier (earlier_of number count) → outcome_at (load_plan number count) 100_000 ≡ answers.NoSelection → ComesTo files jobs (Work number count) (Summed statuses.NoSelection (summary_text number count (none_report_at (load_plan number count) 100_000))) }
     ensures summed_open { (files : List ℕ → List ℕ) (jobs : List ℕ → Option KeptJob) (number count : ℕ) → 1 ≤ count → count ≤ 10_000 → AreDistinctEarlier (earlier_of number count) → outcome_at (load_plan number count) 100_000 ≡ answers.Unfinished → ComesTo files jobs (Work number count) (Summed statuses.Unfinished (summary_text number count (open_report_at (load_plan number count) 100_000))) }

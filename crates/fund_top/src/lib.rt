@@ -1,6 +1,6 @@
 //! The commands of Ninelace, from their words to their status: they list the payments and the coins of a wallet, fund a
-//! payment, go on with a kept one, check the report of one, or fund one from a made-up wallet and sum that up. Each command is
-//! a crate; here is which one the words ask for, and what is true of all.
+//! payment, go on with a kept one, check the report of one, fund one from a made-up wallet and sum that up, or run a script at a
+//! desk. Each command is a crate; here is which one the words ask for, and what is true of all.
 #![tactic(auto)]
 
 mod laws;

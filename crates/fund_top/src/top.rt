@@ -4,6 +4,7 @@ ghost use Rattle.std.specs.Prelude.{◌≡◌, ◌≢◌, ◌↔◌, ◌⊎◌, 
 ghost use Rattle.command_end.specs.Lines.{GotLine, fault_line};
 ghost use Rattle.command_check.specs.Statuses.{EndsAccepted};
 ghost use Rattle.command_coins.specs.Statuses.{EndsListed};
+ghost use Rattle.command_desk.specs.Statuses.{EndsRunning};
 ghost use Rattle.command_fund.specs.Inputs.{AsksInOrder};
 ghost use Rattle.command_fund.specs.Jobs.{KeepsJobs};
 ghost use Rattle.command_fund.specs.Statuses.{EndsFunded, IsBeforeTheLog, IsOfTheFiles};
@@ -12,12 +13,13 @@ ghost use Rattle.fund_top.specs.Asked.{AsksFor};
 ghost use Rattle.fund_top.specs.Command.{plain};
 ghost use Rattle.command_work.specs.Statuses.{EndsSummed};
 ghost use Rattle.fund_top.specs.Due.{ComesTo, IsRefusal, IsTold, Outcome};
-ghost use Rattle.fund_top.specs.Statuses.{Ends, EndsBroken, EndsInput, EndsLimited, EndsNotFunded, EndsNotKept, EndsUnfinished, EndsUnkept, EndsUnread, EndsUnwritten, EndsWithoutMemory, GoesOnUninterrupted, KeepsOthers, NoneFailed, NoneUnkept, NoneUnread, WhereChecking, WhereFunding, WhereListing, WhereResuming, WhereWorking, job_of, status_of};
+ghost use Rattle.fund_top.specs.Statuses.{Ends, EndsBroken, EndsInput, EndsLimited, EndsNotFunded, EndsNotKept, EndsUnfinished, EndsUnkept, EndsUnread, EndsUnwritten, EndsWithoutMemory, GoesOnUninterrupted, KeepsOthers, NoneFailed, NoneUnkept, NoneUnread, WhereChecking, WhereDesk, WhereFunding, WhereListing, WhereResuming, WhereWorking, job_of, status_of};
 ghost use Rattle.fund_top.specs.Words.{IsInRange, command_of};
 
 use crate::words::{Command, parse};
 use command_check::check;
 use command_coins::coins;
+use command_desk::desk;
 use command_end::{Status, put_line};
 use command_fund::fund;
 use command_resume::resume;
@@ -46,6 +48,7 @@ fn act<H: Shelf, O: Sink, K: Keeper>(
     ensures asked { H.tells → AsksFor (plain command.now) (H.view shelf.old) (H.view shelf.new) }
     ensures read_once { H.tells → IsOfTheFiles result → WhereFunding (Some (plain command.now)) (λ s p. AsksInOrder s p (H.view shelf.old) (H.view shelf.new)) }
     ensures unfailed { result ≢ Status.KeepFault → (K.view keeper.new).faults ≡ (K.view keeper.old).faults }
+    ensures all_read { result ≢ Status.ReadFault → (H.view shelf.new).reads ≡ (H.view shelf.old).reads }
 {
     match command {
         Command::Coins(sources) => coins(alloc, sources, shelf, out),
@@ -59,6 +62,7 @@ fn act<H: Shelf, O: Sink, K: Keeper>(
             check(alloc, sources, payment, report, shelf, out)
         }
         Command::Work(number, count) => work(alloc, *number, *count, out),
+        Command::Desk(sources, script) => desk(alloc, sources, script, shelf, out),
     }
 }
 
@@ -75,6 +79,8 @@ fn act<H: Shelf, O: Sink, K: Keeper>(
 ///   report is accepted, and its first line.
 /// - `work NUMBER COUNT` makes a wallet of COUNT coins and a request from the number, funds a payment from them, and prints
 ///   the summary of that run.
+/// - `desk WALLET BLOCKS SCRIPT` reads three files, and does the lines of the script at the desk of the wallet: the reply to each
+///   is printed before the file is read that the next line names.
 ///
 /// What is refused gets its fault line. Whatever the files and the keeper hold, a payment spends only coins that may be spent,
 /// and pays each recipient exactly and at least the fee. One that is marked exhausted is the best of all that are admissible in
@@ -124,14 +130,18 @@ pub fn run<H: Shelf, O: Sink, K: Keeper>(
     // of its report is printed, and nothing else.
     ensures summed { result ≡ Status.Done → WhereWorking (command_of words.now.items) (λ number count. EndsSummed O.tells number count Status.Done (O.view out.old) (O.view out.new)) }
 
+    // Done, where a script is run at a desk: what is printed is the machine's reply to each of its lines, and nothing else.
+    ensures replied { result ≡ Status.Done → WhereDesk (command_of words.now.items) (λ s script. EndsRunning H.tells O.tells s script (H.view shelf.old) (H.view shelf.new) (O.view out.old) (O.view out.new) Status.Done) }
+
     // Refusals: of the first rule that a file breaks; then of the first that a kept job breaks, or a report that is checked.
     ensures input { result ≡ Status.Input → IfSome (command_of words.now.items) (λ c. EndsInput H.tells O.tells c (H.view shelf.old) (O.view out.old) (O.view out.new)) }
-    ensures limit { result ≡ Status.Limit → IfSome (command_of words.now.items) (λ c. EndsLimited H.tells O.tells K.tells c (H.view shelf.old) (O.view out.old) (O.view out.new) (K.view keeper.old)) }
+    ensures limit { result ≡ Status.Limit → IfSome (command_of words.now.items) (λ c. EndsLimited H.tells O.tells K.tells c (H.view shelf.old) (H.view shelf.new) (O.view out.old) (O.view out.new) (K.view keeper.old)) }
     ensures saved { result ≡ Status.Saved → IfSome (command_of words.now.items) (λ c. EndsNotKept H.tells O.tells K.tells c (H.view shelf.old) (O.view out.old) (O.view out.new) (K.view keeper.old)) }
     ensures check_refused { result ≡ Status.CheckRefused → IfSome (command_of words.now.items) (λ c. EndsBroken H.tells O.tells c (H.view shelf.old) (O.view out.old) (O.view out.new)) }
 
-    // Faults: only where a count rose. A failure of the keeper is told as that, and as nothing else.
+    // Faults: only where a count rose. A failure of a read or of the keeper is told as that, and as nothing else.
     ensures read_fault { result ≡ Status.ReadFault → IfSome (command_of words.now.items) (λ c. EndsUnread H.tells O.tells c (H.view shelf.old) (H.view shelf.new) (O.view out.old) (O.view out.new)) }
+    ensures all_read { result ≢ Status.ReadFault → (H.view shelf.new).reads ≡ (H.view shelf.old).reads }
     ensures write_fault { result ≡ Status.WriteFault → IfSome (command_of words.now.items) (λ c. EndsUnwritten H.tells O.tells K.tells c (H.view shelf.old) (H.view shelf.new) (O.view out.old) (O.view out.new) (K.view keeper.old) (K.view keeper.new)) }
     ensures keep_fault { result ≡ Status.KeepFault → IfSome (command_of words.now.items) (λ c. EndsUnkept H.tells O.tells c (H.view shelf.old) (O.view out.old) (O.view out.new) (K.view keeper.old) (K.view keeper.new)) }
     ensures unfailed { result ≢ Status.KeepFault → (K.view keeper.new).faults ≡ (K.view keeper.old).faults }

@@ -5,7 +5,7 @@ ghost use Rattle.std.specs.List.{list_all};
 ghost use Rattle.command_end.specs.Names.{plain_sources};
 ghost use Rattle.command_fund.specs.Names.{plain_payment};
 ghost use Rattle.fund_top.specs.Command.{plain};
-ghost use Rattle.fund_top.specs.Words.{IsInRange, are_judged, are_named, check_of, command_of, is_job, is_job_byte, job_command, listing_of, names_stand, work_of};
+ghost use Rattle.fund_top.specs.Words.{IsInRange, are_judged, are_named, check_of, command_of, desk_of, is_job, is_job_byte, job_command, listing_of, names_stand, work_of};
 
 use command_end::Sources;
 use command_fund::Payment;
@@ -24,6 +24,8 @@ pub enum Command<'a> {
     Check(Sources<'a>, Payment<'a>, &'a str),
     /// To fund a payment from the workload of a number and a count of coins, and to sum it up.
     Work(u64, u32),
+    /// To run the script, which is the file of this name, at the desk of a wallet.
+    Desk(Sources<'a>, &'a str),
 }
 
 /// The greatest number of a workload.
@@ -147,9 +149,22 @@ fn check_in<'a>(
     }
 }
 
-/// The command that the words are, which is `coins WALLET BLOCKS`, `work NUMBER COUNT`, `fund WALLET BLOCKS REQUEST LOG`, with
-/// or without a `JOB`, `resume WALLET BLOCKS REQUEST LOG JOB` or `check WALLET BLOCKS REQUEST REPORT LOG`. A `JOB` is 1 to 32
-/// digits, letters and hyphens of ASCII.
+/// The desk of the files of these names, where none is empty.
+fn desk_in<'a>(wallet: &'a str, blocks: &'a str, script: &'a str) -> Option<Command<'a>>
+    ensures command { option_map plain result ≡ desk_of wallet.now blocks.now script.now }
+    ensures range { IfSome result (λ c. IsInRange (plain c)) }
+{
+    let sources = Sources { wallet, blocks };
+    if are_named(&sources) && !script.is_empty() {
+        Some(Command::Desk(sources, script))
+    } else {
+        None
+    }
+}
+
+/// The command that the words are, which is `coins WALLET BLOCKS`, `work NUMBER COUNT`, `desk WALLET BLOCKS SCRIPT`, `fund
+/// WALLET BLOCKS REQUEST LOG`, with or without a `JOB`, `resume WALLET BLOCKS REQUEST LOG JOB` or `check WALLET BLOCKS REQUEST
+/// REPORT LOG`. A `JOB` is 1 to 32 digits, letters and hyphens of ASCII.
 pub fn parse(words: &[String]) -> Option<Command<'_>>
     ensures command { option_map plain result ≡ command_of words.now }
     ensures range { IfSome result (λ c. IsInRange (plain c)) }
@@ -160,6 +175,13 @@ pub fn parse(words: &[String]) -> Option<Command<'_>>
                 listing_in(first.as_str(), second.as_str())
             } else if verb.as_str() == "work" {
                 load_in(first.as_str(), second.as_str())
+            } else {
+                None
+            }
+        }
+        [verb, wallet, blocks, script] => {
+            if verb.as_str() == "desk" {
+                desk_in(wallet.as_str(), blocks.as_str(), script.as_str())
             } else {
                 None
             }

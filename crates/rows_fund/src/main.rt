@@ -1,6 +1,6 @@
 //! Does the command of each pair of words, a verb and a name, on files of that name, and prints what was printed, the
 //! status and the log of a payment. `keep` is `fund` with a job of that name, and `resume` goes on with it; both by a keeper
-//! made anew, over the job file. What it must print was worked out apart from this program.
+//! made anew, over the job file. `desk` runs a script. What it must print was worked out apart from this program.
 #![tactic(auto)]
 
 use fund_base::{FileShelf, StdSink, put_all, read_whole};
@@ -19,6 +19,10 @@ fn words(alloc: Global, verb: &str, name: &str) -> io::Result<Vec<String>> {
     words.push(String::from_str(alloc, command)?)?;
     words.push(format!(in alloc; "{}.wallet.json", name)?)?;
     words.push(format!(in alloc; "{}.blocks.dat", name)?)?;
+    if verb == "desk" {
+        words.push(format!(in alloc; "{}.script", name)?)?;
+        return Ok(words);
+    }
     if verb != "coins" {
         words.push(format!(in alloc; "{}.request.json", name)?)?;
         words.push(format!(in alloc; "{}.log", name)?)?;
@@ -51,7 +55,7 @@ fn main(rt: HostRuntime) -> io::Result<()> {
     let mut verb = String::from_str(alloc, "fund")?;
     for word in env::args(&rt)?.skip(1) {
         match word.as_str() {
-            "coins" | "fund" | "keep" | "resume" => verb = word,
+            "coins" | "fund" | "keep" | "resume" | "desk" => verb = word,
             name => {
                 println!(rt; "{name}")?;
                 let words = words(alloc, verb.as_str(), name)?;

@@ -39,3 +39,6 @@ returns-clause-judged c = λ files jobs s p report due d. (due, d, refl)
 
 pub returns-clause-one : goal.returns-clause-one
 returns-clause-one c = one_due
+
+pub returns-clause-ran : goal.returns-clause-ran
+returns-clause-ran c = λ files jobs s script. refl

@@ -3,7 +3,7 @@ use Rattle.fund_base.specs.SureShelf.{view_of as shelf_view}
 use Rattle.fund_base.specs.SureSink.{view_of as sink_view}
 use Rattle.fund_outside.specs.SureKeeper.{view_of as keeper_view}
 use Rattle.fund_top.specs.Words.{command_of}
-use Rattle.fund_top.proofs.SureLaws.{accepts, completes, funds, funds_not, funds_open, resumes_there, sums}
+use Rattle.fund_top.proofs.SureLaws.{accepts, completes, funds, funds_not, funds_open, replies, resumes_there, sums}
 use Rattle.fund_top.proofs.sure.run_in_memory.Goals as goal
 
 pub returns-clause-done : goal.returns-clause-done
@@ -31,3 +31,6 @@ pub returns-clause-complete : goal.returns-clause-complete
 returns-clause-complete c =
     completes (command_of c.args.words.now.items) (shelf_view c.args.shelf.now) (shelf_view c.run.new.shelf) (sink_view c.args.out.now) (sink_view c.run.new.out) (keeper_view c.args.keeper.now) (keeper_view c.run.new.keeper) c.run.result
     (record { reads = λ name. refl; writes = λ name. refl }) (record { reads = λ name. refl; writes = λ name. refl }) refl refl refl refl c.run.ensures.complete
+
+pub returns-clause-replied : goal.returns-clause-replied
+returns-clause-replied c = λ is. replies (command_of c.args.words.now.items) (shelf_view c.args.shelf.now) (shelf_view c.run.new.shelf) (sink_view c.args.out.now) (sink_view c.run.new.out) (c.run.ensures.replied is)

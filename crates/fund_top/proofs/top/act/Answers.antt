@@ -1,7 +1,7 @@
 use Rattle.command_end.specs.Names.{plain_sources}
 use Rattle.command_fund.specs.Names.{plain_job, plain_payment}
 use Rattle.fund_top.proofs.AskedLaws.{payment_asks}
-use Rattle.fund_top.proofs.CommandEnds.{check_ends, listing_ends, load_ends, payment_ends, resume_ends}
+use Rattle.fund_top.proofs.CommandEnds.{check_ends, desk_ends, listing_ends, load_ends, payment_ends, resume_ends}
 use Rattle.fund_top.proofs.top.act.Goals as goal
 
 pub returns-in-Coins-clause-ends : goal.returns-in-Coins-clause-ends
@@ -48,3 +48,11 @@ pub returns-in-Work-clause-ends : goal.returns-in-Work-clause-ends
 returns-in-Work-clause-ends g c =
     rw c.in-Work.is (load_ends g.H.Shelf.tells g.O.Sink.tells g.K.Keeper.tells c.in-Work.number c.in-Work.count (g.H.Shelf.view c.args.shelf.now) (g.H.Shelf.view c.args.shelf.now) (g.O.Sink.view c.args.out.now) (g.O.Sink.view c.work.new.out)
     (g.K.Keeper.view c.args.keeper.now) (g.K.Keeper.view c.args.keeper.now) c.work.result c.work.ensures.ends)
+
+pub returns-in-Desk-clause-ends : goal.returns-in-Desk-clause-ends
+returns-in-Desk-clause-ends g c =
+    rw c.in-Desk.is (desk_ends g.H.Shelf.tells g.O.Sink.tells g.K.Keeper.tells (plain_sources c.in-Desk.sources) c.in-Desk.script.now (g.H.Shelf.view c.args.shelf.now) (g.H.Shelf.view c.desk.new.shelf) (g.O.Sink.view c.args.out.now) (g.O.Sink.view c.desk.new.out)
+    (g.K.Keeper.view c.args.keeper.now) (g.K.Keeper.view c.args.keeper.now) c.desk.result c.desk.ensures.ends)
+
+pub returns-in-Desk-clause-asked : goal.returns-in-Desk-clause-asked
+returns-in-Desk-clause-asked g c = rw c.in-Desk.is (λ told. (c.desk.ensures.asked told, c.desk.ensures.none_behind told))

@@ -1,0 +1,10 @@
+pub mod ArmLaws
+pub mod CallLaws
+pub mod CourseLaws
+pub mod DueLaws
+pub mod EndsLaws
+pub mod HaltLaws
+pub mod LineLaws
+pub mod ReplyLaws
+pub mod SoFar
+pub mod StopLaws

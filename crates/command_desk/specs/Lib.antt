@@ -1,0 +1,10 @@
+pub mod Asked
+pub mod Calls
+pub mod Course
+pub mod Due
+pub mod Endings
+pub mod Halts
+pub mod Running
+pub mod Starts
+pub mod Statuses
+pub mod Stops
