@@ -1,0 +1,20 @@
+use Rattle.command_end.specs.Names.{plain_sources}
+use Rattle.command_complete.proofs.EndsLaws.{ends_complete, ends_refused}
+use Rattle.command_complete.proofs.command.complete.Goals as goal
+
+pub returns-clause-refused : goal.returns-clause-refused
+returns-clause-refused g c = λ t none o due not.
+    ends_refused _ g.O.Sink.tells (plain_sources c.args.sources.now) c.args.psbt.now (g.H.Shelf.view c.args.shelf.now) (g.H.Shelf.view c.printed.new.shelf) (g.O.Sink.view c.args.out.now) (g.O.Sink.view c.printed.new.out) t o due none not c.printed.result c.printed.ensures.ends
+
+pub returns-clause-complete : goal.returns-clause-complete
+returns-clause-complete g c = λ t none o due.
+    ends_complete _ g.O.Sink.tells (plain_sources c.args.sources.now) c.args.psbt.now (g.H.Shelf.view c.args.shelf.now) (g.H.Shelf.view c.printed.new.shelf) (g.O.Sink.view c.args.out.now) (g.O.Sink.view c.printed.new.out) t o due none c.printed.result c.printed.ensures.ends
+
+pub returns-clause-unfailed : goal.returns-clause-unfailed
+returns-clause-unfailed g c = c.printed.ensures.unfailed
+
+pub returns-clause-unread_last : goal.returns-clause-unread_last
+returns-clause-unread_last g c = c.printed.ensures.unread_last
+
+pub returns-clause-refused_alone : goal.returns-clause-refused_alone
+returns-clause-refused_alone g c = c.printed.ensures.refused_alone

@@ -1,0 +1,36 @@
+use Rattle.command_coins.proofs.AskingLaws.{printed_read}
+use Rattle.command_complete.proofs.AskingLaws.{stop_asks, told_read}
+use Rattle.command_complete.proofs.EndsLaws.{printed_ends, stop_ends}
+use Rattle.command_end.specs.Names.{plain_sources}
+use Rattle.command_complete.proofs.command.printed.Goals as goal
+
+pub returns-in-Ok-clause-ends : goal.returns-in-Ok-clause-ends
+returns-in-Ok-clause-ends g c =
+    printed_ends _ _ (plain_sources c.args.sources.now) c.args.psbt.now (g.H.Shelf.view c.args.shelf.now) (g.H.Shelf.view c.completed.new.shelf) (g.O.Sink.view c.args.out.now) (g.O.Sink.view c.put_report.new.out) c.in-Ok.text.items c.put_report.result c.in-Ok.ensures.made
+    (rw c.deref.ensures.value at c.put_report.ensures.ends)
+
+pub returns-in-Err-clause-ends : goal.returns-in-Err-clause-ends
+returns-in-Err-clause-ends g c =
+    stop_ends _ _ (plain_sources c.args.sources.now) c.args.psbt.now (g.H.Shelf.view c.args.shelf.now) (g.H.Shelf.view c.completed.new.shelf) (g.O.Sink.view c.args.out.now) (g.O.Sink.view c.answer.new.out) c.in-Err.stop c.answer.result c.in-Err.ensures.stop c.answer.ensures.line
+
+pub returns-in-Ok-clause-unfailed : goal.returns-in-Ok-clause-unfailed
+returns-in-Ok-clause-unfailed g c = λ read memory. c.in-Ok.ensures.unfailed
+
+pub returns-in-Err-clause-unfailed : goal.returns-in-Err-clause-unfailed
+returns-in-Err-clause-unfailed g c = λ read memory.
+    c.in-Err.ensures.unfailed (told_read _ (plain_sources c.args.sources.now) c.args.psbt.now c.in-Err.stop (g.O.Sink.view c.args.out.now) (g.O.Sink.view c.answer.new.out) c.answer.result c.answer.ensures.line read memory)
+
+pub returns-in-Ok-clause-unread_last : goal.returns-in-Ok-clause-unread_last
+returns-in-Ok-clause-unread_last g c = λ t is.
+    absurd (printed_read _ c.in-Ok.text.items (g.O.Sink.view c.args.out.now) (g.O.Sink.view c.put_report.new.out) c.put_report.result (rw c.deref.ensures.value at c.put_report.ensures.ends) is)
+
+pub returns-in-Err-clause-unread_last : goal.returns-in-Err-clause-unread_last
+returns-in-Err-clause-unread_last g c = λ t is.
+    stop_asks _ _ (plain_sources c.args.sources.now) c.args.psbt.now c.in-Err.stop (g.H.Shelf.view c.args.shelf.now) (g.H.Shelf.view c.completed.new.shelf) (g.O.Sink.view c.args.out.now) (g.O.Sink.view c.answer.new.out) c.answer.result c.in-Err.ensures.stop c.answer.ensures.line
+    (c.in-Err.ensures.up_to t) is
+
+pub returns-in-Ok-clause-refused_alone : goal.returns-in-Ok-clause-refused_alone
+returns-in-Ok-clause-refused_alone g c = c.in-Ok.ensures.refused_alone
+
+pub returns-in-Err-clause-refused_alone : goal.returns-in-Err-clause-refused_alone
+returns-in-Err-clause-refused_alone g c = c.in-Err.ensures.refused_alone

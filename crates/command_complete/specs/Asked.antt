@@ -1,0 +1,26 @@
+-- Which files are asked for, and in what order.
+use Rattle.std.specs.Prelude.{ℕ, ◌≡◌, ◌⊎◌, true, List, [], ◌∷◌}
+use Rattle.fund_base.specs.Causes.{Asks, Rose, ShelfView}
+use Rattle.fund_files.specs.FileStops.{is_of_wallet}
+use Rattle.command_coins.specs.Statuses as chains
+use Rattle.command_end.specs.Names.{Sources}
+use Rattle.command_complete.specs.declared.stop.Stop.{Stop}
+use Rattle.command_complete.specs.declared.stop.Stop.TheVariants as stops
+
+-- The wallet file was asked for, then the block file, then the PSBT file, each any number of times, and no other name was.
+abbrev pub AsksInOrder : Sources → (name : List ℕ) → ShelfView → ShelfView → Type 0
+AsksInOrder s name old new = Asks (s.wallet ∷ s.blocks ∷ name ∷ []) old.asked new.asked
+
+-- the wallet file and then the block file were asked for, and no other name was
+abbrev pub AsksChain : Sources → ShelfView → ShelfView → Type 0
+AsksChain s old new = Asks (s.wallet ∷ s.blocks ∷ []) old.asked new.asked
+
+-- Nothing is asked for behind a stop: at one of the wallet file or the block file no PSBT file was, and at one of the wallet
+-- file no block file either.
+abbrev pub AsksUpTo : Sources → (name : List ℕ) → ShelfView → ShelfView → Stop → Type 0
+AsksUpTo s name old new (stops.Chain stop) = AsksChain s old new × (is_of_wallet stop ≡ true → Asks (s.wallet ∷ []) old.asked new.asked)
+AsksUpTo s name old new stop = AsksInOrder s name old new
+
+-- A file wasn't read, and none was asked for after it.
+abbrev pub AsksToUnread : Sources → (name : List ℕ) → ShelfView → ShelfView → Type 0
+AsksToUnread s name old new = chains.AsksToUnread s old new ⊎ (Rose (old.reads name) (new.reads name) × AsksInOrder s name old new)

@@ -1,0 +1,43 @@
+-- What is made of a PSBT file, and why one is refused.
+use Rattle.std.specs.Prelude.{ℕ, ◌≡◌, ◌≢◌, ◌-◌, ◌==◌, List, [], ◌∷◌, ◌++◌, length, take, slice_index, if◌then◌else◌}
+use Rattle.coin_book.specs.History.{History}
+use Rattle.psbt_codec.specs.PartialTransaction.{PartialTransaction}
+use Rattle.psbt_codec.specs.Text.{psbt_text}
+use Rattle.psbt_complete.specs.Completed.{IsCompleted, known_of}
+use Rattle.psbt_complete.specs.Faults.{IsFirstFault}
+use Rattle.report_check.specs.Payment.{HasPsbtFault, IsPsbtText}
+use Rattle.command_complete.specs.declared.stop.Refusal.{Refusal}
+use Rattle.command_complete.specs.declared.stop.Refusal.TheVariants.{Psbt, OtherPairs, Input}
+
+-- the bytes of a file without the line feed at their end, where one stands there
+abbrev pub line_of : List ℕ → List ℕ
+line_of file = if slice_index file (length file - 1) == 10 then take (length file - 1) file else file
+
+-- The text is a PSBT, and is the one that is written of it: so it holds nothing else.
+pub record IsSpelled (text : List ℕ) (p : PartialTransaction) : Type 0 where
+  pub psbt : IsPsbtText text p
+  pub spelling : text ≡ psbt_text p
+
+-- the text is a PSBT, and isn't the one that is written of it
+pub record IsSpelledOtherwise (text : List ℕ) : Type 0 where
+  pub is : PartialTransaction
+  pub psbt : IsPsbtText text is
+  pub other : text ≢ psbt_text is
+
+-- The file is the one text of a PSBT, which is made whole from a book; what is printed is the one text of that, and a line
+-- feed.
+pub record IsCompletedFile (h : History) (file text : List ℕ) : Type 0 where
+  pub before : PartialTransaction
+  pub spelled : IsSpelled (line_of file) before
+  pub after : PartialTransaction
+  pub completed : IsCompleted h before after
+  pub line : List ℕ
+  pub reads : IsSpelled line after
+  pub prints : text ≡ line ++ 10 ∷ []
+
+-- What the refusal of a PSBT file means, beside a book: its text is no PSBT, for this fault first; or is spelled otherwise;
+-- or this is wrong with the first of its inputs with which something is.
+abbrev pub IsRefused : History → (file : List ℕ) → Refusal → Type 0
+IsRefused h file (Psbt fault) = HasPsbtFault (line_of file) fault
+IsRefused h file OtherPairs = IsSpelledOtherwise (line_of file)
+IsRefused h file (Input fault) = (p : PartialTransaction) × IsSpelled (line_of file) p × IsFirstFault h (known_of p) fault

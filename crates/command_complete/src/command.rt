@@ -1,0 +1,78 @@
+//! The command.
+
+ghost use Rattle.std.specs.Prelude.{◌≡◌, ◌≢◌, ◌⊎◌, [], ◌∷◌};
+ghost use Rattle.fund_base.specs.Causes.{Asks, CountsNeverFall, OnlyReads};
+ghost use Rattle.coin_book.specs.History.{History};
+ghost use Rattle.fund_files.specs.Cause.{FileCause};
+ghost use Rattle.fund_files.specs.FileStops.{IsWalletCause};
+ghost use Rattle.command_end.specs.Names.{plain_sources};
+ghost use Rattle.command_complete.specs.Asked.{AsksChain, AsksInOrder, AsksToUnread};
+ghost use Rattle.command_complete.specs.Due.{ComesTo, HasBook, IsACompletion, Outcome, status_of};
+ghost use Rattle.command_complete.specs.Statuses.{Ends, NoneFailed, NoneUnread};
+
+use crate::answer::answer;
+use crate::files::completed;
+use command_end::{Sources, Status, put_report};
+use fund_base::{Shelf, Sink};
+use std::alloc::Global;
+
+/// Puts the PSBT made whole, or the line of a stop.
+fn printed<H: Shelf, O: Sink>(
+    alloc: Global,
+    sources: &Sources,
+    psbt: &str,
+    shelf: &mut H,
+    out: &mut O,
+) -> Status
+    ensures ends { Ends H.tells O.tells (plain_sources sources.now) psbt.now (H.view shelf.old) (H.view shelf.new) (O.view out.old) (O.view out.new) result }
+    ensures frame { OnlyReads H.tells (H.view shelf.old) (H.view shelf.new) }
+    ensures counts { CountsNeverFall (O.view out.old) (O.view out.new) }
+    ensures unfailed { result ≢ Status.ReadFault → result ≢ Status.Memory → (H.view shelf.new).reads ≡ (H.view shelf.old).reads }
+    ensures asked { H.tells → AsksInOrder (plain_sources sources.now) psbt.now (H.view shelf.old) (H.view shelf.new) }
+    ensures unread_last { H.tells → result ≡ Status.ReadFault → AsksToUnread (plain_sources sources.now) psbt.now (H.view shelf.old) (H.view shelf.new) }
+    ensures refused_alone { H.tells → (cause : FileCause) → IsWalletCause ((H.view shelf.old).files sources.now.wallet.now) cause → Asks (sources.now.wallet.now ∷ []) (H.view shelf.old).asked (H.view shelf.new).asked }
+    ensures chain_alone { H.tells → ((h : History) → HasBook (H.view shelf.old).files (plain_sources sources.now) h → ⊥) → AsksChain (plain_sources sources.now) (H.view shelf.old) (H.view shelf.new) }
+{
+    match completed(alloc, sources, psbt, shelf) {
+        Ok(text) => put_report(&text, Status::Done, out),
+        Err(stop) => answer(alloc, sources, psbt, stop, out),
+    }
+}
+
+/// Makes the PSBT of the file `psbt` whole: it reads the wallet, the blocks behind it and the PSBT, and prints to `out` the same
+/// PSBT with the whole transaction beside each output that it spends, in base64 and a line feed. The file has the PSBT in
+/// base64, with or without a line feed at its end, and as it would be written: with no pairs but the unsigned transaction,
+/// the whole transactions and the spent outputs. What is refused gets its fault line. It writes no file.
+///
+/// The clauses on content hold where the shelf and the sink tell theirs.
+pub fn complete<H: Shelf, O: Sink>(
+    alloc: Global,
+    sources: &Sources,
+    psbt: &str,
+    shelf: &mut H,
+    out: &mut O,
+) -> Status
+    // By the status: what was found in the files, and what the sink has got.
+    ensures ends { Ends H.tells O.tells (plain_sources sources.now) psbt.now (H.view shelf.old) (H.view shelf.new) (O.view out.old) (O.view out.new) result }
+
+    // Where the PSBT isn't made whole and the files were read, the status is that of the refusal, even if the sink fails.
+    ensures refused { H.tells → NoneUnread (plain_sources sources.now) psbt.now (H.view shelf.old) (H.view shelf.new) → (o : Outcome) → ComesTo (H.view shelf.old).files (plain_sources sources.now) psbt.now o → (IsACompletion o → ⊥) → (result ≡ status_of o) ⊎ (result ≡ Status.Memory) }
+
+    // Where no count rose, the status is that of what the files come to, or want of memory.
+    ensures complete { H.tells → NoneFailed (plain_sources sources.now) psbt.now (H.view shelf.old) (H.view shelf.new) (O.view out.old) (O.view out.new) → (o : Outcome) → ComesTo (H.view shelf.old).files (plain_sources sources.now) psbt.now o → (result ≡ status_of o) ⊎ (result ≡ Status.Memory) }
+
+    // Nothing is written; and a read that failed is told as such, or there was not enough memory to tell.
+    ensures frame { OnlyReads H.tells (H.view shelf.old) (H.view shelf.new) }
+    ensures unfailed { result ≢ Status.ReadFault → result ≢ Status.Memory → (H.view shelf.new).reads ≡ (H.view shelf.old).reads }
+    ensures counts { CountsNeverFall (O.view out.old) (O.view out.new) }
+
+    // It asks for the wallet file, the block file and the PSBT file, in this order, and for no other name: for none after
+    // one that wasn't read, for none after a wallet file that is refused, and for no PSBT file where the other two hold no
+    // book.
+    ensures asked { H.tells → AsksInOrder (plain_sources sources.now) psbt.now (H.view shelf.old) (H.view shelf.new) }
+    ensures unread_last { H.tells → result ≡ Status.ReadFault → AsksToUnread (plain_sources sources.now) psbt.now (H.view shelf.old) (H.view shelf.new) }
+    ensures refused_alone { H.tells → (cause : FileCause) → IsWalletCause ((H.view shelf.old).files sources.now.wallet.now) cause → Asks (sources.now.wallet.now ∷ []) (H.view shelf.old).asked (H.view shelf.new).asked }
+    ensures chain_alone { H.tells → ((h : History) → HasBook (H.view shelf.old).files (plain_sources sources.now) h → ⊥) → AsksChain (plain_sources sources.now) (H.view shelf.old) (H.view shelf.new) }
+{
+    printed(alloc, sources, psbt, shelf, out)
+}
