@@ -1,0 +1,4 @@
+pub mod Printed
+pub mod Spelled
+pub mod Spelling
+pub mod Units

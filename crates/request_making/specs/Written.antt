@@ -1,0 +1,74 @@
+-- The JSON value of a request that is asked for: each member is written, in the order of their names by bytes.
+use Rattle.std.specs.Prelude.{ℕ, Bool, List, map, codes, String, string_bytes, if◌then◌else◌}
+use Rattle.std.specs.declared.alloc.Global.{Global}
+use Rattle.hex.specs.Hex.{encode_lower}
+use Rattle.serde_json.specs.Data.{Data, boolean, number, unsigned, string, array, object, Members, no_members, member, put}
+use Rattle.serde_json.specs.View.{items_of}
+use Rattle.request_text.specs.Rules.{word_of}
+use Rattle.request_making.specs.declared.payment.Payee.{Payee}
+use Rattle.request_making.specs.declared.payment.Payee.TheVariants as payees
+use Rattle.request_making.specs.declared.payment.Payment.{Payment}
+use Rattle.request_making.specs.declared.settings.Settings.{Settings}
+
+-- a recipient: its address, or its script in hex, and the amount
+abbrev pub payee_data : ℕ → Payee → Data
+payee_data amount (payees.Address text) = object (member (codes "address") (string (string_bytes text)) (member (codes "amount") (number (unsigned amount)) no_members))
+payee_data amount (payees.Script script) = object (member (codes "amount") (number (unsigned amount)) (member (codes "script") (string (encode_lower script)) no_members))
+
+abbrev pub payment_data : Payment → Data
+payment_data p = payee_data p.amount p.to
+
+-- a coin, by its own words
+abbrev pub coin_data : String Global → Data
+coin_data coin = string (string_bytes coin)
+
+-- what is done when the tries are used up
+abbrev pub take_word : Bool → List ℕ
+take_word take = if take then codes "take" else codes "stop"
+
+-- the whole
+abbrev pub request_data : List Payment → List (String Global) → Settings → Data
+request_data payments coins s =
+    object (member (codes "change_target") (number (unsigned s.change_target))
+    (member (codes "coins") (array (items_of (map coin_data coins)))
+    (member (codes "discard") (number (unsigned s.discard))
+    (member (codes "group") (boolean s.group)
+    (member (codes "include_unsafe") (boolean s.include_unsafe)
+    (member (codes "locktime") (number (unsigned s.locktime))
+    (member (codes "long_term") (number (unsigned s.long_term))
+    (member (codes "method") (string (word_of s.method))
+    (member (codes "rate") (number (unsigned s.rate))
+    (member (codes "recipients") (array (items_of (map payment_data payments)))
+    (member (codes "replaceable") (boolean s.replaceable)
+    (member (codes "seed") (string (encode_lower s.seed))
+    (member (codes "tries") (number (unsigned s.tries))
+    (member (codes "when_unfinished") (string (take_word s.take))
+    (member (codes "zero_conf") (boolean s.zero_conf) no_members)))))))))))))))
+
+-- The same members, put one by one into others: the numbers, the truth values, and the words.
+abbrev pub numbers_put : Settings → Members → Members
+numbers_put s ms =
+    put (codes "tries") (number (unsigned s.tries))
+    (put (codes "locktime") (number (unsigned s.locktime))
+    (put (codes "change_target") (number (unsigned s.change_target))
+    (put (codes "discard") (number (unsigned s.discard))
+    (put (codes "long_term") (number (unsigned s.long_term))
+    (put (codes "rate") (number (unsigned s.rate)) ms)))))
+
+abbrev pub flags_put : Settings → Members → Members
+flags_put s ms =
+    put (codes "replaceable") (boolean s.replaceable)
+    (put (codes "group") (boolean s.group)
+    (put (codes "include_unsafe") (boolean s.include_unsafe)
+    (put (codes "zero_conf") (boolean s.zero_conf) ms)))
+
+abbrev pub words_put : Settings → Members → Members
+words_put s ms =
+    put (codes "seed") (string (encode_lower s.seed))
+    (put (codes "when_unfinished") (string (take_word s.take))
+    (put (codes "method") (string (word_of s.method)) ms))
+
+abbrev pub lists_put : List Payment → List (String Global) → Members → Members
+lists_put payments coins ms =
+    put (codes "coins") (array (items_of (map coin_data coins)))
+    (put (codes "recipients") (array (items_of (map payment_data payments))) ms)
