@@ -1,3 +1,4 @@
+pub mod Counts
 pub mod FinalFaults
 pub mod Laws
 pub mod LawsOfStacks

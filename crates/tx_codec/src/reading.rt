@@ -1,11 +1,12 @@
 //! Reading a transaction, byte by byte and item by item: a count alone asks for no memory.
 
-ghost use Rattle.std.specs.Prelude.{◌≡◌, ◌≢◌, ◌+◌, ◌≤◌, ◌<◌, ◌^◌, ℕ, List, [], ◌++◌, ◌==◌, length, IfOk, OnErr, MatchResult, Err};
-ghost use Rattle.fund_base.specs.Cursor.{IsBytes};
-ghost use Rattle.fund_base.specs.Parsing.{Yields, YieldsAll, many_from, many_at, string_at, whole_of};
-ghost use Rattle.tx_codec.specs.declared.fault.TxFault.TheVariants.{Memory, Trailing};
+ghost use Rattle.std.specs.Prelude.{◌≡◌, ◌≢◌, ◌+◌, ◌≤◌, ◌<◌, ◌^◌, ℕ, List, [], ◌++◌, ◌==◌, length, slice_index, IfOk, IsOk, IsOkAnd, OnErr, MatchResult, Ok, Err, if◌then◌else◌};
+ghost use Rattle.std.specs.Int.{w32};
+ghost use Rattle.fund_base.specs.Cursor.{IsBytes, compact_at, number_at, take_at};
+ghost use Rattle.fund_base.specs.Parsing.{Yields, YieldsAll, many_from, many_at, whole_of};
+ghost use Rattle.tx_codec.specs.declared.fault.TxFault.TheVariants.{EmptyWitness, Memory, Trailing};
 ghost use Rattle.tx_codec.specs.Stack.{lists};
-ghost use Rattle.tx_codec.specs.Reading.{cut, input_at, output_at, output_in, inputs_at, outputs_at, item_at, stack_at, stacks_at, are_empty, legacy_at, witnessed_at, segregated_at, tx_at, legacy_tx_at, IsRead};
+ghost use Rattle.tx_codec.specs.Reading.{input_at, output_at, output_in, inputs_at, outputs_at, item_at, stack_at, stacks_at, are_empty, legacy_at, witnessed_at, segregated_at, tx_at, legacy_tx_at, IsRead};
 ghost use Rattle.tx_codec.specs.Transaction.{Transaction};
 ghost use Rattle.tx_codec.specs.TransactionText.{IsFollowed, IsLegacy, IsTransaction, text_of};
 
@@ -14,24 +15,35 @@ use crate::tx::{Tx, TxIn, TxOut, Witness};
 use fund_base::{Cursor, MAX_MONEY, OutPoint, Sat, Script, Txid};
 use std::alloc::Global;
 
+/// The bytes behind their number. They aren't copied, so it never runs out of memory.
 #[tactic(auto, unfolding(fund_base::specs::Parsing::string_at))]
-fn string_of(alloc: Global, cursor: &mut Cursor) -> Result<Vec<u8>, TxFault>
-    ensures { Yields Memory (λ v. v.items) cursor.new result (cut (string_at cursor.old)) }
+fn bytes_of<'a>(cursor: &mut Cursor<'a>) -> Result<&'a [u8], TxFault>
+    ensures gives { Yields Memory (λ b. b.now) cursor.new result (item_at cursor.old) }
+    ensures never_short { result ≢ Err Memory }
 {
     let len = cursor.compact()?;
-    let bytes = cursor.take(len)?;
+    Ok(cursor.take(len)?)
+}
+
+fn string_of(alloc: Global, cursor: &mut Cursor) -> Result<Vec<u8>, TxFault>
+    ensures gives { Yields Memory (λ v. v.items) cursor.new result (item_at cursor.old) }
+    ensures short { result ≡ Err Memory → IsOk (item_at cursor.old) }
+{
+    let bytes = bytes_of(cursor)?;
     Ok(Vec::from_slice(alloc, bytes)?)
 }
 
 #[tactic(auto, unfolding(crate::specs::Reading::input_at))]
 fn input_of(alloc: Global, cursor: &mut Cursor) -> Result<TxIn, TxFault>
-    ensures { Yields Memory (λ x. x) cursor.new result (input_at cursor.old) }
+    ensures gives { Yields Memory (λ x. x) cursor.new result (input_at cursor.old) }
+    ensures short { result ≡ Err Memory → IsOk (input_at cursor.old) }
 {
     let mut txid = [0; 32];
     txid.copy_from_slice(cursor.take(32)?);
     let index = cursor.u32_le()?;
-    let script = string_of(alloc, cursor)?;
+    let script = bytes_of(cursor)?;
     let sequence = cursor.u32_le()?;
+    let script = Vec::from_slice(alloc, script)?;
     Ok(TxIn {
         prev: OutPoint {
             txid: Txid(txid),
@@ -47,6 +59,7 @@ fn input_of(alloc: Global, cursor: &mut Cursor) -> Result<TxIn, TxFault>
 fn output_of(alloc: Global, index: u64, sum: u64, cursor: &mut Cursor) -> Result<TxOut, TxFault>
     requires { sum ≤ MAX_MONEY }
     ensures gives { Yields Memory (λ x. x) cursor.new result (output_at index sum cursor.old) }
+    ensures short { result ≡ Err Memory → IsOk (output_at index sum cursor.old) }
     ensures range { IfOk result (λ o. sum + o.value ≤ MAX_MONEY) }
 {
     let value = match Sat::new(cursor.u64_le()?) {
@@ -100,7 +113,8 @@ fn items_of(alloc: Global, count: u64, cursor: &mut Cursor) -> Result<Vec<Vec<u8
 
 #[tactic(auto, unfolding(fund_base::specs::Parsing::counted_at))]
 fn stack_of(alloc: Global, cursor: &mut Cursor) -> Result<Witness, TxFault>
-    ensures { Yields Memory (λ x. x) cursor.new result (stack_at cursor.old) }
+    ensures gives { Yields Memory (λ x. x) cursor.new result (stack_at cursor.old) }
+    ensures short { result ≡ Err Memory → IsOk (compact_at cursor.old) }
 {
     let count = cursor.compact()?;
     let items = items_of(alloc, count, cursor)?;
@@ -130,9 +144,31 @@ fn are_empty(inputs: &[TxIn]) -> bool
     inputs.iter().all(|input| is_empty(&input.witness))
 }
 
+/// That some witness holds something. It never runs out of memory.
+fn check_witnesses(inputs: &[TxIn]) -> Result<(), TxFault>
+    ensures { result ≡ (if are_empty inputs.now then Err EmptyWitness else Ok tt) }
+{
+    if are_empty(inputs) {
+        return Err(TxFault::EmptyWitness);
+    }
+    Ok(())
+}
+
+/// That nothing is left. It never runs out of memory.
+fn check_end(cursor: &Cursor) -> Result<(), TxFault>
+    ensures { result ≡ (if length cursor.now.rest == 0 then Ok tt else Err (Trailing cursor.now.place)) }
+{
+    if cursor.rest().is_empty() {
+        Ok(())
+    } else {
+        Err(TxFault::Trailing(cursor.place()))
+    }
+}
+
 #[tactic(auto, unfolding(crate::specs::Reading::some_at))]
 fn some_inputs(alloc: Global, cursor: &mut Cursor) -> Result<Vec<TxIn>, TxFault>
-    ensures { Yields Memory (λ v. v.items) cursor.new result (inputs_at cursor.old) }
+    ensures gives { Yields Memory (λ v. v.items) cursor.new result (inputs_at cursor.old) }
+    ensures short { result ≡ Err Memory → IsOkAnd (compact_at cursor.old) (λ count. count.0 ≢ 0) }
 {
     let count = cursor.compact()?;
     if count == 0 {
@@ -143,7 +179,8 @@ fn some_inputs(alloc: Global, cursor: &mut Cursor) -> Result<Vec<TxIn>, TxFault>
 
 #[tactic(auto, unfolding(crate::specs::Reading::some_at))]
 fn some_outputs(alloc: Global, cursor: &mut Cursor) -> Result<Vec<TxOut>, TxFault>
-    ensures { Yields Memory (λ v. v.items) cursor.new result (outputs_at cursor.old) }
+    ensures gives { Yields Memory (λ v. v.items) cursor.new result (outputs_at cursor.old) }
+    ensures short { result ≡ Err Memory → IsOkAnd (compact_at cursor.old) (λ count. count.0 ≢ 0) }
 {
     let count = cursor.compact()?;
     if count == 0 {
@@ -152,9 +189,10 @@ fn some_outputs(alloc: Global, cursor: &mut Cursor) -> Result<Vec<TxOut>, TxFaul
     outputs_of(alloc, count, cursor)
 }
 
-#[tactic(auto, unfolding(crate::specs::Reading::legacy_at))]
+#[tactic(auto, using(crate::proofs::Counts::count_of_some), unfolding(crate::specs::Reading::legacy_at))]
 fn legacy_of(alloc: Global, version: u32, cursor: &mut Cursor) -> Result<Tx, TxFault>
-    ensures { Yields Memory (λ x. x) cursor.new result (legacy_at version cursor.old) }
+    ensures gives { Yields Memory (λ x. x) cursor.new result (legacy_at version cursor.old) }
+    ensures short { result ≡ Err Memory → IsOkAnd (compact_at cursor.old) (λ count. count.0 ≢ 0) }
 {
     let inputs = some_inputs(alloc, cursor)?;
     let outputs = some_outputs(alloc, cursor)?;
@@ -168,16 +206,15 @@ fn legacy_of(alloc: Global, version: u32, cursor: &mut Cursor) -> Result<Tx, TxF
     })
 }
 
-#[tactic(auto, unfolding(crate::specs::Reading::witnessed_at))]
+#[tactic(auto, using(crate::proofs::Counts::count_of_some), unfolding(crate::specs::Reading::witnessed_at))]
 fn witnessed_of(alloc: Global, version: u32, cursor: &mut Cursor) -> Result<Tx, TxFault>
-    ensures { Yields Memory (λ x. x) cursor.new result (witnessed_at version cursor.old) }
+    ensures gives { Yields Memory (λ x. x) cursor.new result (witnessed_at version cursor.old) }
+    ensures short { result ≡ Err Memory → IsOkAnd (compact_at cursor.old) (λ count. count.0 ≢ 0) }
 {
     let mut inputs = some_inputs(alloc, cursor)?;
     let outputs = some_outputs(alloc, cursor)?;
     stacks_of(alloc, &mut inputs, cursor)?;
-    if are_empty(&inputs) {
-        return Err(TxFault::EmptyWitness);
-    }
+    check_witnesses(&inputs)?;
     let locktime = cursor.u32_le()?;
     Ok(Tx {
         version,
@@ -190,7 +227,8 @@ fn witnessed_of(alloc: Global, version: u32, cursor: &mut Cursor) -> Result<Tx, 
 
 #[tactic(auto, unfolding(crate::specs::Reading::segregated_at))]
 fn segregated_of(alloc: Global, version: u32, cursor: &mut Cursor) -> Result<Tx, TxFault>
-    ensures { Yields Memory (λ x. x) cursor.new result (segregated_at version cursor.old) }
+    ensures gives { Yields Memory (λ x. x) cursor.new result (segregated_at version cursor.old) }
+    ensures short { result ≡ Err Memory → IsOkAnd (take_at 1 cursor.old) (λ flag. slice_index flag.0 0 ≡ 1) }
 {
     let flag = cursor.take(1)?;
     if flag[0] != 1 {
@@ -201,7 +239,8 @@ fn segregated_of(alloc: Global, version: u32, cursor: &mut Cursor) -> Result<Tx,
 
 #[tactic(auto, unfolding(crate::specs::Reading::tx_at))]
 fn tx_of(alloc: Global, cursor: &mut Cursor) -> Result<Tx, TxFault>
-    ensures { Yields Memory (λ x. x) cursor.new result (tx_at cursor.old) }
+    ensures gives { Yields Memory (λ x. x) cursor.new result (tx_at cursor.old) }
+    ensures short { result ≡ Err Memory → IsOk (number_at w32 cursor.old) }
 {
     let version = cursor.u32_le()?;
     if matches!(cursor.rest(), [0, ..]) {
@@ -245,9 +284,7 @@ fn whole_of(alloc: Global, bytes: &[u8]) -> Result<Tx, TxFault>
 {
     let mut cursor = Cursor::new(bytes);
     let tx = tx_of(alloc, &mut cursor)?;
-    if !cursor.rest().is_empty() {
-        return Err(TxFault::Trailing(cursor.place()));
-    }
+    check_end(&cursor)?;
     Ok(tx)
 }
 
@@ -268,7 +305,8 @@ pub fn read_whole_tx(alloc: Global, bytes: &[u8]) -> Result<Tx, TxFault>
 
 #[tactic(auto, unfolding(crate::specs::Reading::legacy_tx_at))]
 fn legacy_tx_of(alloc: Global, cursor: &mut Cursor) -> Result<Tx, TxFault>
-    ensures { Yields Memory (λ x. x) cursor.new result (legacy_tx_at cursor.old) }
+    ensures gives { Yields Memory (λ x. x) cursor.new result (legacy_tx_at cursor.old) }
+    ensures short { result ≡ Err Memory → IsOk (number_at w32 cursor.old) }
 {
     let version = cursor.u32_le()?;
     legacy_of(alloc, version, cursor)
@@ -280,9 +318,7 @@ fn whole_legacy_of(alloc: Global, bytes: &[u8]) -> Result<Tx, TxFault>
 {
     let mut cursor = Cursor::new(bytes);
     let tx = legacy_tx_of(alloc, &mut cursor)?;
-    if !cursor.rest().is_empty() {
-        return Err(TxFault::Trailing(cursor.place()));
-    }
+    check_end(&cursor)?;
     Ok(tx)
 }
 
