@@ -1,5 +1,5 @@
 -- The maps of a PSBT are read as before where more bytes stand after, unless some were missing.
-use Rattle.std.proofs.Common.{◌≡◌, ℕ, zero, suc, ◌≤◌, List, [], ◌∷◌, ◌++◌, length, min, Result, Ok, Err, refl, sym, ap, ◌∙◌, arith, inl, inr, length-append}
+use Rattle.std.proofs.Common.{ℕ, zero, suc, ◌≤◌, List, [], ◌∷◌, ◌++◌, length, min, Result, Ok, Err, refl, arith, inl, length-append}
 use Rattle.std.specs.Prelude.{Option, Some, None}
 use Rattle.fund_base.specs.declared.cursor.CutFault.{CutFault}
 use Rattle.fund_base.specs.Cursor.{At}

@@ -1,11 +1,13 @@
 -- How the faults of what stands within a PSBT are reported.
 use Rattle.std.specs.Prelude.{ℕ}
+use Rattle.base64.specs.declared.decode.DecodeAllocError.{DecodeAllocError}
+use Rattle.base64.specs.declared.decode.DecodeAllocError.TheVariants as texts
 use Rattle.fund_base.specs.declared.cursor.CutFault.{CutFault}
 use Rattle.fund_base.specs.declared.cursor.CutFault.TheVariants as cuts
 use Rattle.tx_codec.specs.declared.fault.TxFault.{TxFault}
 use Rattle.tx_codec.specs.declared.fault.TxFault.TheVariants as txs
 use Rattle.psbt_codec.specs.declared.fault.PsbtFault.{PsbtFault}
-use Rattle.psbt_codec.specs.declared.fault.PsbtFault.TheVariants.{Truncated, LongCompact, Field, Unsigned, Memory}
+use Rattle.psbt_codec.specs.declared.fault.PsbtFault.TheVariants.{Truncated, LongCompact, Field, Unsigned, NotBase64, Memory}
 
 -- a fault of the cursor
 abbrev pub cut_fault : CutFault → PsbtFault
@@ -21,3 +23,8 @@ type_fault pair_place key_place (cuts.LongCompact place) = LongCompact key_place
 abbrev pub unsigned_fault : TxFault → PsbtFault
 unsigned_fault txs.Memory = Memory
 unsigned_fault fault = Unsigned fault
+
+-- a fault of the text
+abbrev pub text_fault : DecodeAllocError → PsbtFault
+text_fault texts.OutOfMemory = Memory
+text_fault (texts.DecodeError fault) = NotBase64

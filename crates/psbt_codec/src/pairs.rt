@@ -1,9 +1,11 @@
 //! Reading the maps of a PSBT, pair by pair.
 
-ghost use Rattle.std.specs.Prelude.{◌≡◌, ◌==◌, [], length, option_copied};
+ghost use Rattle.std.specs.Prelude.{◌≡◌, ◌≢◌, ◌<◌, ◌==◌, ◌⊎◌, [], false, length, Err, IsOkAnd, option_copied};
+ghost use Rattle.fund_base.specs.Cursor.{compact_at, take_at};
 ghost use Rattle.fund_base.specs.Parsing.{Yields, YieldsAll, string_at};
-ghost use Rattle.psbt_codec.specs.declared.fault.PsbtFault.TheVariants.{Memory as OutOfMemory};
-ghost use Rattle.psbt_codec.specs.Reading.{cut, has_meaning, kind_in, value_fits, has_key, input_value_fits, keyed_at, pair_at, map_at, value_of};
+ghost use Rattle.psbt_codec.specs.declared.fault.PsbtFault.TheVariants.{Field, Memory as OutOfMemory};
+ghost use Rattle.psbt_codec.specs.declared.pairs.Part.TheVariants.{Input};
+ghost use Rattle.psbt_codec.specs.Reading.{cut, has_meaning, kind_in, unless, value_fits, has_key, input_value_fits, keyed_at, pair_at, map_at, value_of};
 ghost use Rattle.psbt_codec.specs.Fault.{type_fault};
 
 use crate::fault::PsbtFault;
@@ -37,7 +39,8 @@ impl<'a> Model for Pair<'a> {
 
 #[tactic(auto, unfolding(fund_base::specs::Parsing::string_at))]
 fn string_of<'a>(cursor: &mut Cursor<'a>) -> Result<&'a [u8], PsbtFault>
-    ensures { Yields OutOfMemory (λ b. b.now) cursor.new result (cut (string_at cursor.old)) }
+    ensures gives { Yields OutOfMemory (λ b. b.now) cursor.new result (cut (string_at cursor.old)) }
+    ensures never_short { result ≢ Err OutOfMemory }
 {
     let len = cursor.compact()?;
     Ok(cursor.take(len)?)
@@ -65,7 +68,8 @@ fn type_fault(pair_place: u64, key_place: u64, fault: CutFault) -> PsbtFault
 /// The type that a key begins with; one that has a meaning is the whole key.
 #[tactic(auto, unfolding(crate::specs::Reading::kind_in))]
 fn kind_in(part: Part, pair_place: u64, key_place: u64, key: &[u8]) -> Result<u64, PsbtFault>
-    ensures { YieldsAll OutOfMemory (λ n. n) result (kind_in part pair_place key_place key.now) }
+    ensures gives { YieldsAll OutOfMemory (λ n. n) result (kind_in part pair_place key_place key.now) }
+    ensures never_short { result ≢ Err OutOfMemory }
 {
     let mut cursor = Cursor::new(key);
     match cursor.compact() {
@@ -77,20 +81,28 @@ fn kind_in(part: Part, pair_place: u64, key_place: u64, key: &[u8]) -> Result<u6
     }
 }
 
+/// That a value is of its form. It never runs out of memory.
+fn check_form(place: u64, fits: bool) -> Result<(), PsbtFault>
+    ensures { result ≡ unless fits (Field place) }
+{
+    if fits {
+        Ok(())
+    } else {
+        Err(PsbtFault::Field(place))
+    }
+}
+
 /// Whether an input's value is of the form that its type asks for.
 fn check_input_value(alloc: Global, place: u64, kind: u64, value: &[u8]) -> Result<(), PsbtFault>
-    ensures { YieldsAll OutOfMemory (λ u. u) result (input_value_fits place kind value.now) }
+    ensures gives { YieldsAll OutOfMemory (λ u. u) result (input_value_fits place kind value.now) }
+    ensures short { result ≡ Err OutOfMemory → (kind ≡ 0) ⊎ (kind ≡ 1) }
 {
     let fits = match kind {
         0 => tx_in(alloc, value)?.is_some(),
         1 => paid_in(alloc, value)?.is_some(),
         _ => true,
     };
-    if fits {
-        Ok(())
-    } else {
-        Err(PsbtFault::Field(place))
-    }
+    check_form(place, fits)
 }
 
 /// Whether a value is of the form that its type asks for.
@@ -102,7 +114,8 @@ fn check_value(
     kind: u64,
     value: &[u8],
 ) -> Result<(), PsbtFault>
-    ensures { YieldsAll OutOfMemory (λ u. u) result (value_fits part place kind value.now) }
+    ensures gives { YieldsAll OutOfMemory (λ u. u) result (value_fits part place kind value.now) }
+    ensures short { result ≡ Err OutOfMemory → (part ≡ Input) × ((kind ≡ 0) ⊎ (kind ≡ 1)) }
 {
     match part {
         Part::Global if kind == 251 => check_version(place, value),
@@ -126,7 +139,8 @@ fn keyed_of<'a>(
     len: u64,
     cursor: &mut Cursor<'a>,
 ) -> Result<Pair<'a>, PsbtFault>
-    ensures { Yields OutOfMemory (λ p. p) cursor.new result (keyed_at part before.now place len cursor.old) }
+    ensures gives { Yields OutOfMemory (λ p. p) cursor.new result (keyed_at part before.now place len cursor.old) }
+    ensures short { result ≡ Err OutOfMemory → IsOkAnd (take_at len cursor.old) (λ key. has_key key.0 before.now ≡ false) }
 {
     let key_place = cursor.place();
     let key = cursor.take(len)?;
@@ -147,7 +161,8 @@ fn pair_of<'a>(
     before: &[Pair],
     cursor: &mut Cursor<'a>,
 ) -> Result<Option<Pair<'a>>, PsbtFault>
-    ensures { Yields OutOfMemory (λ o. o) cursor.new result (pair_at part before.now cursor.old) }
+    ensures gives { Yields OutOfMemory (λ o. o) cursor.new result (pair_at part before.now cursor.old) }
+    ensures short { result ≡ Err OutOfMemory → IsOkAnd (compact_at cursor.old) (λ len. len.0 ≢ 0) }
 {
     let place = cursor.place();
     let len = cursor.compact()?;
@@ -165,7 +180,8 @@ pub fn pairs_of<'a>(
     part: Part,
     cursor: &mut Cursor<'a>,
 ) -> Result<Vec<Pair<'a>>, PsbtFault>
-    ensures { Yields OutOfMemory (λ v. v.items) cursor.new result (map_at part cursor.old) }
+    ensures gives { Yields OutOfMemory (λ v. v.items) cursor.new result (map_at part cursor.old) }
+    ensures short { result ≡ Err OutOfMemory → 0 < length cursor.old.rest }
 {
     let mut pairs = Vec::new(alloc);
     for _ in 0..cursor.rest().len() {

@@ -1,12 +1,12 @@
 //! PSBTs read. Pairs of a type that has no meaning here are passed over.
 
-ghost use Rattle.std.specs.Prelude.{◌≡◌, ◌≢◌, ℕ, List, [], ◌++◌, IfOk, MatchResult};
+ghost use Rattle.std.specs.Prelude.{◌≡◌, ◌≢◌, ◌==◌, ◌⊎◌, ℕ, List, [], ◌++◌, length, min, take, Err, IfOk, OnErr, IsSome, MatchResult};
 ghost use Rattle.fund_base.specs.Cursor.{IsBytes};
 ghost use Rattle.fund_base.specs.Parsing.{Yields, YieldsAll};
-ghost use Rattle.psbt_codec.specs.declared.fault.PsbtFault.TheVariants.{Magic, Trailing, NotBase64, Memory as OutOfMemory};
+ghost use Rattle.psbt_codec.specs.declared.fault.PsbtFault.TheVariants.{Magic, WrongParent, Trailing, NotBase64, Memory as OutOfMemory};
 ghost use Rattle.psbt_codec.specs.PartialTransaction.{PartialTransaction};
 ghost use Rattle.psbt_codec.specs.Psbt.{IsFollowed, IsReadable, magic};
-ghost use Rattle.psbt_codec.specs.Reading.{global_at, spent_in, fits_input, input_at, each_at, next_input_at, next_output_at, maps_at, psbt_at, read_of};
+ghost use Rattle.psbt_codec.specs.Reading.{unless, value_of, unsigned_of, global_at, spent_in, fits_input, input_at, each_at, next_input_at, next_output_at, maps_at, psbt_at, read_of};
 
 use crate::fault::PsbtFault;
 use crate::pairs::{Pair, Part, pairs_of, value_of};
@@ -19,20 +19,29 @@ use tx_codec::{Tx, TxIn, TxOut};
 /// The five bytes that a PSBT begins with.
 const MAGIC: [u8; 5] = *b"psbt\xff";
 
-#[tactic(auto, unfolding(crate::specs::Reading::global_at))]
-fn global_of(alloc: Global, cursor: &mut Cursor) -> Result<Tx, PsbtFault>
-    ensures { Yields OutOfMemory (λ t. t) cursor.new result (global_at cursor.old) }
+/// The unsigned transaction that the pairs of the global map hold.
+fn unsigned_of(alloc: Global, pairs: &[Pair]) -> Result<Tx, PsbtFault>
+    ensures gives { YieldsAll OutOfMemory (λ t. t) result (unsigned_of (value_of 0 pairs.now)) }
+    ensures short { result ≡ Err OutOfMemory → IsSome (value_of 0 pairs.now) }
 {
-    let pairs = pairs_of(alloc, Part::Global, cursor)?;
-    match value_of(&pairs, 0) {
+    match value_of(pairs, 0) {
         Some(bytes) => unsigned_in(alloc, bytes),
         None => Err(PsbtFault::NoUnsigned),
     }
 }
 
+#[tactic(auto, unfolding(crate::specs::Reading::global_at))]
+fn global_of(alloc: Global, cursor: &mut Cursor) -> Result<Tx, PsbtFault>
+    ensures { Yields OutOfMemory (λ t. t) cursor.new result (global_at cursor.old) }
+{
+    let pairs = pairs_of(alloc, Part::Global, cursor)?;
+    unsigned_of(alloc, &pairs)
+}
+
 /// What an input's pairs say of the output that it spends.
 fn spent_in(alloc: Global, pairs: &[Pair]) -> Result<Spent, Memory>
-    ensures { IfOk result (λ s. s ≡ spent_in pairs.now) }
+    ensures gives { IfOk result (λ s. s ≡ spent_in pairs.now) }
+    ensures short { OnErr result (IsSome (value_of 0 pairs.now) ⊎ IsSome (value_of 1 pairs.now)) }
 {
     let whole = match value_of(pairs, 0) {
         Some(bytes) => tx_in(alloc, bytes)?,
@@ -54,6 +63,16 @@ fn fits_input(input: &TxIn, whole: &Option<Tx>) -> bool
     }
 }
 
+/// That the whole previous transaction is of the input of this index. It never runs out of memory.
+fn check_parent(index: u64, input: &TxIn, whole: &Option<Tx>) -> Result<(), PsbtFault>
+    ensures { result ≡ unless (fits_input input.now whole.now) (WrongParent (min index 4_294_967_295)) }
+{
+    if fits_input(input, whole) {
+        return Ok(());
+    }
+    Err(PsbtFault::WrongParent(index.min(u32::MAX as u64) as u32))
+}
+
 #[tactic(auto, unfolding(crate::specs::Reading::input_at))]
 fn input_of(
     alloc: Global,
@@ -65,9 +84,7 @@ fn input_of(
 {
     let pairs = pairs_of(alloc, Part::Input, cursor)?;
     let spent = spent_in(alloc, &pairs)?;
-    if !fits_input(input, &spent.whole) {
-        return Err(PsbtFault::WrongParent(index.min(u32::MAX as u64) as u32));
-    }
+    check_parent(index, input, &spent.whole)?;
     Ok(spent)
 }
 
@@ -105,12 +122,23 @@ fn maps_of(alloc: Global, cursor: &mut Cursor) -> Result<Psbt, PsbtFault>
 
 #[tactic(auto, unfolding(crate::specs::Reading::psbt_at))]
 fn psbt_of(alloc: Global, cursor: &mut Cursor) -> Result<Psbt, PsbtFault>
-    ensures { Yields OutOfMemory (λ p. p) cursor.new result (psbt_at cursor.old) }
+    ensures gives { Yields OutOfMemory (λ p. p) cursor.new result (psbt_at cursor.old) }
+    ensures short { result ≡ Err OutOfMemory → take 5 cursor.old.rest ≡ magic }
 {
     match cursor.take(5) {
         Ok(first) if first == MAGIC.as_slice() => maps_of(alloc, cursor),
         _ => Err(PsbtFault::Magic),
     }
+}
+
+/// That nothing is left. It never runs out of memory.
+fn check_end(cursor: &Cursor) -> Result<(), PsbtFault>
+    ensures { result ≡ unless (length cursor.now.rest == 0) (Trailing cursor.now.place) }
+{
+    if cursor.rest().is_empty() {
+        return Ok(());
+    }
+    Err(PsbtFault::Trailing(cursor.place()))
 }
 
 fn whole_of(alloc: Global, bytes: &[u8]) -> Result<Psbt, PsbtFault>
@@ -119,9 +147,7 @@ fn whole_of(alloc: Global, bytes: &[u8]) -> Result<Psbt, PsbtFault>
 {
     let mut cursor = Cursor::new(bytes);
     let psbt = psbt_of(alloc, &mut cursor)?;
-    if !cursor.rest().is_empty() {
-        return Err(PsbtFault::Trailing(cursor.place()));
-    }
+    check_end(&cursor)?;
     Ok(psbt)
 }
 

@@ -4,6 +4,7 @@ ghost use Rattle.std.specs.Prelude.{◌≡◌, ◌≢◌, List, ℕ, IfOk, IfErr
 ghost use Rattle.base64.specs.Engines.{standard};
 ghost use Rattle.base64.specs.GeneralPurpose.{encode_of};
 ghost use Rattle.fund_base.specs.Cursor.{IsBytes};
+ghost use Rattle.psbt_codec.specs.Fault.{text_fault};
 ghost use Rattle.psbt_codec.specs.Text.{psbt_text};
 ghost use Rattle.psbt_codec.specs.declared.fault.PsbtFault.TheVariants.{NotBase64, Memory as OutOfMemory};
 
@@ -40,6 +41,15 @@ fn encoded(alloc: Global, bytes: &[u8]) -> Result<String, Memory>
     Ok(text)
 }
 
+fn text_fault(fault: DecodeAllocError) -> PsbtFault
+    ensures { result ≡ text_fault fault }
+{
+    match fault {
+        DecodeAllocError::OutOfMemory => PsbtFault::Memory,
+        DecodeAllocError::DecodeError(_) => PsbtFault::NotBase64,
+    }
+}
+
 /// The bytes that the text is in base64, with the standard alphabet and padding (RFC 4648, section 4) and
 /// no bit set after the last byte. [`PsbtFault::NotBase64`] exactly where it is no such text; no other
 /// fault comes but out of memory.
@@ -51,7 +61,6 @@ pub fn from_text(alloc: Global, text: &[u8]) -> Result<Vec<u8>, PsbtFault>
 {
     match STANDARD.decode(alloc, text) {
         Ok(bytes) => Ok(bytes),
-        Err(DecodeAllocError::OutOfMemory) => Err(PsbtFault::Memory),
-        Err(DecodeAllocError::DecodeError(_)) => Err(PsbtFault::NotBase64),
+        Err(fault) => Err(text_fault(fault)),
     }
 }

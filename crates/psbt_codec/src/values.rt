@@ -1,10 +1,12 @@
 //! What the values of a PSBT's pairs hold.
 
-ghost use Rattle.std.specs.Prelude.{◌≡◌, ◌==◌, length, take, IfOk, MatchResult};
+ghost use Rattle.std.specs.Prelude.{◌≡◌, ◌≢◌, ◌==◌, length, take, Ok, Err, IfOk, OnErr, IsSome, MatchResult, if◌then◌else◌};
 ghost use Rattle.std.specs.Int.{w32, from_le_bytes};
+ghost use Rattle.std.specs.Result.{result_ok};
 ghost use Rattle.fund_base.specs.Parsing.{YieldsAll};
 ghost use Rattle.tx_codec.specs.Txid.{txid_of};
-ghost use Rattle.psbt_codec.specs.declared.fault.PsbtFault.TheVariants.{Memory as OutOfMemory};
+ghost use Rattle.tx_codec.specs.declared.fault.TxFault.TheVariants.{Memory as TxOutOfMemory};
+ghost use Rattle.psbt_codec.specs.declared.fault.PsbtFault.TheVariants.{NotBare, Memory as OutOfMemory};
 ghost use Rattle.psbt_codec.specs.Reading.{tx_in, paid_in, are_bare, is_parent, version_fits, unsigned_in};
 ghost use Rattle.psbt_codec.specs.Fault.{unsigned_fault};
 
@@ -13,21 +15,29 @@ use fund_base::{Cursor, Memory, Sat, Script};
 use std::alloc::Global;
 use tx_codec::{Tx, TxFault, TxIn, TxOut, read_whole_legacy_tx, read_whole_tx, txid};
 
-/// The transaction that the bytes are, all of them, if they are one.
-pub fn tx_in(alloc: Global, bytes: &[u8]) -> Result<Option<Tx>, Memory>
-    ensures { IfOk result (λ o. o ≡ tx_in bytes.now) }
+/// What was read, or none where it couldn't be read. Only out of memory is told as that.
+fn unless_short(read: Result<Tx, TxFault>) -> Result<Option<Tx>, Memory>
+    ensures { MatchResult result (λ o. (o ≡ result_ok read) × (read ≢ Err TxOutOfMemory)) (λ _. read ≡ Err TxOutOfMemory) }
 {
-    match read_whole_tx(alloc, bytes) {
+    match read {
         Ok(tx) => Ok(Some(tx)),
         Err(TxFault::Memory) => Err(Memory),
         Err(_) => Ok(None),
     }
 }
 
+/// The transaction that the bytes are, all of them, if they are one.
+pub fn tx_in(alloc: Global, bytes: &[u8]) -> Result<Option<Tx>, Memory>
+    ensures { IfOk result (λ o. o ≡ tx_in bytes.now) }
+{
+    unless_short(read_whole_tx(alloc, bytes))
+}
+
 /// The output that the bytes are, all of them, if they are one of at most 21,000,000 bitcoin.
 #[tactic(auto, unfolding(crate::specs::Reading::paid_in, tx_codec::specs::Reading::output_at, fund_base::specs::Parsing::string_at))]
 pub fn paid_in(alloc: Global, bytes: &[u8]) -> Result<Option<TxOut>, Memory>
-    ensures { IfOk result (λ o. o ≡ paid_in bytes.now) }
+    ensures gives { IfOk result (λ o. o ≡ paid_in bytes.now) }
+    ensures short { OnErr result (IsSome (paid_in bytes.now)) }
 {
     let mut cursor = Cursor::new(bytes);
     let Ok(number) = cursor.u64_le() else {
@@ -54,7 +64,8 @@ pub fn paid_in(alloc: Global, bytes: &[u8]) -> Result<Option<TxOut>, Memory>
 /// Whether a global pair's value says version 0, in four bytes.
 #[tactic(auto, unfolding(crate::specs::Reading::version_fits))]
 pub fn check_version(place: u64, value: &[u8]) -> Result<(), PsbtFault>
-    ensures { YieldsAll OutOfMemory (λ u. u) result (version_fits place value.now) }
+    ensures gives { YieldsAll OutOfMemory (λ u. u) result (version_fits place value.now) }
+    ensures never_short { result ≢ Err OutOfMemory }
 {
     if value.len() != 4 {
         return Err(PsbtFault::Field(place));
@@ -81,14 +92,24 @@ fn are_bare(inputs: &[TxIn]) -> bool
     inputs.iter().all(|input| input.script.bytes().is_empty())
 }
 
+/// The transaction, if each script of its inputs is empty. It never runs out of memory.
+fn check_bare(tx: Tx) -> Result<Tx, PsbtFault>
+    ensures { result ≡ (if are_bare tx.inputs then Ok tx else Err NotBare) }
+{
+    if are_bare(&tx.inputs) {
+        Ok(tx)
+    } else {
+        Err(PsbtFault::NotBare)
+    }
+}
+
 /// The unsigned transaction that the bytes are.
 #[tactic(auto, unfolding(crate::specs::Reading::unsigned_in))]
 pub fn unsigned_in(alloc: Global, bytes: &[u8]) -> Result<Tx, PsbtFault>
     ensures { YieldsAll OutOfMemory (λ t. t) result (unsigned_in bytes.now) }
 {
     match read_whole_legacy_tx(alloc, bytes) {
-        Ok(tx) if are_bare(&tx.inputs) => Ok(tx),
-        Ok(_) => Err(PsbtFault::NotBare),
+        Ok(tx) => check_bare(tx),
         Err(fault) => Err(unsigned_fault(fault)),
     }
 }
