@@ -1,8 +1,8 @@
 -- The coins of a transaction, one by one.
-use Rattle.std.proofs.Common.{◌≡◌, ◌∙◌, ℕ, zero, suc, ◌+◌, List, ◌++◌, map, Option, Some, None, refl, sym, ap, add-one, cond, Bool, true, false, slice_get}
-use Rattle.std.specs.Prelude.{option_map, option_and_then, nat_le}
+use Rattle.std.proofs.Common.{◌≡◌, ◌∙◌, ℕ, zero, suc, ◌+◌, ◌<◌, arith, below_more as below_next, length, List, ◌++◌, map, Option, Some, None, refl, sym, ap, add-one, cond, Bool, true, false, true≢false, slice_get}
+use Rattle.std.specs.Prelude.{is_some, option_map, option_and_then, nat_le}
 use Rattle.std.specs.Option.{option_to_list}
-use Rattle.std.proofs.lemmas.List.{map-append}
+use Rattle.std.proofs.lemmas.List.{length-append, length-map, map-append}
 use Rattle.tx_codec.specs.Transaction.{Transaction}
 use Rattle.tx_codec.specs.Txid.{txid_of}
 use Rattle.coin_book.specs.Coinbase.{is_coinbase_of}
@@ -69,3 +69,35 @@ again_below weigh height t (suc n) =
 -- coins that are each given the transaction
 pub with_maker : (weigh : List ℕ → Option ℕ) (height : Option ℕ) (t : Transaction) (n : ℕ) (cs : List Coin) → cs ≡ coins (coins_below (coin_at weigh height t) n) → map (by_maker t) cs ≡ coins_below (coin_at weigh height t) n
 with_maker weigh height t n cs is = ap (map (by_maker t)) is ∙ again_below weigh height t n
+
+-- ---- where there is a coin
+
+pub one_of : (o : Option Made) → is_some o ≡ true → length (option_to_list o) ≡ 1
+one_of None e = absurd (true≢false (sym e))
+one_of (Some m) e = refl
+
+pub one_below : (coin : ℕ → Option Made) (n i : ℕ) → i < n → is_some (coin i) ≡ true → 0 < length (coins_below coin n)
+unfolding coins_below
+one_below coin zero i lt is = absurd (omega arith)
+one_below coin (suc n) i lt is =
+    let all = coins_below coin n ++ option_to_list (coin n) in
+    let more : length all ≡ length (coins_below coin n) + length (option_to_list (coin n)) = length-append (coins_below coin n) (option_to_list (coin n)) in
+    below_next (λ k. is_some (coin k) ≡ true → 0 < length all) n
+    (λ k low there. let before = one_below coin n k low there in omega arith)
+    (λ there. let here = one_of (coin n) there in omega arith) i (omega arith) is
+
+pub some_found : (c : Coin) (o : Option Made) → Some c ≡ coin_made o → is_some o ≡ true
+some_found c None e = cc
+some_found c (Some m) e = refl
+
+pub some_made : (cs : List Coin) (made : List Made) → cs ≡ coins made → 0 < length cs → 0 < length made
+some_made cs made is lt = let n : length cs ≡ length made = ap (λ (l : List Coin). length l) is ∙ length-map made (λ (m : Made). m.coin) in omega arith
+
+-- how many there are, one place further
+pub count_more : (coin : ℕ → Option Made) (n : ℕ) → length (coins_below coin (n + 1)) ≡ length (coins_below coin n) + length (option_to_list (coin n))
+unfolding coins_below
+count_more coin n = rw add-one (length-append (coins_below coin n) (option_to_list (coin n)))
+
+pub counted_none : (o : Option Made) → is_some o ≡ false → length (option_to_list o) ≡ 0
+counted_none None e = refl
+counted_none (Some m) e = absurd (true≢false e)

@@ -3,6 +3,7 @@ pub mod CallSteps
 pub mod ChainSteps
 pub mod CoinSteps
 pub mod FaultSteps
+pub mod FoundCoins
 pub mod LawSteps
 pub mod ListSteps
 pub mod MapSteps

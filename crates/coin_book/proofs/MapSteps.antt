@@ -1,16 +1,17 @@
 -- Entries of the maps, one put or added at a time.
-use Rattle.std.proofs.Common.{◌≡◌, ◌∙◌, ◌+◌, length, Bool, true, false, cond, ◌||◌, List, [], ◌∷◌, ◌++◌, map, Option, Some, None, refl, sym, ap, Vec, Global, append_assoc, true≢false}
+use Rattle.std.proofs.Common.{◌≡◌, ◌∙◌, ◌+◌, arith, length, take, Bool, true, false, cond, ◌||◌, List, [], ◌∷◌, ◌++◌, map, Option, Some, None, refl, sym, ap, Vec, Global, append_assoc, true≢false}
 use Rattle.std.specs.Prelude.{is_some, nat_lt}
 use Rattle.std.specs.List.{list_any}
 use Rattle.std.specs.Map.{keys_of, lookup}
 use Rattle.std.specs.Option.{option_map_or, option_or}
 use Rattle.std.proofs.lemmas.List.{append-nil, length-append, length-map, map-append}
+use Rattle.std.proofs.Math.Seq.{take-append_seam}
 use Rattle.std.proofs.lemmas.List.Folds.{list_any-append}
 use Rattle.std.proofs.lemmas.Map.Made.{is_some-lookup}
 use Rattle.fund_base.specs.Outpoints.{same_outpoint}
 use Rattle.fund_base.specs.declared.outpoint.OutPoint.{OutPoint}
 use Rattle.coin_book.specs.Faults.{fault_behind}
-use Rattle.coin_book.specs.Merging.{entry_of, held_point}
+use Rattle.coin_book.specs.Merging.{StopsShort, entry_of, held_point}
 use Rattle.coin_book.specs.declared.fault.BookFault.{BookFault}
 use Rattle.coin_book.specs.declared.fault.BookFault.TheVariants.{Full, RepeatCoin}
 use Rattle.coin_book.specs.declared.coin.Spend.{Spend}
@@ -114,6 +115,23 @@ fault_next base old now front one r was fresh here =
     ∙ (λ k. option_or (fresh k) (fault_behind (append_assoc base (keys_of old) (map held_point front) k) (held_point one ∷ [])))
     ∙ ap (λ (os : List OutPoint). fault_behind (base ++ os) (held_point one ∷ [])) (sym (keys_more old now front was))
     ∙ here
+
+-- memory was short for this coin
+pub stops_short : (base : List OutPoint) (old now new : List (OutPoint × Held)) (front rest all : List Held) (one : Held) → now ≡ old ++ map entry_of front → fault_behind (base ++ keys_of old) (map held_point front) ≡ None
+    → (front ++ one ∷ []) ++ rest ≡ all → new ≡ now → fault_behind (base ++ keys_of now) (held_point one ∷ []) ≡ None → StopsShort (base ++ keys_of old) (map held_point all) (length old) (length new)
+stops_short base old now new front rest all one was fresh whole same here =
+    let up_to = map held_point (front ++ one ∷ []) in
+    let size : length up_to ≡ length front + 1 = length-map (front ++ one ∷ []) held_point ∙ length-append front (one ∷ []) in
+    let parts : map held_point all ≡ up_to ++ map held_point rest = ap (map held_point) (sym whole) ∙ map-append held_point (front ++ one ∷ []) rest in
+    let many : length (map held_point all) ≡ length up_to + length (map held_point rest) = ap (λ (os : List OutPoint). length os) parts ∙ length-append up_to (map held_point rest) in
+    record {
+      added = length front;
+      count = ap (λ (es : List (OutPoint × Held)). length es) (same ∙ was) ∙ length-append old (map entry_of front) ∙ ap (λ n. length old + n) (length-map front entry_of);
+      place = omega arith;
+      sound = (λ k. fault_behind (base ++ keys_of old) (take (sym size k) (parts k)))
+          ∙ ap (fault_behind (base ++ keys_of old)) (take-append_seam up_to (map held_point rest))
+          ∙ fault_next base old now front one None was fresh here;
+    }
 
 -- ---- a loop over values that are given one by one
 

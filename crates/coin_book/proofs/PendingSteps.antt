@@ -110,19 +110,24 @@ pending_fault h ws l ps txids count t e k fresh is =
     let lt = f.1 in
     (f.0, total_told h ws l ps txids count t k ∙ no_room_for (length l.coins.entries + length ps + length (own ws l t)) (omega arith) ∙ ap Some (sym f.0))
 
-pub pending_full : (h : History) (ws : List (Vec ℕ Global × ℕ)) (l : Ledger) (ps es : List (OutPoint × Held)) (txids : List (List ℕ)) (count : ℕ) (t : Transaction) → IsKept h ws l ps txids count
-    → HoldsCoins (made_waiting (weigher ws) l.heights.entries t) es → nat_le (length l.coins.entries + length ps + length es) 100_000 ≡ false → fault_of (with_pending h t) ≡ Some Full
-pending_full h ws l ps es txids count t k holds over =
-    let n = held_count (own ws l t) es holds in
-    let lt = leb-false (length l.coins.entries + length ps + length es) 100_000 over in
+pub pending_full : (h : History) (ws : List (Vec ℕ Global × ℕ)) (l : Ledger) (ps : List (OutPoint × Held)) (txids : List (List ℕ)) (count : ℕ) (t : Transaction) (more : ℕ) → IsKept h ws l ps txids count
+    → more ≡ length (made_waiting (weigher ws) l.heights.entries t) → nat_le (length l.coins.entries + length ps + more) 100_000 ≡ false → fault_of (with_pending h t) ≡ Some Full
+pending_full h ws l ps txids count t more k is over =
+    let lt = leb-false (length l.coins.entries + length ps + more) 100_000 over in
     total_told h ws l ps txids count t k ∙ no_room_for (length l.coins.entries + length ps + length (own ws l t)) (omega arith)
 
-pub pending_sound : (h : History) (ws : List (Vec ℕ Global × ℕ)) (l : Ledger) (ps es : List (OutPoint × Held)) (txids : List (List ℕ)) (count : ℕ) (t : Transaction) → IsKept h ws l ps txids count
-    → HoldsCoins (made_waiting (weigher ws) l.heights.entries t) es → nat_le (length l.coins.entries + length ps + length es) 100_000 ≡ true → fault_of (with_pending h t) ≡ None
-pending_sound h ws l ps es txids count t k holds within =
-    let n = held_count (own ws l t) es holds in
-    let le = leb-true (length l.coins.entries + length ps + length es) 100_000 within in
+pub pending_sound : (h : History) (ws : List (Vec ℕ Global × ℕ)) (l : Ledger) (ps : List (OutPoint × Held)) (txids : List (List ℕ)) (count : ℕ) (t : Transaction) (more : ℕ) → IsKept h ws l ps txids count
+    → more ≡ length (made_waiting (weigher ws) l.heights.entries t) → nat_le (length l.coins.entries + length ps + more) 100_000 ≡ true → fault_of (with_pending h t) ≡ None
+pending_sound h ws l ps txids count t more k is within =
+    let le = leb-true (length l.coins.entries + length ps + more) 100_000 within in
     total_told h ws l ps txids count t k ∙ room_for (length l.coins.entries + length ps + length (own ws l t)) (omega arith)
+
+-- where there is room for so many coins as it has
+pub pending_fits : (h g : History) (ws : List (Vec ℕ Global × ℕ)) (l : Ledger) (ps : List (OutPoint × Held)) (txids : List (List ℕ)) (count : ℕ) (t : Transaction) (more a b : ℕ) (room : Bool) → h ≡ g → IsKept h ws l ps txids count
+    → more ≡ length (made_waiting (weigher ws) l.heights.entries t) → a ≡ length l.coins.entries → b ≡ length ps → room ≡ nat_le (a + b + more) 100_000 → room ≡ true → fault_of (with_pending g t) ≡ None
+pending_fits h g ws l ps txids count t more a b room same k is confirmed waiting told fits =
+    sym (ap (λ (h : History). fault_of (with_pending h t)) same)
+    ∙ pending_sound h ws l ps txids count t more k is ((λ j. nat_le (sym confirmed j + sym waiting j + more) 100_000) ∙ sym told ∙ fits)
 
 -- ---- the book with it
 
@@ -140,10 +145,10 @@ both_hold a b es xs new p q is = record {
   keys_are = ap (λ (l : List (OutPoint × Held)). keys_of l) is ∙ map-append (λ (e : OutPoint × Held). e.0) es xs ∙ (λ j. p.keys_are j ++ q.keys_are j) ∙ sym (map-append (λ (m : Made). m.coin.coin) a b);
 }
 
-pub pending_kept : (h g : History) (ws : List (Vec ℕ Global × ℕ)) (l : Ledger) (ps es new : List (OutPoint × Held)) (txids listed : List (List ℕ)) (count : ℕ) (t : Transaction) → IsKept h ws l ps txids count
-    → All (λ (p : Transaction). txid_of p ≢ txid_of t) h.pending → HoldsCoins (made_waiting (weigher ws) l.heights.entries t) es → nat_le (length l.coins.entries + length ps + length es) 100_000 ≡ true
+pub pending_kept : (h g : History) (ws : List (Vec ℕ Global × ℕ)) (l : Ledger) (ps es new : List (OutPoint × Held)) (txids listed : List (List ℕ)) (count : ℕ) (t : Transaction) (more : ℕ) → IsKept h ws l ps txids count
+    → All (λ (p : Transaction). txid_of p ≢ txid_of t) h.pending → HoldsCoins (made_waiting (weigher ws) l.heights.entries t) es → more ≡ length (made_waiting (weigher ws) l.heights.entries t) → nat_le (length l.coins.entries + length ps + more) 100_000 ≡ true
     → fault_behind (keys_of ps) (points (made_waiting (weigher ws) l.heights.entries t)) ≡ None → new ≡ insert_all same_outpoint ps es → listed ≡ insert_key bytes_eq txids (txid_of t) → with_pending h t ≡ g → IsKept g ws l new listed count
-pending_kept h g ws l ps es new txids listed count t k fresh holds within none put told same =
+pending_kept h g ws l ps es new txids listed count t more k fresh holds is within none put told same =
     subst (λ (g : History). IsKept g ws l new listed count) same
     (record {
       weights_are = k.weights_are;
@@ -154,7 +159,7 @@ pending_kept h g ws l ps es new txids listed count t k fresh holds within none p
           ∙ ap (λ (b : Bool). cond b txids (txids ++ txid_of t ∷ [])) (ap (list_any (bytes_eq (txid_of t))) k.txids_are ∙ not_listed (txid_of t) h.pending fresh)
           ∙ ap (λ (ids : List (List ℕ)). ids ++ txid_of t ∷ []) k.txids_are ∙ sym (map-append txid_of h.pending (t ∷ []));
       count_is = k.count_is;
-      sound = pending_sound h ws l ps es txids count t k holds within;
+      sound = pending_sound h ws l ps txids count t more k is within;
     })
 
 pub one_waiting : (h : History) (t : Transaction) (old all new : List (Snapshot Transaction)) (s : Snapshot Transaction) → map (λ (s : Snapshot Transaction). s.value) old ≡ h.pending → s.value ≡ t → all ≡ old → new ≡ all ++ s ∷ []

@@ -1,3 +1,4 @@
+pub mod AtOutpoint
 pub mod Coinbase
 pub mod Coins
 pub mod Events

@@ -1,11 +1,12 @@
 -- What the steps of adding a transaction speak of.
-use Rattle.std.specs.Prelude.{ℕ, ◌≡◌, ◌≢◌, Bool, List, [], filter, flat_map, Option, Some, None, is_none, Result, Ok, Err, Vec, bytes_eq, if◌then◌else◌}
+use Rattle.std.specs.Prelude.{ℕ, ◌≡◌, ◌≢◌, ◌+◌, ◌<◌, Bool, List, [], filter, flat_map, length, take, Option, Some, None, is_none, Result, Ok, Err, Vec, bytes_eq, if◌then◌else◌}
 use Rattle.std.specs.List.{list_any}
 use Rattle.std.specs.declared.alloc.Global.{Global}
 use Rattle.std.specs.Map.{keys_of, lookup}
 use Rattle.std.specs.Option.{option_map_or}
 use Rattle.fund_base.specs.Outpoints.{same_outpoint}
 use Rattle.fund_base.specs.declared.outpoint.OutPoint.{OutPoint}
+use Rattle.coin_book.specs.Faults.{fault_behind}
 use Rattle.coin_book.specs.declared.coin.Spend.{Spend}
 use Rattle.coin_book.specs.declared.fault.BookFault.{BookFault}
 use Rattle.coin_book.specs.declared.fault.BookFault.TheVariants.{Memory}
@@ -43,3 +44,11 @@ shares txids heights = list_any (λ (t : List ℕ). list_any (bytes_eq t) txids)
 abbrev pub Meets : {A : Type 0} → Result A BookFault → Option BookFault → Type 0
 Meets (Ok a) fault = fault ≡ None
 Meets (Err e) fault = e ≢ Memory → fault ≡ Some e
+
+-- Memory was short for one of these outpoints, which stand after others: those before it were added to so many entries,
+-- and none up to it has a fault.
+pub record StopsShort (before behind : List OutPoint) (old new : ℕ) : Type 0 where
+  pub added : ℕ
+  pub count : new ≡ old + added
+  pub place : added < length behind
+  pub sound : fault_behind before (take (added + 1) behind) ≡ None

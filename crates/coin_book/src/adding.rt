@@ -1,6 +1,6 @@
 //! Transactions added to a ledger.
 
-ghost use Rattle.std.specs.Prelude.{ℕ, ◌≡◌, ◌+◌, ◌<◌, ◌^◌, ◌++◌, ◌∷◌, [], IfOk, List, OnOk, Some, bytes_eq, length, map, if◌then◌else◌};
+ghost use Rattle.std.specs.Prelude.{ℕ, ◌≡◌, ◌+◌, ◌<◌, ◌^◌, ◌++◌, ◌∷◌, [], IfOk, List, OnErr, OnOk, Some, bytes_eq, false, length, map, if◌then◌else◌};
 ghost use Rattle.std.specs.Map.{lookup};
 ghost use Rattle.fund_base.specs.declared.outpoint.OutPoint.{OutPoint};
 ghost use Rattle.tx_codec.specs.Txid.{txid_of};
@@ -27,7 +27,8 @@ impl Ledger {
         base.heights.contains_key(txid) || self.heights.contains_key(txid)
     }
 
-    /// Adds the height and the spends of a transaction of this txid, unless one stands here or in the other ledger.
+    /// Adds the height and the spends of a transaction of this txid, unless one stands here or in the other ledger: then
+    /// it takes no memory.
     fn add_spender(
         &mut self,
         alloc: Global,
@@ -36,6 +37,7 @@ impl Ledger {
         spend: &Spend,
     ) -> Result<(), Memory>
         ensures coins { self.new.coins ≡ self.old.coins }
+        ensures short { OnErr result (is_known base.now self.old spend.now.txid ≡ false) }
         ensures heights { (t : List ℕ) → OnOk result (lookup (bytes_eq t) self.new.heights.entries ≡ (if is_known base.now self.old spend.now.txid then lookup (bytes_eq t) self.old.heights.entries else if bytes_eq spend.now.txid t then Some spend.now.height else lookup (bytes_eq t) self.old.heights.entries)) }
         ensures spends { (o : OutPoint) → OnOk result (spends_in self.new.spends.entries o ≡ spends_in self.old.spends.entries o ++ (if is_known base.now self.old spend.now.txid then [] else if has_input o inputs.now then spend.now ∷ [] else [])) }
     {

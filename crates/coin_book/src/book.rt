@@ -1,6 +1,6 @@
 //! The book of coins.
 
-ghost use Rattle.std.specs.Prelude.{◌≡◌, ◌≢◌, All, IfErr, IfOk, OnErr, OnOk, length, map, option_map, slice_get};
+ghost use Rattle.std.specs.Prelude.{◌≡◌, ◌≢◌, All, Err, IfErr, IfOk, None, OnErr, OnOk, length, map, option_map, slice_get};
 ghost use Rattle.std.specs.Map.{lookup};
 ghost use Rattle.std.specs.Option.{option_copied};
 ghost use Rattle.fund_base.specs.Outpoints.{same_outpoint};
@@ -8,6 +8,7 @@ ghost use Rattle.fund_base.specs.declared.outpoint.OutPoint.{OutPoint};
 ghost use Rattle.tx_codec.specs.Transaction.{Transaction};
 ghost use Rattle.tx_codec.specs.TransactionText.{IsTransaction};
 ghost use Rattle.tx_codec.specs.Txid.{txid_of};
+ghost use Rattle.coin_book.specs.AtOutpoint.{coin_under};
 ghost use Rattle.coin_book.specs.Coins.{coins_of, parent_of};
 ghost use Rattle.coin_book.specs.Faults.{Answers, fault_of};
 ghost use Rattle.coin_book.specs.History.{start_of, with_block, with_pending};
@@ -22,7 +23,7 @@ use crate::fault::BookFault;
 use crate::held::Held;
 use crate::ledger::{Ledger, Weights};
 use crate::moving::{left_of, settle};
-use crate::waiting::{coins_beside, fits};
+use crate::waiting::{coins_beside, count_beside, fits};
 use block_feed::Block;
 use fund_base::{OutPoint, Txid};
 use indexmap::{IndexMap, IndexSet};
@@ -136,18 +137,23 @@ impl Book {
     /// Adds a transaction that waits for a block, after all that were added before. Its coins stand last, unless a
     /// transaction of its txid is confirmed: then it has none.
     ///
-    /// [`BookFault::Full`] comes exactly where there would be more than 100,000 coins. After a fault the book is as
-    /// before.
+    /// [`BookFault::Full`] comes exactly where there would be more than 100,000 coins, and nothing else there. After a
+    /// fault the book is as before.
     pub fn add_pending(&mut self, tx: &Tx) -> Result<(), BookFault>
         requires text { IsTransaction tx.now }
         requires fresh { All (λ (t : Transaction). txid_of t ≢ txid_of tx.now) self.old.pending }
         ensures added { OnOk result (self.new ≡ with_pending self.old tx.now) }
         ensures exact { Answers result (with_pending self.old tx.now) }
         ensures full { IfErr result (λ e. e ≢ Memory → e ≡ Full) }
+        ensures short { result ≡ Err Memory → fault_of (with_pending self.old tx.now) ≡ None }
         ensures kept { OnErr result (self.new ≡ self.old) }
     {
         let id = txid(tx);
         let heights = &self.ledger.heights;
+        let more = count_beside(&self.weights, heights, tx, &id);
+        if !fits(self.ledger.coins.len(), self.pending.len(), more) {
+            return Err(BookFault::Full);
+        }
         let mut coins = match coins_beside(
             self.alloc,
             &self.weights,
@@ -159,9 +165,6 @@ impl Book {
             Ok(coins) => coins,
             Err(fault) => return Err(fault),
         };
-        if !fits(self.ledger.coins.len(), self.pending.len(), coins.len()) {
-            return Err(BookFault::Full);
-        }
         self.waiting.reserve(1)?;
         self.txids.reserve(1)?;
         self.pending.append(&mut coins)?;
@@ -188,6 +191,16 @@ impl Book {
             coin_in(&self.ledger.coins, i)
         } else {
             coin_in(&self.pending, i - confirmed)
+        }
+    }
+
+    /// The coin at this outpoint. None exactly where no coin is there.
+    pub fn get(&self, coin: &OutPoint) -> Option<&Coin>
+        ensures { option_copied result ≡ coin_under self.now coin.now }
+    {
+        match held_in(&self.ledger.coins, coin) {
+            Some(found) => Some(found),
+            None => held_in(&self.pending, coin),
         }
     }
 
@@ -226,6 +239,14 @@ fn coin_in(coins: &IndexMap<OutPoint, Held>, i: usize) -> Option<&Coin>
 {
     let (_, held) = coins.get_index(i)?;
     Some(&held.coin)
+}
+
+/// The coin at this outpoint among the entries.
+fn held_in<'a>(coins: &'a IndexMap<OutPoint, Held>, coin: &OutPoint) -> Option<&'a Coin>
+    ensures { option_copied result ≡ option_map (λ (h : Held). h.coin) (lookup (same_outpoint coin.now) coins.now.entries) }
+{
+    let found = coins.get(coin)?;
+    Some(&found.coin)
 }
 
 /// The transaction of the coin at this outpoint.

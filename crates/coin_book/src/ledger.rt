@@ -1,6 +1,6 @@
 //! What is held of confirmed transactions.
 
-ghost use Rattle.std.specs.Prelude.{◌≡◌, ◌++◌, ◌∷◌, [], ◌+◌, List, IfOk, OnErr, OnOk, length, map, nat_lt, ◌||◌, if◌then◌else◌};
+ghost use Rattle.std.specs.Prelude.{◌≡◌, ◌++◌, ◌∷◌, [], ◌+◌, List, Err, IfOk, None, OnErr, OnOk, length, map, nat_lt, ◌||◌, if◌then◌else◌};
 ghost use Rattle.std.specs.List.{list_any};
 ghost use Rattle.std.specs.Map.{keys_of};
 ghost use Rattle.indexmap.specs.IndexSet.{contains};
@@ -8,8 +8,9 @@ ghost use Rattle.fund_base.specs.Outpoints.{same_outpoint};
 ghost use Rattle.fund_base.specs.declared.outpoint.OutPoint.{OutPoint};
 ghost use Rattle.coin_book.specs.Spends.{has_input};
 ghost use Rattle.coin_book.specs.Faults.{fault_behind};
-ghost use Rattle.coin_book.specs.Merging.{Meets, entry_of, held_point, spends_in};
+ghost use Rattle.coin_book.specs.Merging.{Meets, StopsShort, entry_of, held_point, spends_in};
 ghost use Rattle.coin_book.specs.declared.coin.Spend.{Spend};
+ghost use Rattle.coin_book.specs.declared.fault.BookFault.TheVariants.{Memory as NoMemory};
 
 use crate::coin::Spend;
 use crate::fault::BookFault;
@@ -86,6 +87,8 @@ fn add_coin(
     requires { point ≡ held_point held }
     ensures added { OnOk result (coins.new.entries ≡ coins.old.entries ++ entry_of held ∷ []) }
     ensures exact { Meets result (fault_behind (keys_of base.now.entries ++ keys_of coins.old.entries) (held_point held ∷ [])) }
+    ensures short { result ≡ Err NoMemory → fault_behind (keys_of base.now.entries ++ keys_of coins.old.entries) (held_point held ∷ []) ≡ None }
+    ensures kept { OnErr result (coins.new.entries ≡ coins.old.entries) }
 {
     if stands(base, coins, &point) {
         return Err(BookFault::RepeatCoin(point));
@@ -98,7 +101,8 @@ fn add_coin(
 }
 
 /// Adds coins after the others, which stand after those of `base`. RepeatCoin or Full comes exactly where an outpoint
-/// would stand twice or a coin be number 100,001, by the first coin of which this is so.
+/// would stand twice or a coin be number 100,001, by the first coin of which this is so. When out of memory, those
+/// before one coin are added, and no coin up to that one is such a coin.
 pub fn add_coins(
     coins: &mut IndexMap<OutPoint, Held>,
     base: &IndexMap<OutPoint, Held>,
@@ -106,6 +110,7 @@ pub fn add_coins(
 ) -> Result<(), BookFault>
     ensures added { OnOk result (coins.new.entries ≡ coins.old.entries ++ map entry_of held.items) }
     ensures exact { Meets result (fault_behind (keys_of base.now.entries ++ keys_of coins.old.entries) (map held_point held.items)) }
+    ensures short { result ≡ Err NoMemory → StopsShort (keys_of base.now.entries ++ keys_of coins.old.entries) (map held_point held.items) (length coins.old.entries) (length coins.new.entries) }
 {
     for one in held {
         match add_coin(coins, base, point_of(&one), one) {

@@ -1,6 +1,6 @@
 //! The coins of a transaction.
 
-ghost use Rattle.std.specs.Prelude.{◌≡◌, ◌<◌, IfOk, length, map};
+ghost use Rattle.std.specs.Prelude.{◌≡◌, ◌<◌, IfOk, None, OnErr, is_some, length, map, true};
 ghost use Rattle.tx_codec.specs.Txid.{txid_of};
 ghost use Rattle.coin_book.specs.Coins.{Made, coin_at, coin_of, coins_below, made_in};
 ghost use Rattle.coin_book.specs.declared.coin.Coin.{Coin};
@@ -15,7 +15,7 @@ use std::alloc::Global;
 use std::rc::Rc;
 use tx_codec::{Tx, TxOut};
 
-/// The output as a coin. None exactly where its script isn't listed.
+/// The output as a coin. None exactly where its script isn't listed: then it takes no memory.
 #[tactic(auto, unfolding(crate::specs::Coins::coin_of))]
 fn coin_from(
     alloc: Global,
@@ -27,7 +27,8 @@ fn coin_from(
     output: &TxOut,
 ) -> Result<Option<Coin>, Memory>
     requires { txid ≡ txid_of tx.now }
-    ensures { IfOk result (λ found. found ≡ coin_made (coin_of (weigher weights.now.entries) height tx.now index output.now)) }
+    ensures made { IfOk result (λ found. found ≡ coin_made (coin_of (weigher weights.now.entries) height tx.now index output.now)) }
+    ensures short { OnErr result (is_some (coin_of (weigher weights.now.entries) height tx.now index output.now) ≡ true) }
 {
     let Some(weight) = weights.get(output.script.bytes()) else {
         return Ok(None);
@@ -44,7 +45,7 @@ fn coin_from(
 }
 
 /// The coin at this place of the outputs. None exactly where its script isn't listed, or the place is above
-/// 4,294,967,295.
+/// 4,294,967,295: then it takes no memory.
 #[tactic(auto, unfolding(crate::specs::Coins::coin_at))]
 fn coin_at(
     alloc: Global,
@@ -56,7 +57,8 @@ fn coin_at(
 ) -> Result<Option<Coin>, Memory>
     requires txid { txid ≡ txid_of tx.now }
     requires index { index < length tx.now.outputs }
-    ensures { IfOk result (λ found. found ≡ coin_made (coin_at (weigher weights.now.entries) height tx.now index)) }
+    ensures made { IfOk result (λ found. found ≡ coin_made (coin_at (weigher weights.now.entries) height tx.now index)) }
+    ensures short { OnErr result (is_some (coin_at (weigher weights.now.entries) height tx.now index) ≡ true) }
 {
     if index > u32::MAX as usize {
         return Ok(None);
@@ -72,7 +74,29 @@ fn coin_at(
     )
 }
 
-/// The coins of the transaction, in order.
+/// Whether the output at this place is a coin.
+#[tactic(auto, unfolding(crate::specs::Coins::coin_at, crate::specs::Coins::coin_of))]
+fn is_coin(weights: &Weights, tx: &Tx, index: usize) -> bool
+    requires { index < length tx.now.outputs }
+    ensures { result ≡ is_some (coin_at (weigher weights.now.entries) None tx.now index) }
+{
+    index <= u32::MAX as usize && weights.contains_key(tx.outputs[index].script.bytes())
+}
+
+/// How many coins the transaction has.
+pub fn count_in(weights: &Weights, tx: &Tx) -> usize
+    ensures { result ≡ length (made_in (weigher weights.now.entries) None tx.now) }
+{
+    let mut count = 0;
+    for index in 0..tx.outputs.len() {
+        if is_coin(weights, tx, index) {
+            count += 1;
+        }
+    }
+    count
+}
+
+/// The coins of the transaction, in order. It takes memory only where there is one.
 fn coins_in(
     alloc: Global,
     weights: &Weights,
@@ -81,7 +105,8 @@ fn coins_in(
     height: Option<u32>,
 ) -> Result<Vec<Coin>, Memory>
     requires { txid ≡ txid_of tx.now }
-    ensures { IfOk result (λ v. v.items ≡ map (λ (m : Made). m.coin) (coins_below (coin_at (weigher weights.now.entries) height tx.now) (length tx.now.outputs))) }
+    ensures made { IfOk result (λ v. v.items ≡ map (λ (m : Made). m.coin) (coins_below (coin_at (weigher weights.now.entries) height tx.now) (length tx.now.outputs))) }
+    ensures short { OnErr result (0 < length (coins_below (coin_at (weigher weights.now.entries) height tx.now) (length tx.now.outputs))) }
 {
     let mut coins = Vec::new(alloc);
     for index in 0..tx.outputs.len() {
@@ -107,7 +132,8 @@ fn held_by(alloc: Global, coins: Vec<Coin>, maker: Rc<Tx>) -> Result<Vec<Held>, 
     Ok(held)
 }
 
-/// The coins of the transaction of this txid, in order, each with a copy of the transaction that they share.
+/// The coins of the transaction of this txid, in order, each with a copy of the transaction that they share. It takes
+/// memory only where there is one.
 #[tactic(auto, unfolding(crate::specs::Coins::made_in))]
 pub fn held_in(
     alloc: Global,
@@ -117,7 +143,8 @@ pub fn held_in(
     height: Option<u32>,
 ) -> Result<Vec<Held>, Memory>
     requires { txid ≡ txid_of tx.now }
-    ensures { IfOk result (λ v. map held_made v.items ≡ made_in (weigher weights.now.entries) height tx.now) }
+    ensures made { IfOk result (λ v. map held_made v.items ≡ made_in (weigher weights.now.entries) height tx.now) }
+    ensures short { OnErr result (0 < length (made_in (weigher weights.now.entries) height tx.now)) }
 {
     let coins = coins_in(alloc, weights, tx, txid, height)?;
     if coins.is_empty() {

@@ -1,17 +1,18 @@
 //! The coins of transactions that wait for a block.
 
-ghost use Rattle.std.specs.Prelude.{ℕ, ◌≡◌, ◌+◌, [], IfOk, bytes_eq, is_some, nat_le, if◌then◌else◌};
+ghost use Rattle.std.specs.Prelude.{ℕ, ◌≡◌, ◌+◌, ◌<◌, [], Err, IfOk, None, bytes_eq, is_some, length, nat_le, if◌then◌else◌};
 ghost use Rattle.std.specs.Map.{keys_of, lookup};
 ghost use Rattle.tx_codec.specs.Txid.{txid_of};
 ghost use Rattle.coin_book.specs.Coins.{made_in};
 ghost use Rattle.coin_book.specs.Faults.{fault_behind, points};
 ghost use Rattle.coin_book.specs.Invariant.{HoldsCoins, made_waiting, weigher};
 ghost use Rattle.coin_book.specs.Merging.{Meets};
+ghost use Rattle.coin_book.specs.declared.fault.BookFault.TheVariants.{Memory as NoMemory};
 
 use crate::fault::BookFault;
 use crate::held::Held;
 use crate::ledger::{MOST_COINS, Weights, add_coins};
-use crate::making::held_in;
+use crate::making::{count_in, held_in};
 use fund_base::{OutPoint, Txid};
 use indexmap::IndexMap;
 use std::alloc::Global;
@@ -26,7 +27,19 @@ pub fn fits(confirmed: usize, waiting: usize, more: usize) -> bool
         && more <= MOST_COINS - confirmed - waiting
 }
 
-/// The coins of a transaction of this txid, which is to wait beside others. There are none where it is confirmed.
+/// How many coins a transaction of this txid has that is to wait. There are none where it is confirmed.
+pub fn count_beside(weights: &Weights, heights: &IndexMap<Txid, u32>, tx: &Tx, txid: &Txid) -> usize
+    requires { txid.now ≡ txid_of tx.now }
+    ensures { result ≡ length (made_waiting (weigher weights.now.entries) heights.now.entries tx.now) }
+{
+    if heights.contains_key(txid) {
+        return 0;
+    }
+    count_in(weights, tx)
+}
+
+/// The coins of a transaction of this txid, which is to wait beside others. There are none where it is confirmed. It takes
+/// memory only where there is one.
 pub fn coins_beside(
     alloc: Global,
     weights: &Weights,
@@ -37,6 +50,7 @@ pub fn coins_beside(
 ) -> Result<IndexMap<OutPoint, Held>, BookFault>
     requires { txid ≡ txid_of tx.now }
     ensures made { IfOk result (λ m. HoldsCoins (made_waiting (weigher weights.now.entries) heights.now.entries tx.now) m.entries) }
+    ensures short { result ≡ Err NoMemory → 0 < length (made_waiting (weigher weights.now.entries) heights.now.entries tx.now) }
     ensures exact { Meets result (fault_behind (keys_of pending.now.entries) (points (made_waiting (weigher weights.now.entries) heights.now.entries tx.now))) }
 {
     let mut coins = IndexMap::new(alloc);

@@ -30,3 +30,8 @@ pub returns-clause-exact : goal.returns-clause-exact
 returns-clause-exact c =
     fault_two c.args.base.now.entries c.args.coins.now.entries (held_point c.args.held) c.args.point c.stands.result c.has_room.result c.requires c.stands.ensures c.has_room.ensures
     ∙ (λ k. cond (c.if-stands.false k) (Some (RepeatCoin (held_point c.args.held))) (cond (c.if-not-has_room.false k) None (Some Full)))
+
+pub returns-in_err-insert-clause-short : goal.returns-in_err-insert-clause-short
+returns-in_err-insert-clause-short c = λ _.
+    fault_two c.args.base.now.entries c.args.coins.now.entries (held_point c.args.held) c.args.point c.stands.result c.has_room.result c.requires c.stands.ensures c.has_room.ensures
+    ∙ (λ k. cond (c.if-stands.false k) (Some (RepeatCoin (held_point c.args.held))) (cond (c.if-not-has_room.false k) None (Some Full)))

@@ -6,7 +6,7 @@ use Rattle.std.proofs.lemmas.List.{append-nil, map-append}
 use Rattle.coin_book.specs.Faults.{fault_behind}
 use Rattle.std.specs.Vec.Iter.{into_iter_items}
 use Rattle.coin_book.specs.Merging.{held_point}
-use Rattle.coin_book.proofs.MapSteps.{whole_more, fault_among, added_more, fault_next}
+use Rattle.coin_book.proofs.MapSteps.{whole_more, fault_among, added_more, fault_next, stops_short}
 use Rattle.coin_book.proofs.ledger.add_coins.Goals as goal
 
 pub loop-one-init : goal.loop-one-init
@@ -34,3 +34,11 @@ returns-in-Err-clause-exact c = λ other.
     ∙ ap (fault_behind before) (map-append held_point (front ++ c.in-Some.one ∷ []) rest)
     ∙ fault_among before (map held_point (front ++ c.in-Some.one ∷ [])) (map held_point rest) c.in-Err.fault
     (fault_next (keys_of c.args.base.now.entries) c.args.coins.now.entries c.loop-one.coins.entries front c.in-Some.one _ c.loop-one.invariant.added c.loop-one.invariant.fresh refl ∙ c.in-Err.ensures.exact other)
+
+pub returns-in-Err-clause-short : goal.returns-in-Err-clause-short
+returns-in-Err-clause-short c = λ is.
+    let front = c.loop-one.yielded in
+    let rest = into_iter_items c.next.new.self in
+    stops_short (keys_of c.args.base.now.entries) c.args.coins.now.entries c.loop-one.coins.entries c.add_coin.new.coins.entries front rest c.args.held.items c.in-Some.one c.loop-one.invariant.added c.loop-one.invariant.fresh
+    (whole_more front rest (into_iter_items c.loop-one.one-iterator) c.in-Some.one c.args.held.items c.in-Some.ensures.steps.0 c.loop-one.invariant.whole)
+    c.in-Err.ensures.kept (c.in-Err.ensures.short is)

@@ -14,16 +14,16 @@ pub returns-in-Ok-clause-made : goal.returns-in-Ok-clause-made
 returns-in-Ok-clause-made c =
     beside_made (weigher c.args.weights.now.entries) c.args.heights.now.entries c.args.tx.now c.new-coins.result.entries _ c.in_ok-held.held.items
     (ap (λ (x : List ℕ). is_some (lookup (bytes_eq x) c.args.heights.now.entries)) (sym c.requires) ∙ sym c.contains_key.ensures ∙ c.if-contains_key.false)
-    c.new-coins.ensures.empty c.in_ok-held.ensures c.in-Ok.ensures.added
+    c.new-coins.ensures.empty c.in_ok-held.ensures.made c.in-Ok.ensures.added
 
 pub returns-in-Ok-clause-exact : goal.returns-in-Ok-clause-exact
 returns-in-Ok-clause-exact c =
     beside_fault (weigher c.args.weights.now.entries) c.args.heights.now.entries c.args.tx.now c.args.pending.now.entries c.new-coins.result.entries c.in_ok-held.held.items
     (ap (λ (x : List ℕ). is_some (lookup (bytes_eq x) c.args.heights.now.entries)) (sym c.requires) ∙ sym c.contains_key.ensures ∙ c.if-contains_key.false)
-    c.new-coins.ensures.empty c.in_ok-held.ensures ∙ c.in-Ok.ensures.exact
+    c.new-coins.ensures.empty c.in_ok-held.ensures.made ∙ c.in-Ok.ensures.exact
 
 pub returns-in-Err-clause-exact : goal.returns-in-Err-clause-exact
 returns-in-Err-clause-exact c = λ other.
     beside_fault (weigher c.args.weights.now.entries) c.args.heights.now.entries c.args.tx.now c.args.pending.now.entries c.new-coins.result.entries c.in_ok-held.held.items
     (ap (λ (x : List ℕ). is_some (lookup (bytes_eq x) c.args.heights.now.entries)) (sym c.requires) ∙ sym c.contains_key.ensures ∙ c.if-contains_key.false)
-    c.new-coins.ensures.empty c.in_ok-held.ensures ∙ c.in-Err.ensures.exact other
+    c.new-coins.ensures.empty c.in_ok-held.ensures.made ∙ c.in-Err.ensures.exact other

@@ -10,16 +10,16 @@ use Rattle.coin_book.proofs.ledger.Ledger.add.Goals as goal
 
 pub returns-in-Err-clause-exact : goal.returns-in-Err-clause-exact
 returns-in-Err-clause-exact c = λ before behind under h other.
-    sym (held_points _ before behind c.args.base.now c.args.self.now _ c.in_ok-held.held.items under h c.in_ok-held.ensures) ∙ c.in-Err.ensures.exact other
+    sym (held_points _ before behind c.args.base.now c.args.self.now _ c.in_ok-held.held.items under h c.in_ok-held.ensures.made) ∙ c.in-Err.ensures.exact other
 
 pub returns-clause-exact : goal.returns-clause-exact
 returns-clause-exact c = λ before behind under h.
-    sym (held_points _ before behind c.args.base.now c.args.self.now _ c.in_ok-held.held.items under h c.in_ok-held.ensures) ∙ c.in-Ok.ensures.exact
+    sym (held_points _ before behind c.args.base.now c.args.self.now _ c.in_ok-held.held.items under h c.in_ok-held.ensures.made) ∙ c.in-Ok.ensures.exact
 
 pub returns-clause-holds : goal.returns-clause-holds
 returns-clause-holds c = λ before behind under h at.
     chain_more (weigher c.args.weights.now.entries) before behind c.args.base.now c.args.self.now c.add_spender.new.self (confirmed_at c.args.spend.now.height c.args.tx.now) c.in_ok-held.held.items _
-    under h (λ k. record { txid = c.requires k; height = c.args.spend.now.height; place = at k }) c.in_ok-held.ensures
+    under h (λ k. record { txid = c.requires k; height = c.args.spend.now.height; place = at k }) c.in_ok-held.ensures.made
     ((λ k. (c.in_ok-add_spender.ensures.coins k).entries) ∙ c.in-Ok.ensures.added)
     (record {
       heights = c.in_ok-add_spender.ensures.heights;
