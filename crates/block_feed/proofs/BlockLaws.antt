@@ -22,13 +22,12 @@ use Rattle.std.specs.List.{flat_map, list_all}
 use Rattle.std.proofs.lemmas.Bool.{cases_Bool, not-false, not_from_true, ltb-false, le-ltb, eqb-true, eqb-false, ne_eqb, both_ways, or_parts}
 use Rattle.std.proofs.lemmas.List.{take-append-drop, drop-drop, length-take-le, length-map, nil_from_length, append-nil, length-append}
 use Rattle.std.proofs.lemmas.List.Concat.{flat_map-cons}
-use Rattle.std.proofs.lemmas.List.Elements.{All-drop}
 use Rattle.std.proofs.Math.Seq.{take-append_seam, drop-append_seam}
 use Rattle.std.proofs.lemmas.Bool.Decides.{Decides-by_and, Decides-eqb}
 use Rattle.std.specs.Bool.{Decides}
 use Rattle.block_feed.specs.BlockFile.{IsTail}
 use Rattle.fund_base.proofs.Lists.{equal_bytes, same_bytes}
-use Rattle.fund_base.specs.Cursor.{take_at as bytes_at, number_at}
+use Rattle.fund_base.specs.Cursor.{take_at as bytes_at}
 use Rattle.fund_base.proofs.LawsOfNumbers.{bytes_reads}
 use Rattle.block_feed.proofs.TreeLaws.{merkle_root_is, root_is, mutated_is, is_found}
 

@@ -1,6 +1,6 @@
 //! Reading the block of a record.
 
-ghost use Rattle.std.specs.Prelude.{◌≡◌, ◌≢◌, ◌+◌, ◌≤◌, ℕ, length, take, drop, map, IfOk, IsOkAnd, Err};
+ghost use Rattle.std.specs.Prelude.{◌≡◌, ◌≢◌, ◌+◌, ◌≤◌, ◌==◌, ℕ, bytes_eq, length, not, take, drop, map, if◌then◌else◌, IfOk, IsOkAnd, Err, None, Some};
 ghost use Rattle.fund_base.specs.Cursor.{IsBytes, compact_at};
 ghost use Rattle.fund_base.specs.Parsing.{Yields, YieldsAll, fault_as, many_at};
 ghost use Rattle.tx_codec.specs.Reading.{tx_at};
@@ -9,11 +9,11 @@ ghost use Rattle.tx_codec.specs.declared.fault.TxFault.TheVariants.{Memory as No
 ghost use Rattle.block_feed.specs.Block.{IsLinked, previous_of, root_of};
 ghost use Rattle.block_feed.specs.Merkle.{double_sha256};
 ghost use Rattle.block_feed.specs.Reading.{tx_fault, sealed_at, txs_at, counted_txs_at, block_at};
-ghost use Rattle.block_feed.specs.declared.fault.FeedFault.TheVariants.{Tx as OfTx, Read, Memory};
+ghost use Rattle.block_feed.specs.declared.fault.FeedFault.TheVariants.{Tx as OfTx, Merkle, Mutated, Trailing, Read, Memory};
 
 use crate::block::Block;
 use crate::fault::FeedFault;
-use crate::merkle::tree_of;
+use crate::merkle::{Tree, tree_of};
 use fund_base::{Cursor, Txid};
 use sha2::{Digest, Sha256};
 use std::alloc::{AllocError, Global};
@@ -42,6 +42,17 @@ fn tx_fault(height: u32, fault: TxFault) -> FeedFault
     }
 }
 
+/// Why transactions with these bytes behind them aren't all of a block, if they aren't.
+fn end_fault(height: u32, rest: &[u8]) -> Option<FeedFault>
+    ensures { result ≡ (if length rest.now == 0 then None else Some (Trailing height)) }
+{
+    if rest.is_empty() {
+        None
+    } else {
+        Some(FeedFault::Trailing(height))
+    }
+}
+
 #[tactic(auto, unfolding(crate::specs::Reading::txs_at))]
 fn all_txs(
     alloc: Global,
@@ -53,8 +64,10 @@ fn all_txs(
     ensures never_read { result ≢ Err Read }
 {
     match txs_of(alloc, count, cursor) {
-        Ok(txs) if cursor.rest().is_empty() => Ok(txs),
-        Ok(_) => Err(FeedFault::Trailing(height)),
+        Ok(txs) => match end_fault(height, cursor.rest()) {
+            Some(fault) => Err(fault),
+            None => Ok(txs),
+        },
         Err(fault) => Err(tx_fault(height, fault)),
     }
 }
@@ -113,6 +126,20 @@ fn hash_in(header: &[u8], place: usize) -> [u8; 32]
     hash
 }
 
+/// Why transactions whose txids have this tree aren't those of the header, if they aren't.
+fn root_fault(height: u32, header: &[u8], tree: &Tree) -> Option<FeedFault>
+    requires { length header.now ≡ 80 }
+    ensures { result ≡ (if not (bytes_eq (root_of header.now) tree.now.root) then Some (Merkle height) else if tree.now.mutated then Some (Mutated height) else None) }
+{
+    if tree.root != hash_in(header, 36) {
+        return Some(FeedFault::Merkle(height));
+    }
+    if tree.mutated {
+        return Some(FeedFault::Mutated(height));
+    }
+    None
+}
+
 #[tactic(auto, unfolding(crate::specs::Reading::sealed_at))]
 fn sealed(alloc: Global, height: u32, header: &[u8], txs: Vec<Tx>) -> Result<Block, FeedFault>
     requires { length header.now ≡ 80 }
@@ -122,11 +149,9 @@ fn sealed(alloc: Global, height: u32, header: &[u8], txs: Vec<Tx>) -> Result<Blo
 {
     let txids = txids(alloc, &txs)?;
     let tree = tree_of(alloc, leaves(alloc, &txids)?)?;
-    if tree.root != hash_in(header, 36) {
-        return Err(FeedFault::Merkle(height));
-    }
-    if tree.mutated {
-        return Err(FeedFault::Mutated(height));
+    match root_fault(height, header, &tree) {
+        Some(fault) => return Err(fault),
+        None => {}
     }
     Ok(Block {
         height,

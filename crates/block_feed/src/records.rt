@@ -101,6 +101,7 @@ fn size_from<H: Shelf>(shelf: &mut H, name: &str, place: u64, head: &[u8]) -> Re
     ensures whole { IfOk result (λ _. 8 ≤ length head.now) }
     ensures least { IfOk result (λ size. 81 ≤ size) }
     ensures most { IfOk result (λ size. size ≤ 4_000_000) }
+    ensures short { result ≡ Err Memory → length head.now < 8 }
     ensures never_memory { (at : ℕ) → result ≢ Err (Tx at NoMemory) }
     ensures same { H.tells → (H.view shelf.new).files ≡ (H.view shelf.old).files }
     ensures reads { NeverFall (H.view shelf.old).reads (H.view shelf.new).reads }

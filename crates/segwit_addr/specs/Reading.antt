@@ -1,5 +1,5 @@
 -- Which script a text is read as, or which fault comes first (BIP 173 and BIP 350).
-use Rattle.std.specs.Prelude.{ℕ, ◌≡◌, ◌-◌, ◌<◌, ◌≤◌, ◌==◌, false, nat_lt, nat_le, ◌&&◌, ◌||◌, not, Bool, List, ◌∷◌, ◌++◌, map, reverse, length, take, drop, slice_index, position, count_by, bytes_eq, codes, Option, Some, None, Result, Ok, Err, if◌then◌else◌}
+use Rattle.std.specs.Prelude.{ℕ, ◌-◌, ◌==◌, nat_lt, nat_le, ◌&&◌, ◌||◌, not, Bool, List, ◌∷◌, ◌++◌, map, reverse, length, take, drop, slice_index, position, count_by, bytes_eq, codes, Option, Some, None, Result, Ok, Err, if◌then◌else◌}
 use Rattle.std.specs.Char.{to_ascii_lowercase}
 use Rattle.std.specs.List.{list_any}
 use Rattle.segwit_addr.specs.Bech32.{polymod, expanded, bech32_sum, bech32m_sum, value_of}
@@ -50,10 +50,6 @@ summed_at prefix values =
     if not (polymod (expanded prefix ++ values) == bech32_sum) && not (polymod (expanded prefix ++ values) == bech32m_sum) then Err Checksum
     else if not (bytes_eq prefix (codes "bc")) then Err Network
     else versioned_at (take (length values - 6) values) (polymod (expanded prefix ++ values))
-
--- these parts of a text are long enough, and each of their characters may stand there
-abbrev pub AreSpelled : List ℕ → List ℕ → Type 0
-AreSpelled prefix letters = (0 < length prefix) × (7 ≤ char_count letters) × (has_outsider prefix ≡ false) × (has_unknown (map value_of letters) ≡ false)
 
 -- the script of what stands before the separator and of what stands after it, or what is wrong with them
 unfoldable pub parts_at : List ℕ → List ℕ → Result (List ℕ) AddrFault

@@ -1,25 +1,30 @@
 //! Reading addresses: the script of a text, or the first fault in it.
 
-ghost use Rattle.std.specs.Prelude.{ℕ, List, ◌≡◌, ◌+◌, ◌-◌, ◌≤◌, false, map, length, nat_le, take, drop, Err, IfOk, IfSome, IsOk, IsSomeAnd, IsTrue, MatchResult};
+ghost use Rattle.std.specs.Prelude.{ℕ, List, ◌≡◌, ◌+◌, ◌-◌, ◌≤◌, map, length, nat_le, take, drop, Err, IfOk, IfSome, IsOk, IsTrue, MatchResult};
+ghost use Rattle.std.specs.Char.{to_ascii_lowercase};
 ghost use Rattle.std.specs.List.{list_any};
 ghost use Rattle.fund_base.specs.Parsing.{YieldsAll};
 ghost use Rattle.segwit_addr.specs.declared.fault.AddrFault.TheVariants.{Memory};
-ghost use Rattle.segwit_addr.specs.Address.{IsAddress, has_lower, has_upper, is_mixed, is_witness};
-ghost use Rattle.segwit_addr.specs.Reading.{AreSpelled, behind_last, char_count, decode_of, has_outsider, has_unknown, is_badly_padded, parts_at, program_at, summed_at, versioned_at, split_at};
+ghost use Rattle.segwit_addr.specs.Address.{IsAddress, has_lower, has_upper, is_witness};
+ghost use Rattle.segwit_addr.specs.Reading.{behind_last, char_count, decode_of, has_outsider, has_unknown, is_badly_padded, parts_at, program_at, summed_at, versioned_at, split_at};
 ghost use Rattle.segwit_addr.specs.Bech32.{value_of};
 
 use crate::bech32::{BECH32, BECH32M, checksum, value};
 use crate::fault::AddrFault;
 use crate::program::{byte_of_version, checksum_of_version, is_refused_size, push_bytes};
 use fund_base::Script;
-use std::alloc::{AllocError, Global};
+use std::alloc::Global;
 
 /// The human-readable part of the addresses of Bitcoin's main network.
 const NETWORK: &[u8] = b"bc";
 
+/// The most characters of an address.
+const MOST: usize = 90;
+
 /// The script that the text is an address of, upper case letters standing for lower case ones (BIP 173 and BIP 350).
 ///
-/// An error is the first fault in the order of [`AddrFault`].
+/// An error is the first fault in the order of [`AddrFault`]. Memory is taken for the script of an address alone, so a
+/// text with a fault is told by it whatever memory there is.
 pub fn decode(alloc: Global, text: &str) -> Result<Script, AddrFault>
     // What is read is an address of the script, and each address of a script is read as it, memory aside.
     ensures found { IfOk result (λ script. IsAddress text.now script) }
@@ -28,6 +33,7 @@ pub fn decode(alloc: Global, text: &str) -> Result<Script, AddrFault>
 
     // Which fault it is.
     ensures exact { YieldsAll Memory (λ script. script) result (decode_of text.now) }
+    ensures short { result ≡ Err Memory → IsOk (decode_of text.now) }
 {
     script_of_text(alloc, text.as_bytes())
 }
@@ -36,16 +42,28 @@ pub fn decode(alloc: Global, text: &str) -> Result<Script, AddrFault>
 #[tactic(auto, unfolding(crate::specs::Reading::decode_of))]
 fn script_of_text(alloc: Global, text: &[u8]) -> Result<Script, AddrFault>
     ensures gives { YieldsAll Memory (λ script. script) result (decode_of text.now) }
-    ensures short { result ≡ Err Memory → (8 ≤ length text.now) × (length text.now ≤ 90) × (is_mixed text.now ≡ false) }
+    ensures short { result ≡ Err Memory → IsOk (decode_of text.now) }
 {
-    if text.len() < 8 || text.len() > 90 {
+    if text.len() < 8 || text.len() > MOST {
         return Err(AddrFault::Length);
     }
     if has_upper_case(text) && has_lower_case(text) {
         return Err(AddrFault::Case);
     }
-    let lower = text.to_ascii_lowercase(alloc)?;
-    script_of_lower(alloc, lower.as_slice())
+    let mut room = [0; MOST];
+    let lower = &mut room[..text.len()];
+    put_lower(lower, text);
+    script_of_lower(alloc, lower)
+}
+
+/// Writes the text, with the lower case letter in place of each upper case one of ASCII.
+fn put_lower(room: &mut [u8], text: &[u8])
+    requires { length room.old ≡ length text.now }
+    ensures { room.new ≡ map to_ascii_lowercase text.now }
+{
+    for i in 0..text.len() {
+        room[i] = text[i].to_ascii_lowercase();
+    }
 }
 
 /// Whether an upper case letter of ASCII stands in the text.
@@ -107,7 +125,7 @@ fn has_other_letter(letters: &[u8]) -> bool
 fn script_of_lower(alloc: Global, text: &[u8]) -> Result<Script, AddrFault>
     requires { length text.now ≤ 90 }
     ensures gives { YieldsAll Memory (λ script. script) result (split_at text.now (behind_last text.now)) }
-    ensures short { result ≡ Err Memory → IsSomeAnd (behind_last text.now) (λ behind. AreSpelled (take (length text.now - behind - 1) text.now) (drop (length text.now - behind) text.now)) }
+    ensures short { result ≡ Err Memory → IsOk (split_at text.now (behind_last text.now)) }
 {
     match count_behind(text) {
         Some(behind) => {
@@ -118,11 +136,14 @@ fn script_of_lower(alloc: Global, text: &[u8]) -> Result<Script, AddrFault>
     }
 }
 
-/// The values of these letters, 32 standing for each that is not in the alphabet.
-fn values_of_letters(alloc: Global, letters: &[u8]) -> Result<Vec<u8>, AllocError>
-    ensures { IfOk result (λ values. values.items ≡ map value_of letters.now) }
+/// Writes the values of these letters, 32 standing for each that is not in the alphabet.
+fn put_values(room: &mut [u8], letters: &[u8])
+    requires { length room.old ≡ length letters.now }
+    ensures { room.new ≡ map value_of letters.now }
 {
-    letters.iter().map(|c| value(*c)).collect(alloc)
+    for i in 0..letters.len() {
+        room[i] = value(letters[i]);
+    }
 }
 
 /// The script of what stands before the separator and what stands after it.
@@ -130,7 +151,7 @@ fn values_of_letters(alloc: Global, letters: &[u8]) -> Result<Vec<u8>, AllocErro
 fn script_of_parts(alloc: Global, prefix: &[u8], letters: &[u8]) -> Result<Script, AddrFault>
     requires { length letters.now ≤ 90 }
     ensures gives { YieldsAll Memory (λ script. script) result (parts_at prefix.now letters.now) }
-    ensures short { result ≡ Err Memory → AreSpelled prefix.now letters.now }
+    ensures short { result ≡ Err Memory → IsOk (parts_at prefix.now letters.now) }
 {
     if prefix.is_empty() || characters(letters) < 7 {
         return Err(AddrFault::Separator);
@@ -138,8 +159,10 @@ fn script_of_parts(alloc: Global, prefix: &[u8], letters: &[u8]) -> Result<Scrip
     if has_other_character(prefix) || has_other_letter(letters) {
         return Err(AddrFault::Letter);
     }
-    let values = values_of_letters(alloc, letters)?;
-    script_of_summed(alloc, prefix, values.as_slice())
+    let mut room = [0; MOST];
+    let values = &mut room[..letters.len()];
+    put_values(values, letters);
+    script_of_summed(alloc, prefix, values)
 }
 
 /// The script of a human-readable part and the values of all letters after the separator.

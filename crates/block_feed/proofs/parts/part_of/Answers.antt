@@ -1,4 +1,4 @@
-use Rattle.std.proofs.Common.{ℕ, List, Vec, arith}
+use Rattle.std.proofs.Common.{ℕ, Vec, arith}
 use Rattle.std.specs.declared.alloc.Global.{Global}
 use Rattle.block_feed.proofs.PartLaws.{part_if}
 use Rattle.block_feed.proofs.parts.part_of.Goals as goal

@@ -1,4 +1,4 @@
-use Rattle.std.proofs.Common.{◌≡◌, ℕ, Bool, ltb, List, length, ap, ◌∙◌}
+use Rattle.std.proofs.Common.{Bool, ap, ◌∙◌}
 use Rattle.block_feed.specs.Reading.{cut_off}
 use Rattle.block_feed.specs.declared.fault.FeedFault.TheVariants.{Length}
 use Rattle.block_feed.proofs.NextLaws.{outside_else}

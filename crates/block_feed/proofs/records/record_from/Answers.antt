@@ -1,7 +1,6 @@
-use Rattle.std.proofs.Common.{◌≡◌, ◌≤◌, ◌<◌, ℕ, ◌+◌, Bool, true, false, ltb, List, [], ◌∷◌, length, take, drop, Ok, Err, Option, Some, None, refl, sym, ◌∙◌, ap, subst, arith}
+use Rattle.std.proofs.Common.{◌≡◌, ◌≤◌, ◌<◌, ℕ, ◌+◌, true, false, ltb, List, length, take, drop, Ok, Err, None, sym, ◌∙◌, ap, subst, arith}
 use Rattle.std.specs.Prelude.{◌==◌, option_map}
 use Rattle.std.specs.List.{list_all}
-use Rattle.fund_base.specs.Cursor.{IsBytes}
 use Rattle.fund_base.specs.Writer.{Feeds}
 use Rattle.fund_base.proofs.Asking.{asks_again}
 use Rattle.block_feed.specs.Digest.{HasTaken}

@@ -1,4 +1,4 @@
-use Rattle.std.proofs.Common.{◌≡◌, ◌≤◌, ℕ, false, Bool, ltb, List, length, ap, ◌∙◌, arith}
+use Rattle.std.proofs.Common.{◌≤◌, ℕ, false, Bool, ltb, List, length, ap, arith}
 use Rattle.block_feed.specs.Reading.{size_at}
 use Rattle.block_feed.proofs.NextLaws.{outside_exit, yields_finds}
 use Rattle.block_feed.proofs.RecordLaws.{size_same}

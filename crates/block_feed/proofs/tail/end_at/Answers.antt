@@ -1,4 +1,4 @@
-use Rattle.std.proofs.Common.{◌≡◌, ℕ, ◌+◌, true, false, Bool, ltb, List, length, None, sym, ◌∙◌, ap, arith}
+use Rattle.std.proofs.Common.{◌≡◌, ℕ, true, false, ltb, List, length, None, ◌∙◌, ap, arith}
 use Rattle.std.proofs.lemmas.Bool.{not-true, not-false}
 use Rattle.fund_base.proofs.Asking.{asks_again}
 use Rattle.block_feed.specs.Feed.{seen_from}
