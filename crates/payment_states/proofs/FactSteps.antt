@@ -33,7 +33,7 @@ order_filter keep g order i lt =
     let in_g : i < length g = omega arith in
     subst (λ (ps : List ℕ). All (λ p. p < i) ps) (sym (get_or_map (filter keep) g i [] [] in_g)) (all_filtered (λ p. p < i) keep (get_or g i []) (order i in_g))
 
-filter_agree_in : {X : Type 0} (p q : X → Bool) (xs : List X) → ((x : X) → Contains xs x → p x ≡ q x) → filter p xs ≡ filter q xs
+pub filter_agree_in : {X : Type 0} (p q : X → Bool) (xs : List X) → ((x : X) → Contains xs x → p x ≡ q x) → filter p xs ≡ filter q xs
 filter_agree_in p q [] same = refl
 filter_agree_in p q (x ∷ xs) same =
     (λ k. cond (same x (0, omega arith, refl) k) (x ∷ filter_agree_in p q xs (λ y c. same y (suc c.0, omega arith, c.2)) k) (filter_agree_in p q xs (λ y c. same y (suc c.0, omega arith, c.2)) k))
@@ -120,7 +120,7 @@ module _ (w : PendingView) where
   pub flag_is : (flags : List Bool) → flags ≡ map (is_pending w) (below (length w.pending)) → (j : ℕ) → j < length w.pending → is_counted flags j ≡ is_pending w j
   flag_is flags flags_are j lt = ap (λ (l : List Bool). slice_index_or l j false) flags_are ∙ get_or-map_below (is_pending w) (length w.pending) j false lt
 
-  graph_count : length (graph w) ≡ length w.pending
+  pub graph_count : length (graph w) ≡ length w.pending
   graph_count = length-map w.pending (parents w.chain w.pending)
 
   pub ancestors_are : (g : List (List ℕ)) (flags : List Bool) → g ≡ graph w → flags ≡ map (is_pending w) (below (length w.pending)) → (i : ℕ) → min 4294967295 (ups g flags i) ≡ ancestors w i

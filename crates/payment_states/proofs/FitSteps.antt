@@ -258,7 +258,7 @@ txs_apart weigh height (t ∷ ts) h =
 
 module _ (w : PlainWallet) (h : History) (rules : IsWallet w) (book : IsBookOf w h) (sound : fault_of h ≡ None) where
   -- a confirmed coin's transaction is confirmed
-  confirmed_there : All (λ m. is_some (height_of h.confirmed m.coin.coin.txid) ≡ true) (confirmed_made h)
+  pub confirmed_there : All (λ m. is_some (height_of h.confirmed m.coin.coin.txid) ≡ true) (confirmed_made h)
   unfolding height_of
   confirmed_there = all_flat (λ m. is_some (height_of h.confirmed m.coin.coin.txid) ≡ true) (made_by (weight_for h.scripts)) h.confirmed
       (λ c in'. all_made (λ m. is_some (height_of h.confirmed m.coin.coin.txid) ≡ true) (weight_for h.scripts) (Some c.height) c.tx (λ i m f. at c in' m.coin.coin.txid f.txid))
@@ -274,7 +274,7 @@ module _ (w : PlainWallet) (h : History) (rules : IsWallet w) (book : IsBookOf w
           ∙ any_has (λ (c : Confirmed). bytes_eq (txid_of c.tx) txid) h.confirmed c in' ((bytes_eq-Decides (txid_of c.tx) txid).1 (sym e))
 
   -- a pending one's isn't
-  pending_not : All (λ m. is_none (height_of h.confirmed m.coin.coin.txid) ≡ true) (pending_made h)
+  pub pending_not : All (λ m. is_none (height_of h.confirmed m.coin.coin.txid) ≡ true) (pending_made h)
   pending_not = all_flat (λ m. is_none (height_of h.confirmed m.coin.coin.txid) ≡ true) (made_in (weight_for h.scripts) None) (filter (is_open h.confirmed) h.pending)
       (λ t in'. all_made (λ m. is_none (height_of h.confirmed m.coin.coin.txid) ≡ true) (weight_for h.scripts) None t
       (λ i m f. ap (λ txid. is_none (height_of h.confirmed txid)) f.txid ∙ All-contains (λ t. is_open h.confirmed t ≡ true) (filter (is_open h.confirmed) h.pending) t (filter_passes (is_open h.confirmed) h.pending) in'))
@@ -322,24 +322,30 @@ module _ (w : PlainWallet) (h : History) (rules : IsWallet w) (book : IsBookOf w
     kept : (c : Coin) → ((candidate_of w h tip c).coin ≡ c.coin) × ((candidate_of w h tip c).value ≡ c.value) × ((candidate_of w h tip c).weight ≡ c.weight)
     kept c = coin_kept c c.height (place_in w.pending c.coin.txid)
 
-    -- what comes is fit
-    pub fit : AreCandidates (candidates_of w h tip)
-    unfolding candidates_of
-    fit = record {
-      each = All-map IsCandidate (candidate_of w h tip) (filter (is_candidate w h tip) (coins_of h)) (all_kept (λ c. IsCandidate (candidate_of w h tip c)) (is_candidate w h tip) (coins_of h)
+    is_fit : (c : Coin) → (c.value ≤ 2_100_000_000_000_000) × (165 ≤ c.weight) × (c.weight ≤ 400_000) → IsCandidate (candidate_of w h tip c)
+    is_fit c g =
+        let k = kept c in
+        record { value = subst (λ v. v ≤ 2_100_000_000_000_000) (sym k.1) g.0; least_weight = subst (λ v. 165 ≤ v) (sym k.2) g.1; most_weight = subst (λ v. v ≤ 400_000) (sym k.2) g.2 }
+
+    pub fit_coin : (m : Made) → Contains (made_of h) m → IsCandidate (candidate_of w h tip m.coin)
+    fit_coin m there = is_fit m.coin (All-contains IsGood (made_of h) m (good w h rules book sound) there)
+
+    -- what comes is fit, whichever coins are taken
+    pub fit_by : (q : Coin → Bool) → AreCandidates (map (candidate_of w h tip) (filter q (coins_of h)))
+    fit_by q = record {
+      each = All-map IsCandidate (candidate_of w h tip) (filter q (coins_of h)) (all_kept (λ c. IsCandidate (candidate_of w h tip c)) q (coins_of h)
           (All-map (λ c. IsCandidate (candidate_of w h tip c)) (λ (m : Made). m.coin) (made_of h) (All-weaker IsGood (λ m. IsCandidate (candidate_of w h tip m.coin)) (λ m g. is_fit m.coin g) (made_of h) (good w h rules book sound))));
-      count = let a = filter_le (is_candidate w h tip) (coins_of h) in
-          let b = length-map (filter (is_candidate w h tip) (coins_of h)) (candidate_of w h tip) in
+      count = let a = filter_le q (coins_of h) in
+          let b = length-map (filter q (coins_of h)) (candidate_of w h tip) in
           let d = length-map (made_of h) (λ (m : Made). m.coin) in
           let e = few h sound in omega arith;
       distinct = λ i j d lt in'.
-          let n = length-map (filter (is_candidate w h tip) (coins_of h)) (candidate_of w h tip) in
-          let p = AllPairs-filter (λ (a b : Coin). a.coin ≢ b.coin) (is_candidate w h tip) (coins_of h) coins_apart in
-          let at = λ (k : ℕ) (l : k < length (filter (is_candidate w h tip) (coins_of h))). ap (λ (c : Candidate). c.coin) (get_or_map (candidate_of w h tip) (filter (is_candidate w h tip) (coins_of h)) k d no_coin l) ∙ (kept (get_or (filter (is_candidate w h tip) (coins_of h)) k no_coin)).0 in
+          let n = length-map (filter q (coins_of h)) (candidate_of w h tip) in
+          let p = AllPairs-filter (λ (a b : Coin). a.coin ≢ b.coin) q (coins_of h) coins_apart in
+          let at = λ (k : ℕ) (l : k < length (filter q (coins_of h))). ap (λ (c : Candidate). c.coin) (get_or_map (candidate_of w h tip) (filter q (coins_of h)) k d no_coin l) ∙ (kept (get_or (filter q (coins_of h)) k no_coin)).0 in
           λ same. p i j no_coin lt (omega arith) (sym (at i (omega arith)) ∙ same ∙ at j (omega arith));
     }
-      where
-        is_fit : (c : Coin) → (c.value ≤ 2_100_000_000_000_000) × (165 ≤ c.weight) × (c.weight ≤ 400_000) → IsCandidate (candidate_of w h tip c)
-        is_fit c g =
-            let k = kept c in
-            record { value = subst (λ v. v ≤ 2_100_000_000_000_000) (sym k.1) g.0; least_weight = subst (λ v. 165 ≤ v) (sym k.2) g.1; most_weight = subst (λ v. v ≤ 400_000) (sym k.2) g.2 }
+
+    pub fit : AreCandidates (candidates_of w h tip)
+    unfolding candidates_of
+    fit = fit_by (is_candidate w h tip)

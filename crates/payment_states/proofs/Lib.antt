@@ -1,4 +1,5 @@
 pub mod AbandonedSteps
+pub mod AnySteps
 pub mod BackSteps
 pub mod Below
 pub mod CauseSteps
@@ -12,6 +13,7 @@ pub mod FitSteps
 pub mod GraphSteps
 pub mod KinSteps
 pub mod LeastSteps
+pub mod LeftSteps
 pub mod LookSteps
 pub mod MakerSteps
 pub mod MarkSteps
@@ -22,5 +24,6 @@ pub mod Order
 pub mod ParentSteps
 pub mod Paths
 pub mod Positions
+pub mod ReachSteps
 pub mod SafeSteps
 pub mod StateSteps

@@ -1,5 +1,5 @@
 -- The transaction at a coin's outpoint is the one that made it.
-use Rattle.std.proofs.Common.{◌≡◌, ◌∙◌, ◌≢◌, ◌⊎◌, inl, inr, ℕ, ◌<◌, Bool, true, false, cond, List, [], ◌∷◌, ◌++◌, length, map, filter, get_or, Option, Some, None, refl, sym, ap, subst, arith, Contains, All, AllPairs}
+use Rattle.std.proofs.Common.{◌≡◌, ◌∙◌, ◌≢◌, ◌⊎◌, inl, inr, ℕ, ◌<◌, Bool, true, false, cond, List, [], ◌∷◌, filter, get_or, Option, Some, None, refl, sym, ap, subst, arith, Contains, All, AllPairs}
 use Rattle.std.specs.Prelude.{find, option_map, slice_get, is_some}
 use Rattle.std.proofs.lemmas.Bool.{cases_order, true≢false}
 use Rattle.std.proofs.lemmas.List.{get_or_default, length-map}
@@ -15,9 +15,9 @@ use Rattle.tx_codec.specs.declared.tx.TxOut.{TxOut}
 use Rattle.wallet_text.specs.PlainWallet.{PlainWallet}
 use Rattle.wallet_text.specs.WalletRules.{IsWallet}
 use Rattle.coin_book.proofs.OutputSteps.{coins_are}
-use Rattle.coin_book.specs.Coins.{Made, coins_of, confirmed_made, is_open, made_by, made_in, made_of, parent_of, pending_made, weight_for}
+use Rattle.coin_book.specs.Coins.{Made, coins_of, confirmed_made, is_open, made_by, made_in, made_of, pending_made, weight_for}
 use Rattle.coin_book.specs.Faults.{fault_of}
-use Rattle.coin_book.specs.History.{Confirmed, History}
+use Rattle.coin_book.specs.History.{History}
 use Rattle.coin_book.specs.declared.coin.Coin.{Coin}
 use Rattle.payment_states.specs.BookOf.{IsBookOf}
 use Rattle.payment_states.specs.Candidates.{candidate_at, candidate_of, candidates_of, is_candidate}
@@ -39,7 +39,7 @@ found {X = X} P p (y ∷ xs) x h e = by (p y) refl e (λ f. found P p xs x (All-
     by false is same rest = rest same
 
 -- of coins at different outpoints there is one at each
-one_by_point : (cs : List Coin) (a b : Coin) → AllPairs (λ (x y : Coin). x.coin ≢ y.coin) cs → Contains cs a → Contains cs b → a.coin ≡ b.coin → a ≡ b
+pub one_by_point : (cs : List Coin) (a b : Coin) → AllPairs (λ (x y : Coin). x.coin ≢ y.coin) cs → Contains cs a → Contains cs b → a.coin ≡ b.coin → a ≡ b
 one_by_point cs a b apart in_a in_b same = by (cases_order in_a.0 in_b.0)
   where
     at : (x : Coin) (c : Contains cs x) → get_or cs c.0 a ≡ x
@@ -55,7 +55,7 @@ one_by_point cs a b apart in_a in_b same = by (cases_order in_a.0 in_b.0)
 
 -- ---- the transaction of a coin
 
-abbrev output_at : Coin → TxOut
+abbrev pub output_at : Coin → TxOut
 output_at c = record { value = c.value; script = c.script }
 
 record IsMade (m : Made) : Type 0 where
@@ -80,11 +80,11 @@ history_made h =
     (all_flat IsMade (made_in (weight_for h.scripts) None) (filter (is_open h.confirmed) h.pending) (λ t _. each_made (weight_for h.scripts) None t))
 
 -- a candidate has the outpoint, the value and the script of its coin
-record IsOf (k : Coin) (c : Candidate) : Type 0 where
-  point : c.coin ≡ k.coin
-  output : output_of c ≡ output_at k
+pub record IsOf (k : Coin) (c : Candidate) : Type 0 where
+  pub point : c.coin ≡ k.coin
+  pub output : output_of c ≡ output_at k
 
-at_height : (w : PlainWallet) (h : History) (tip : ℕ) (k : Coin) (height place : Option ℕ) → IsOf k (candidate_at w h tip k height place)
+pub at_height : (w : PlainWallet) (h : History) (tip : ℕ) (k : Coin) (height place : Option ℕ) → IsOf k (candidate_at w h tip k height place)
 at_height w h tip k None place = record { point = refl; output = refl }
 at_height w h tip k (Some height) place = record { point = refl; output = refl }
 
@@ -98,7 +98,7 @@ makes m k c made own of = record {
       ∙ ap (λ (o : TxOut). Some o) (sym of.output);
 }
 
-coin_in : (h : History) (m : Made) → Contains (made_of h) m → Contains (coins_of h) m.coin
+pub coin_in : (h : History) (m : Made) → Contains (made_of h) m → Contains (coins_of h) m.coin
 coin_in h m c =
     let n = length-map (made_of h) (λ (x : Made). x.coin) in
     let lt = c.1 in
@@ -106,7 +106,7 @@ coin_in h m c =
 
 module _ (w : PlainWallet) (h : History) (rules : IsWallet w) (book : IsBookOf w h) (sound : fault_of h ≡ None) where
   -- the one that is found at a coin's outpoint
-  maker_found : (m : Made) (c : Candidate) → Contains (made_of h) m → IsOf m.coin c → HasMaker h c
+  pub maker_found : (m : Made) (c : Candidate) → Contains (made_of h) m → IsOf m.coin c → HasMaker h c
   maker_found m c there of = by (find test (made_of h)) refl
     where
       test : Made → Bool

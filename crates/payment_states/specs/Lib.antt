@@ -1,3 +1,4 @@
+pub mod AnyCoin
 pub mod BookOf
 pub mod ByPlace
 pub mod Candidates
@@ -5,7 +6,9 @@ pub mod Causes
 pub mod Counts
 pub mod Graph
 pub mod Least
+pub mod LeftOut
 pub mod Makers
 pub mod Offered
 pub mod Payments
 pub mod PendingView
+pub mod Pendings

@@ -27,7 +27,7 @@ pub fn heights_of(alloc: Global, book: &Book, txids: &[Txid]) -> Result<Vec<Opti
 }
 
 /// A set of these txids.
-fn listed(alloc: Global, txids: &[Txid]) -> Result<IndexSet<Txid>, Memory>
+pub fn listed(alloc: Global, txids: &[Txid]) -> Result<IndexSet<Txid>, Memory>
     ensures { (t : List ℕ) → IfOk result (λ s. contains bytes_eq s t ≡ is_listed txids.now t) }
 {
     let mut set = IndexSet::new(alloc);

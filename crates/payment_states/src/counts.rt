@@ -42,7 +42,7 @@ fn mark_parents(parents: &[Parents], place: usize, marks: &mut [bool], low: usiz
 }
 
 /// Marks a place and its ancestors, where nothing is marked. No place is marked below that which comes back.
-fn mark_kin(parents: &[Parents], start: usize, marks: &mut [bool]) -> usize
+pub fn mark_kin(parents: &[Parents], start: usize, marks: &mut [bool]) -> usize
     requires order { IsInOrder parents.now }
     requires start { start < length parents.now }
     requires same { length marks.old ≡ length parents.now }
@@ -177,4 +177,41 @@ pub fn numbers(alloc: Global, parents: &[Parents], counted: &[bool]) -> Result<C
         ancestors,
         descendants,
     })
+}
+
+/// Counts the counted ones among a place and its ancestors, whether or not it is counted itself.
+fn count_kin(
+    parents: &[Parents],
+    counted: &[bool],
+    place: usize,
+    marks: &mut [bool],
+    unused: &mut [u32],
+) -> u32
+    requires order { IsInOrder parents.now }
+    requires place { place < length parents.now }
+    requires counted { length counted.now ≡ length parents.now }
+    requires marks { length marks.old ≡ length parents.now }
+    requires downs { length unused.old ≡ length parents.now }
+    requires clean { (j : ℕ) → slice_index_or marks.old j false ≡ false }
+    ensures { result ≡ min 4294967295 (ups parents.now counted.now place) }
+{
+    let low = mark_kin(parents, place, marks);
+    tally(marks, counted, unused, low, place)
+}
+
+/// How many counted ones are among a place and its ancestors, whether or not it is counted itself.
+pub fn count_at(
+    alloc: Global,
+    parents: &[Parents],
+    counted: &[bool],
+    place: usize,
+) -> Result<u32, Memory>
+    requires order { IsInOrder parents.now }
+    requires place { place < length parents.now }
+    requires counted { length counted.now ≡ length parents.now }
+    ensures { IfOk result (λ n. n ≡ min 4294967295 (ups parents.now counted.now place)) }
+{
+    let mut marks = vec![in alloc; false; parents.len()]?;
+    let mut unused = vec![in alloc; 0; parents.len()]?;
+    Ok(count_kin(parents, counted, place, &mut marks, &mut unused))
 }

@@ -25,7 +25,7 @@ use std::alloc::Global;
 use wallet_text::Wallet;
 
 /// Whether a coin is deep enough.
-fn is_deep(tip: u32, coin: &Coin) -> bool
+pub fn is_deep(tip: u32, coin: &Coin) -> bool
     requires { tip < 4294967295 }
     ensures { result ≡ is_deep tip coin.now }
 {
@@ -37,7 +37,7 @@ fn is_deep(tip: u32, coin: &Coin) -> bool
 }
 
 /// Whether a coin may be spent, by each rule in turn.
-fn may_be_spent(live: bool, spent: bool, claimed: bool, locked: bool, deep: bool) -> bool
+pub fn may_be_spent(live: bool, spent: bool, claimed: bool, locked: bool, deep: bool) -> bool
     ensures { result ≡ (live && (not spent && (not claimed && (not locked && deep)))) }
 {
     live && !spent && !claimed && !locked && deep

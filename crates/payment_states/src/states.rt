@@ -61,8 +61,8 @@ impl States {
         }
     }
 
-    /// The place of the transaction of this txid in the pending list.
-    pub(crate) fn place(&self, txid: &Txid) -> Option<usize>
+    /// The place of the transaction of this txid in the pending list. None exactly where none has it.
+    pub fn place(&self, txid: &Txid) -> Option<usize>
         ensures { result ≡ place_among self.now txid.now }
     {
         self.txids.get_index_of(txid)
@@ -190,7 +190,7 @@ fn payments_of(
 }
 
 /// The state of each of these transactions.
-fn states_of(
+pub(crate) fn states_of(
     alloc: Global,
     book: &Book,
     pending: &[Tx],

@@ -1,15 +1,8 @@
-use Rattle.std.proofs.Common.{◌≡◌, ◌∙◌, ℕ, ◌+◌, ◌<◌, ◌&&◌, Bool, true, false, cond, List, length, get_or, min, sym, ap, arith}
-use Rattle.std.specs.Prelude.{count_by}
-use Rattle.std.proofs.lemmas.Bool.{false_from_ne_true}
+use Rattle.std.proofs.Common.{◌≡◌, ◌∙◌, ◌+◌, ◌&&◌, true, false, cond, length, get_or, min, sym, ap, arith}
 use Rattle.payment_states.specs.Counts.{is_counted, ups}
-use Rattle.payment_states.specs.Graph.{IsInOrder, below, within}
-use Rattle.payment_states.proofs.CountSteps.{count_agree, count_filter}
-use Rattle.payment_states.proofs.Paths.{decides, no_later}
+use Rattle.payment_states.specs.Graph.{within}
+use Rattle.payment_states.proofs.ReachSteps.{later, ups_are}
 use Rattle.payment_states.proofs.counts.count_one.Goals as goal
-
--- none stands later
-later : (g : List (List ℕ)) (i j : ℕ) → IsInOrder g → i < length g → i < j → within g (length g) i j ≡ false
-later g i j order lt b = false_from_ne_true (within g (length g) i j) (λ h. let le = no_later g order ((decides g i j order lt).0 h) lt in absurd (omega arith))
 
 pub tally-requires : goal.tally-requires
 tally-requires c = record {
@@ -20,14 +13,6 @@ tally-requires c = record {
   below = c.mark_kin-low.ensures.below;
   above = λ j b. c.mark_kin-low.ensures.marks j ∙ later c.args.parents.now c.args.place j c.requires.order c.requires.place b;
 }
-
--- the marked ones that are counted
-ups_are : (g : List (List ℕ)) (counted marks : List Bool) (i : ℕ) → length marks ≡ length g → ((j : ℕ) → get_or marks j false ≡ within g (length g) i j)
-    → count_by (λ j. is_counted counted j && get_or marks j false) (below (length marks)) ≡ ups g counted i
-ups_are g counted marks i long is =
-    ap (λ n. count_by (λ j. is_counted counted j && get_or marks j false) (below n)) long
-    ∙ count_agree (λ j. is_counted counted j && get_or marks j false) (λ j. is_counted counted j && within g (length g) i j) (below (length g)) (λ j c. ap (λ b. is_counted counted j && b) (is j))
-    ∙ sym (count_filter (is_counted counted) (within g (length g) i) (below (length g)))
 
 pub returns-then-counted-place : goal.returns-then-counted-place
 returns-then-counted-place c =
