@@ -1,0 +1,11 @@
+pub mod BumpSteps
+pub mod CauseLaws
+pub mod ConflictLaws
+pub mod FitLaws
+pub mod GoesSteps
+pub mod PayLaws
+pub mod ShorterSteps
+pub mod SizeLaws
+pub mod SumLaws
+pub mod TermLaws
+pub mod WorthSteps

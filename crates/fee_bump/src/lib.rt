@@ -1,0 +1,20 @@
+//! Replacement by fee (BIP 125): what goes with the pending payment that a request replaces, and what its replacement is
+//! made from. It reads the states of payments and the coins of a book, and knows no file and no plan.
+#![tactic(auto)]
+
+mod bump;
+mod burden;
+mod fault;
+mod laws;
+mod rate;
+mod replaced;
+mod terms;
+mod worth;
+
+pub use bump::bump_terms;
+pub use fault::BumpFault;
+pub use laws::{
+    burdens_pay_for_replacing, conflicts_are_replaced, faults_have_one_cause, replaced_by_ways,
+    replacements_pay_more, spent_once, terms_by_rules,
+};
+pub use terms::BumpTerms;

@@ -1,0 +1,95 @@
+//! What a replacement is made from, by a wallet's text and a request's.
+
+ghost use Rattle.std.specs.Prelude.{◌<◌, IfOk, IsSome};
+ghost use Rattle.payment_states.specs.BookOf.{IsBookOf};
+
+use crate::lines::{fault_text, terms_text};
+use coin_book::{Book, BookFault};
+use fee_bump::{BumpTerms, bump_terms};
+use fund_base::Memory;
+use payment_states::{all_states, confirmed_without};
+use request_text::{Request, read_request};
+use std::alloc::Global;
+use wallet_text::{Wallet, read_wallet};
+
+/// The book of a wallet without blocks.
+fn book_of(alloc: Global, wallet: &Wallet) -> Result<Book, BookFault>
+    ensures { IfOk result (λ b. IsBookOf wallet.now b) }
+{
+    let mut book = Book::new(alloc, wallet)?;
+    for place in 0..wallet.pending.len() {
+        let tx = &wallet.pending[place];
+        book.add_pending(tx)?;
+    }
+    Ok(book)
+}
+
+/// The terms in lines.
+fn told(
+    alloc: Global,
+    book: &Book,
+    wallet: &Wallet,
+    tip: u32,
+    terms: &BumpTerms,
+) -> Result<String, Memory>
+    requires book { IsBookOf wallet.now book.now }
+    requires tip { tip < 4294967295 }
+{
+    let without = confirmed_without(alloc, book, wallet, tip, &terms.replaced)?;
+    let text = terms_text(alloc, terms, &without)?;
+    Ok(text)
+}
+
+/// What the request's payment comes to, by the wallet's book.
+fn by_book(
+    alloc: Global,
+    book: &Book,
+    wallet: &Wallet,
+    tip: u32,
+    request: &Request,
+) -> Result<String, Memory>
+    requires book { IsBookOf wallet.now book.now }
+    requires tip { tip < 4294967295 }
+    requires bump { IsSome request.now.bump }
+{
+    let states = all_states(alloc, book, wallet)?;
+    match bump_terms(alloc, book, wallet, &states, tip, request) {
+        Ok(terms) => told(alloc, book, wallet, tip, &terms),
+        Err(fault) => fault_text(alloc, fault),
+    }
+}
+
+/// What the request's payment comes to.
+fn by_wallet(
+    alloc: Global,
+    wallet: &Wallet,
+    tip: u32,
+    request: &Request,
+) -> Result<String, Memory> {
+    if tip == u32::MAX || request.bump.is_none() {
+        return Ok(String::from_str(alloc, "no tip or nothing to replace\n")?);
+    }
+    match book_of(alloc, wallet) {
+        Ok(book) => by_book(alloc, &book, wallet, tip, request),
+        Err(fault) => Ok(format!(in alloc; "{fault:?}\n")?),
+    }
+}
+
+/// The label, and then what a request comes to.
+pub fn answer(
+    alloc: Global,
+    label: &str,
+    tip: &str,
+    wallet: &str,
+    request: &str,
+) -> Result<String, Memory> {
+    let (Ok(tip), Ok(wallet), Ok(request)) = (
+        tip.parse::<u32>(),
+        read_wallet(alloc, wallet.as_bytes()),
+        read_request(alloc, request.as_bytes()),
+    ) else {
+        return Ok(format!(in alloc; "{label}: no wallet or no request\n")?);
+    };
+    let text = by_wallet(alloc, &wallet, tip, &request)?;
+    Ok(format!(in alloc; "{label}:\n{text}")?)
+}
