@@ -22,8 +22,8 @@ IsUnwritten told_files told log text report shelf shelf' sink sink' =
     (Rose (shelf.writes log) (shelf'.writes log) × (told → GotLine (fault_line (codes "write " ++ log)) sink sink'))
     ⊎ (Rose sink.faults sink'.faults × (told_files → shelf'.files log ≡ text) × (told → HasPart sink.written report sink'.written))
 
--- there was no memory for the log or for its line, or the log was written and the sink found no memory
+-- there was no memory for the log, or the log was written and the sink found no memory
 abbrev pub IsWithoutMemory : Type 0 → Type 0 → (log text report : List ℕ) → ShelfView → ShelfView → SinkView → SinkView → Type 0
 IsWithoutMemory told_files told log text report shelf shelf' sink sink' =
-    ((told → GotLine (fault_line (codes "memory")) sink sink') × (told_files → (shelf'.files ≡ shelf.files) ⊎ Rose (shelf.writes log) (shelf'.writes log)))
+    ((told → GotLine (fault_line (codes "memory")) sink sink') × (told_files → shelf'.files ≡ shelf.files))
     ⊎ (Rose sink.refusals sink'.refusals × (told_files → shelf'.files log ≡ text) × (told → HasPart sink.written report sink'.written))

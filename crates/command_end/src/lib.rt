@@ -2,6 +2,7 @@
 //! written and a report is printed. Each command stands on this; it knows none of them.
 #![tactic(auto)]
 
+mod named;
 mod names;
 mod output;
 mod refusals;

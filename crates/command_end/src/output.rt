@@ -1,11 +1,12 @@
 //! What a command prints and writes.
 
-ghost use Rattle.std.specs.Prelude.{◌≡◌, ◌⊎◌, ◌++◌, codes, IfOk, string_bytes};
+ghost use Rattle.std.specs.Prelude.{◌≡◌, ◌≢◌, ◌⊎◌, ◌++◌, codes, IfOk, string_bytes};
 ghost use Rattle.fund_base.specs.Causes.{CountsNeverFall, NeverFall, SameElsewhere};
 ghost use Rattle.command_end.specs.AnswerLines.{IsAnswered};
 ghost use Rattle.command_end.specs.Lines.{GotLine, fault_line};
 ghost use Rattle.command_end.specs.Printed.{IsEnd, IsPut, IsUnwritten, IsWithoutMemory};
 
+use crate::named::put_named;
 use crate::status::Status;
 use fund_base::{Fault, Memory, Shelf, Sink, put_all};
 use std::alloc::Global;
@@ -65,22 +66,14 @@ pub fn put_fault<O: Sink>(alloc: Global, words: &str, status: Status, out: &mut 
     }
 }
 
-/// What the line of a log that wasn't written says.
-fn write_words(alloc: Global, log: &str) -> Result<String, Memory>
-    ensures { IfOk result (λ text. string_bytes text ≡ codes "write " ++ log.now) }
-{
-    Ok(format!(in alloc; "write {}", log)?)
-}
-
-/// Puts the line of a log that wasn't written.
+/// Puts the line of a log that wasn't written. It is never said to be want of memory.
 fn refuse_write<O: Sink>(alloc: Global, log: &str, out: &mut O) -> Status
-    ensures line { IsAnswered O.tells (codes "write " ++ log.now) Status.WriteFault (O.view out.old) (O.view out.new) result }
+    ensures is { result ≡ Status.WriteFault }
+    ensures line { O.tells → GotLine (fault_line (codes "write " ++ log.now)) (O.view out.old) (O.view out.new) }
     ensures counts { CountsNeverFall (O.view out.old) (O.view out.new) }
 {
-    match write_words(alloc, log) {
-        Ok(words) => put_fault(alloc, words.as_str(), Status::WriteFault, out),
-        Err(Memory) => want_of_memory(out),
-    }
+    put_named(alloc, "fault write ", log, out);
+    Status::WriteFault
 }
 
 /// Puts the report or the listing, and answers the status, or that of a sink that failed or found no memory.
@@ -115,6 +108,9 @@ pub fn finish<H: Shelf, O: Sink>(
     // What fails, and what is there then.
     ensures write_fault { result ≡ Status.WriteFault → IsEnd status → IsUnwritten H.tells O.tells log.now text.now report.now (H.view shelf.old) (H.view shelf.new) (O.view out.old) (O.view out.new) }
     ensures memory { result ≡ Status.Memory → IsEnd status → IsWithoutMemory H.tells O.tells log.now text.now report.now (H.view shelf.old) (H.view shelf.new) (O.view out.old) (O.view out.new) }
+
+    // A write that failed is told as that, and as nothing else.
+    ensures all_written { result ≢ Status.WriteFault → (H.view shelf.new).writes ≡ (H.view shelf.old).writes }
 
     // What stays.
     ensures others { H.tells → SameElsewhere log.now (H.view shelf.old).files (H.view shelf.new).files }

@@ -4,12 +4,13 @@ ghost use Rattle.std.specs.Prelude.{◌≡◌, ◌++◌, codes, IfOk, string_byt
 ghost use Rattle.fund_base.specs.Causes.{CountsNeverFall};
 ghost use Rattle.fund_files.specs.Cause.{cause_of};
 ghost use Rattle.command_end.specs.AnswerLines.{IsAnswered};
-ghost use Rattle.command_end.specs.Lines.{GotLine, fault_line, file_refusal_words, file_word, status_of_file};
+ghost use Rattle.command_end.specs.Lines.{file_refusal_words, file_word, status_of_file};
 
-use crate::output::{put_fault, put_line, want_of_memory};
+use crate::named::put_named;
+use crate::output::{put_fault, want_of_memory};
 use crate::status::Status;
 use fault_text::{coin_text, feed_fault_words, request_fault_words, wallet_fault_words};
-use fund_base::{Memory, Sink, put_all};
+use fund_base::{Memory, Sink};
 use fund_files::{File, FileRefusal};
 use std::alloc::Global;
 
@@ -72,43 +73,12 @@ pub fn refuse_file<O: Sink>(alloc: Global, refusal: &FileRefusal, out: &mut O) -
     }
 }
 
-/// What the line of a file that wasn't read says before its name.
-const READ_WORDS: &[u8] = b"fault read ";
-
-/// What ends a line.
-const LINE_END: &[u8] = b"\n";
-
-/// The line of a file that wasn't read.
-fn read_line(alloc: Global, name: &str) -> Result<String, Memory>
-    ensures { IfOk result (λ text. string_bytes text ≡ fault_line (codes "read " ++ name.now)) }
-{
-    Ok(format!(in alloc; "fault read {}\n", name)?)
-}
-
-/// Puts the line of a file that wasn't read in its parts, which takes no memory. Where the sink fails it has got a part.
-fn put_read_parts<O: Sink>(name: &str, out: &mut O)
-    ensures line { O.tells → GotLine (fault_line (codes "read " ++ name.now)) (O.view out.old) (O.view out.new) }
-    ensures counts { CountsNeverFall (O.view out.old) (O.view out.new) }
-{
-    if put_all(out, READ_WORDS).is_err() {
-        return;
-    }
-    if put_all(out, name.as_bytes()).is_err() {
-        return;
-    }
-    put_line(LINE_END, out);
-}
-
-/// Puts the line of a file that wasn't read: at once, or in its parts where there is no memory for it. That a read failed is
-/// never said to be want of memory.
+/// Puts the line of a file that wasn't read. It is never said to be want of memory.
 pub fn refuse_read<O: Sink>(alloc: Global, name: &str, out: &mut O) -> Status
     ensures is { result ≡ Status.ReadFault }
     ensures line { IsAnswered O.tells (codes "read " ++ name.now) Status.ReadFault (O.view out.old) (O.view out.new) result }
     ensures counts { CountsNeverFall (O.view out.old) (O.view out.new) }
 {
-    match read_line(alloc, name) {
-        Ok(line) => put_line(line.as_bytes(), out),
-        Err(Memory) => put_read_parts(name, out),
-    }
+    put_named(alloc, "fault read ", name, out);
     Status::ReadFault
 }

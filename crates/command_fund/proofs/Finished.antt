@@ -59,16 +59,9 @@ unwritten : (told_files told told_jobs : Type 0) (s : Sources) (p : Payment) (jo
 unwritten told_files told told_jobs s p job keeper report log shelf middle shelf' sink sink' writes is (inl h) = (report, Some log, is, inl (subst (λ (w : List ℕ → ℕ). Rose (w p.log) (shelf'.writes p.log)) writes h.0, h.1, λ t. refl))
 unwritten told_files told told_jobs s p job keeper report log shelf middle shelf' sink sink' writes is (inr h) = (report, Some log, is, inr (h.0, h.1, h.2, λ t. refl))
 
--- the log is as before, or its write failed
-log_stays : (told_files : Type 0) (s : Sources) (p : Payment) (report log : List ℕ) (shelf middle shelf' : ShelfView) → middle.writes ≡ shelf.writes → middle.files ≡ shelf.files → IsReport told_files shelf.files s p report (Some log)
-    → (shelf'.files ≡ middle.files) ⊎ Rose (middle.writes p.log) (shelf'.writes p.log)
-    → (shelf'.files ≡ shelf.files) ⊎ ((r : List ℕ) × (l : Option (List ℕ)) × IsReport told_files shelf.files s p r l × IsLogLost p l shelf shelf')
-log_stays told_files s p report log shelf middle shelf' writes same is (inl h) = inl (h ∙ same)
-log_stays told_files s p report log shelf middle shelf' writes same is (inr h) = inr (report, Some log, is, subst (λ (w : List ℕ → ℕ). Rose (w p.log) (shelf'.writes p.log)) writes h)
-
 without_memory : (told_files told told_jobs : Type 0) (s : Sources) (p : Payment) (job : Option (List ℕ)) (keeper : KeeperView) (report log : List ℕ) (shelf middle shelf' : ShelfView) (sink sink' : SinkView) → middle.writes ≡ shelf.writes → (told_files → middle.files ≡ shelf.files)
     → IsReport told_files shelf.files s p report (Some log) → IsWithoutMemory told_files told p.log log report middle shelf' sink sink' → EndsWithoutMemory told_files told told_jobs s p job shelf shelf' sink sink' keeper keeper
-without_memory told_files told told_jobs s p job keeper report log shelf middle shelf' sink sink' writes same is (inl h) = inl (h.0, λ t. refl, λ f. log_stays told_files s p report log shelf middle shelf' writes (same f) is (h.1 f))
+without_memory told_files told told_jobs s p job keeper report log shelf middle shelf' sink sink' writes same is (inl h) = inl (h.0, λ t. refl, λ f. h.1 f ∙ same f)
 without_memory told_files told told_jobs s p job keeper report log shelf middle shelf' sink sink' writes same is (inr h) = inr (report, Some log, is, h.0, h.1, h.2, λ t. refl)
 
 pub finish_ends : (told_files told told_jobs : Type 0) (s : Sources) (p : Payment) (job : Option (List ℕ)) (keeper : KeeperView) (report log : List ℕ) (status : Status) (shelf middle shelf' : ShelfView) (sink sink' : SinkView) (result : Status) → IsEnd status → middle.writes ≡ shelf.writes → (told_files → middle.files ≡ shelf.files)
@@ -124,7 +117,7 @@ module _ (told_files told told_jobs : Type 0) (s : Sources) (p : Payment) (job :
   not_left_ends (inl h) same = subst (λ (x : Status). Ends told_files told told_jobs s p job shelf shelf' sink sink' keeper keeper' x) (sym h.1)
       (h.0, rose_earlier _ _ _ (read.reads (name_of s p h.0)) h.2, λ f. reached shelf.files s p u.wallet u.blocks u.asked h.0 (u.inputs f), h.3)
   not_left_ends (inr (inl h)) same = subst (λ (x : Status). Ends told_files told told_jobs s p job shelf shelf' sink sink' keeper keeper' x) (sym h.0) (left.report.items, u, h.1, h.2, h.3)
-  not_left_ends (inr (inr h)) same = subst (λ (x : Status). Ends told_files told told_jobs s p job shelf shelf' sink sink' keeper keeper' x) (sym h.0) (inl (h.1, same, λ f. inl (unchanged f)))
+  not_left_ends (inr (inr h)) same = subst (λ (x : Status). Ends told_files told told_jobs s p job shelf shelf' sink sink' keeper keeper' x) (sym h.0) (inl (h.1, same, unchanged))
 
   pub leave_ends : AreSteps (steps_of (plan_of (held_of u.wallet u.blocks) u.asked)) → IsLeftAt (held_of u.wallet u.blocks) u.asked left.plan
       → HasLeft told_files told told_jobs s p job left middle shelf' sink sink' keeper keeper' result → Ends told_files told told_jobs s p job shelf shelf' sink sink' keeper keeper' result
@@ -167,7 +160,7 @@ refused_ends told_files told told_jobs s p job keeper refusal shelf shelf' sink 
 refused_ends told_files told told_jobs s p job keeper refusal shelf shelf' sink sink' due line (inr e) = subst (λ (x : Status). Ends told_files told told_jobs s p job shelf shelf' sink sink' keeper keeper x) (sym e) (refusal, e, due, line)
 
 wanting_ends : (told_files told told_jobs : Type 0) (s : Sources) (p : Payment) (job : Option (List ℕ)) (keeper : KeeperView) (shelf shelf' : ShelfView) (sink sink' : SinkView) (result : Status) → (told_files → shelf'.files ≡ shelf.files) → IsWanting told sink sink' result → Ends told_files told told_jobs s p job shelf shelf' sink sink' keeper keeper result
-wanting_ends told_files told told_jobs s p job keeper shelf shelf' sink sink' result same w = subst (λ (x : Status). Ends told_files told told_jobs s p job shelf shelf' sink sink' keeper keeper x) (sym w.0) (inl (w.1, λ t. refl, λ f. inl (same f)))
+wanting_ends told_files told told_jobs s p job keeper shelf shelf' sink sink' result same w = subst (λ (x : Status). Ends told_files told told_jobs s p job shelf shelf' sink sink' keeper keeper x) (sym w.0) (inl (w.1, λ t. refl, same))
 
 pub stop_ends : (told_files told told_jobs : Type 0) (s : Sources) (p : Payment) (job : Option (List ℕ)) (keeper : KeeperView) (stop : Stop) (shelf shelf' : ShelfView) (sink sink' : SinkView) (result : Status) → StopsFor told_files s p shelf shelf' stop → (told_files → shelf'.files ≡ shelf.files) → IsStopped told s p stop sink sink' result
     → Ends told_files told told_jobs s p job shelf shelf' sink sink' keeper keeper result

@@ -164,13 +164,12 @@ EndsUnwritten told_files told told_jobs s p job shelf shelf' sink sink' keeper k
     ⊎ (Rose sink.faults sink'.faults × (told_files → IsLogged p log shelf shelf') × (told → HasPart sink.written report sink'.written)
     × IsKeptBefore told_files told_jobs shelf.files s p report log is job keeper keeper'))
 
--- There was not enough memory, and the line says so, the log being as before or its write having failed, and the jobs as
--- before; or the log was written, or none is due, and the sink found no memory and has got a part of the report. Then a job
+-- There was not enough memory, and the line says so, and files and jobs are as before; or the log
+-- was written, or none is due, and the sink found no memory and has got a part of the report. Then a job
 -- that was to be kept is kept.
 abbrev pub EndsWithoutMemory : Type 0 → Type 0 → Type 0 → Sources → Payment → Option (List ℕ) → ShelfView → ShelfView → SinkView → SinkView → KeeperView → KeeperView → Type 0
 EndsWithoutMemory told_files told told_jobs s p job shelf shelf' sink sink' keeper keeper' =
-    ((told → GotLine (fault_line (codes "memory")) sink sink') × (told_jobs → keeper'.jobs ≡ keeper.jobs)
-    × (told_files → (shelf'.files ≡ shelf.files) ⊎ ((report : List ℕ) × (log : Option (List ℕ)) × IsReport told_files shelf.files s p report log × IsLogLost p log shelf shelf')))
+    ((told → GotLine (fault_line (codes "memory")) sink sink') × (told_jobs → keeper'.jobs ≡ keeper.jobs) × (told_files → shelf'.files ≡ shelf.files))
     ⊎ ((report : List ℕ) × (log : Option (List ℕ)) × (is : IsReport told_files shelf.files s p report log)
     × Rose sink.refusals sink'.refusals × (told_files → IsLogged p log shelf shelf') × (told → HasPart sink.written report sink'.written)
     × IsKeptBefore told_files told_jobs shelf.files s p report log is job keeper keeper')

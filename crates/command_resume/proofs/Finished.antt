@@ -34,13 +34,8 @@ module _ (told_files told told_jobs : Type 0) (s : Sources) (p : Payment) (job r
   written_not (inl h) = (report, Some log, is, inl (subst (λ (w : List ℕ → ℕ). Rose (w p.log) (shelf'.writes p.log)) writes h.0, h.1, kept))
   written_not (inr h) = (report, Some log, is, inr (h.0, h.1, h.2, kept))
 
-  log_stays : told_files → (shelf'.files ≡ middle.files) ⊎ Rose (middle.writes p.log) (shelf'.writes p.log)
-      → (shelf'.files ≡ shelf.files) ⊎ ((r : List ℕ) × (l : Option (List ℕ)) × IsReport told_files told_jobs shelf.files s p (keeper.jobs job) r l × IsLogLost p l shelf shelf')
-  log_stays f (inl h) = inl (h ∙ same f)
-  log_stays f (inr h) = inr (report, Some log, is, subst (λ (w : List ℕ → ℕ). Rose (w p.log) (shelf'.writes p.log)) writes h)
-
   without_memory : IsWithoutMemory told_files told p.log log report middle shelf' sink sink' → EndsWithoutMemory told_files told told_jobs s p job shelf shelf' sink sink' keeper keeper'
-  without_memory (inl h) = inl (h.0, kept, λ f. log_stays f (h.1 f))
+  without_memory (inl h) = inl (h.0, kept, λ f. h.1 f ∙ same f)
   without_memory (inr h) = inr (report, Some log, is, h.0, h.1, h.2, kept)
 
   pub finish_ends : (status result : Status) → IsEnd status
@@ -103,7 +98,7 @@ module _ (told_files told told_jobs : Type 0) (s : Sources) (p : Payment) (job :
 
   not_left_ends : IsNotLeft told sink sink' middle keeper' result → (told_jobs → keeper'.jobs ≡ middle.jobs) → Ends told_files told told_jobs s p job shelf shelf' sink sink' keeper keeper' result
   not_left_ends (inl g) as_before = subst (λ (x : Status). Ends told_files told told_jobs s p job shelf shelf' sink sink' keeper keeper' x) (sym g.0) (rose_earlier _ _ _ rises g.1, g.2, ready)
-  not_left_ends (inr g) as_before = subst (λ (x : Status). Ends told_files told told_jobs s p job shelf shelf' sink sink' keeper keeper' x) (sym g.0) (inl (g.1, λ t. as_before t ∙ as_kept t, λ f. inl (same f)))
+  not_left_ends (inr g) as_before = subst (λ (x : Status). Ends told_files told told_jobs s p job shelf shelf' sink sink' keeper keeper' x) (sym g.0) (inl (g.1, λ t. as_before t ∙ as_kept t, same))
 
   pub leave_ends : HasLeft told told_jobs job left sink sink' middle keeper' result → Ends told_files told told_jobs s p job shelf shelf' sink sink' keeper keeper' result
   leave_ends (inl g) = put_ends (λ t. left_on t (saved_from t (g.1 t))) g.0

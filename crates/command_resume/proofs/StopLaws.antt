@@ -54,7 +54,7 @@ module _ (told_files told told_jobs : Type 0) (s : Sources) (p : Payment) (job :
   wanting_ends : (shelf shelf' : ShelfView) (sink sink' : SinkView) (keeper keeper' : KeeperView) (result : Status) → (told_files → shelf'.files ≡ shelf.files) → (told_jobs → keeper'.jobs ≡ keeper.jobs) → IsWanting told sink sink' result
       → Ends told_files told told_jobs s p job shelf shelf' sink sink' keeper keeper' result
   wanting_ends shelf shelf' sink sink' keeper keeper' result same kept w =
-      subst (λ (x : Status). Ends told_files told told_jobs s p job shelf shelf' sink sink' keeper keeper' x) (sym w.0) (inl (w.1, kept, λ f. inl (same f)))
+      subst (λ (x : Status). Ends told_files told told_jobs s p job shelf shelf' sink sink' keeper keeper' x) (sym w.0) (inl (w.1, kept, same))
 
   refused_ends : (refusal : Refusal) (shelf shelf' : ShelfView) (sink sink' : SinkView) (keeper keeper' : KeeperView) → (told_files → IsDue shelf.files s p (cause_of refusal)) → (told → GotLine (fault_line (fund_words.refusal_words refusal)) sink sink')
       → (status_of_cause (cause_of refusal) ≡ statuses.Input) ⊎ (status_of_cause (cause_of refusal) ≡ statuses.Limit) → Ends told_files told told_jobs s p job shelf shelf' sink sink' keeper keeper' (status_of_cause (cause_of refusal))
@@ -90,7 +90,7 @@ module _ (told_files told told_jobs : Type 0) (s : Sources) (p : Payment) (job :
       → (told → GotLine (fault_line (kept_words fault)) sink sink') → Ends told_files told told_jobs s p job shelf shelf' sink sink' keeper keeper' (kept_status fault)
   unfolding kept_words
   kept_by faults.Failed shelf shelf' sink sink' keeper keeper' h same kept line = (h.0, line, h.1)
-  kept_by faults.Memory shelf shelf' sink sink' keeper keeper' h same kept line = inl (line, kept, λ f. inl (same f))
+  kept_by faults.Memory shelf shelf' sink sink' keeper keeper' h same kept line = inl (line, kept, same)
   kept_by faults.NoJob shelf shelf' sink sink' keeper keeper' h same kept line = own_ends faults.NoJob shelf shelf' sink sink' keeper keeper' tt h line
   kept_by (faults.Form place) shelf shelf' sink sink' keeper keeper' h same kept line = own_ends (faults.Form place) shelf shelf' sink sink' keeper keeper' tt h line
   kept_by (faults.JobElse a b) shelf shelf' sink sink' keeper keeper' h same kept line = own_ends (faults.JobElse a b) shelf shelf' sink sink' keeper keeper' tt h line

@@ -75,6 +75,9 @@ pub fn resume<H: Shelf, O: Sink, K: Keeper>(
     // A read that failed is told as that, and as nothing else.
     ensures all_read { result ≢ Status.ReadFault → (H.view shelf.new).reads ≡ (H.view shelf.old).reads }
 
+    // So is a write that failed.
+    ensures all_written { result ≢ Status.WriteFault → (H.view shelf.new).writes ≡ (H.view shelf.old).writes }
+
     // A failure of the keeper is told as that, and as nothing else.
     ensures unfailed { result ≢ Status.KeepFault → (K.view keeper.new).faults ≡ (K.view keeper.old).faults }
 

@@ -49,6 +49,7 @@ fn act<H: Shelf, O: Sink, K: Keeper>(
     ensures read_once { H.tells → IsOfTheFiles result → WhereFunding (Some (plain command.now)) (λ s p. AsksInOrder s p (H.view shelf.old) (H.view shelf.new)) }
     ensures unfailed { result ≢ Status.KeepFault → (K.view keeper.new).faults ≡ (K.view keeper.old).faults }
     ensures all_read { result ≢ Status.ReadFault → (H.view shelf.new).reads ≡ (H.view shelf.old).reads }
+    ensures all_written { result ≢ Status.WriteFault → (H.view shelf.new).writes ≡ (H.view shelf.old).writes }
 {
     match command {
         Command::Coins(sources) => coins(alloc, sources, shelf, out),
@@ -139,10 +140,12 @@ pub fn run<H: Shelf, O: Sink, K: Keeper>(
     ensures saved { result ≡ Status.Saved → IfSome (command_of words.now.items) (λ c. EndsNotKept H.tells O.tells K.tells c (H.view shelf.old) (O.view out.old) (O.view out.new) (K.view keeper.old)) }
     ensures check_refused { result ≡ Status.CheckRefused → IfSome (command_of words.now.items) (λ c. EndsBroken H.tells O.tells c (H.view shelf.old) (O.view out.old) (O.view out.new)) }
 
-    // Faults: only where a count rose. A failure of a read or of the keeper is told as that, and as nothing else.
+    // Faults: only where a count rose. A failure of a read, of a write of the log or of the keeper is told as that, and as
+    // nothing else.
     ensures read_fault { result ≡ Status.ReadFault → IfSome (command_of words.now.items) (λ c. EndsUnread H.tells O.tells c (H.view shelf.old) (H.view shelf.new) (O.view out.old) (O.view out.new)) }
     ensures all_read { result ≢ Status.ReadFault → (H.view shelf.new).reads ≡ (H.view shelf.old).reads }
     ensures write_fault { result ≡ Status.WriteFault → IfSome (command_of words.now.items) (λ c. EndsUnwritten H.tells O.tells K.tells c (H.view shelf.old) (H.view shelf.new) (O.view out.old) (O.view out.new) (K.view keeper.old) (K.view keeper.new)) }
+    ensures all_written { result ≢ Status.WriteFault → (H.view shelf.new).writes ≡ (H.view shelf.old).writes }
     ensures keep_fault { result ≡ Status.KeepFault → IfSome (command_of words.now.items) (λ c. EndsUnkept H.tells O.tells c (H.view shelf.old) (O.view out.old) (O.view out.new) (K.view keeper.old) (K.view keeper.new)) }
     ensures unfailed { result ≢ Status.KeepFault → (K.view keeper.new).faults ≡ (K.view keeper.old).faults }
     ensures memory { result ≡ Status.Memory → IfSome (command_of words.now.items) (λ c. EndsWithoutMemory H.tells O.tells K.tells c (H.view shelf.old) (H.view shelf.new) (O.view out.old) (O.view out.new) (K.view keeper.old) (K.view keeper.new)) }

@@ -1,4 +1,4 @@
 use Rattle.command_end.proofs.output.refuse_write.Goals as goal
 
-pub returns-in-Ok-clause-line : goal.returns-in-Ok-clause-line
-returns-in-Ok-clause-line g c = rw (c.as_str.ensures.value, c.in-Ok.ensures) at c.put_fault.ensures.line
+pub returns-clause-line : goal.returns-clause-line
+returns-clause-line g c = c.put_named.ensures.line

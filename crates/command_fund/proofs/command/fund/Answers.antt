@@ -125,3 +125,17 @@ returns-in-Ok-Funded-clause-all_read g c = λ other. c.finish-in-Ok-Funded.ensur
 
 pub returns-in-Err-clause-all_read : goal.returns-in-Err-clause-all_read
 returns-in-Err-clause-all_read g c = λ other. c.in-Err.ensures.all_read (λ file e. other (c.answer.ensures.read file cc))
+
+-- ---- failed writes
+
+pub returns-in-Ok-Unfinished-clause-all_written : goal.returns-in-Ok-Unfinished-clause-all_written
+returns-in-Ok-Unfinished-clause-all_written g c = λ other. c.leave.ensures.frame.writes ∙ c.outcome.ensures.frame.writes
+
+pub returns-in-Ok-NoSelection-clause-all_written : goal.returns-in-Ok-NoSelection-clause-all_written
+returns-in-Ok-NoSelection-clause-all_written g c = λ other. c.finish.ensures.all_written other ∙ c.outcome.ensures.frame.writes
+
+pub returns-in-Ok-Funded-clause-all_written : goal.returns-in-Ok-Funded-clause-all_written
+returns-in-Ok-Funded-clause-all_written g c = λ other. c.finish-in-Ok-Funded.ensures.all_written other ∙ c.outcome.ensures.frame.writes
+
+pub returns-in-Err-clause-all_written : goal.returns-in-Err-clause-all_written
+returns-in-Err-clause-all_written g c = λ other. c.outcome.ensures.frame.writes
