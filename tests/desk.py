@@ -343,8 +343,8 @@ def stop_of(files, line):
     return (9, f"fault limit {what}") if len(files[words[-1]]) > most else None
 
 
-def judge(files, status, printed, ends):
-    """Goes through a case; fails where a reply isn't the one that is due."""
+def judge(files, fails, status, printed, ends):
+    """Goes through a case, whose output fails at these replies; fails where a reply isn't the one that is due."""
     try:
         wallet = json.loads(files["wallet.json"])
         wallet["scripts"]
@@ -352,12 +352,21 @@ def judge(files, status, printed, ends):
         assert status == 3 and printed.startswith("fault input wallet "), printed
         ends["refused wallet"] += 1
         return
+    if len(files["script"]) > 16_777_216:
+        assert status == 9 and printed == "fault limit script\n", printed
+        ends["script too long"] += 1
+        return
     desk, replies, script = Desk(files), printed.splitlines(), lines_of(files["script"])
     for number, line in enumerate(script):
         stop = stop_of(files, line)
         if stop is not None:
-            assert status == stop[0] and replies[number:] == [stop[1]][number:], f"{stop} is due: {replies[number:]}"
+            told = [] if number in fails else [stop[1]][number:]
+            assert status == stop[0] and replies[number:] == told, f"{stop} is due: {replies[number:]}"
             ends["stopped"] += 1
+            return
+        if number in fails:
+            assert status == 5 and len(replies) == number, f"status {status}, {len(replies)} replies"
+            ends["output failed"] += 1
             return
         assert number < len(replies), f"no reply to {line}"
         due = desk.reply(line)
@@ -372,7 +381,7 @@ def judge(files, status, printed, ends):
 
 
 def cases(text):
-    """Each case's name, its files, and whether only the digest of its output is printed."""
+    """Each case's name, its files, the replies at which its output fails, and whether only the digest of it is printed."""
     name, files = None, {}
     for line in text.splitlines():
         words = line.split(" ")
@@ -383,7 +392,7 @@ def cases(text):
         elif words[0] == "more":
             files[words[1]] += bytes.fromhex(words[3]) * int(words[2])
         else:
-            yield name, dict(files), words[0] == "sum"
+            yield name, dict(files), [int(word) for word in words[1:]], words[0] == "sum"
 
 
 def sum_of_turns(files):
@@ -402,7 +411,7 @@ def main():
         stored = list(cases(file.read()))
     with open(os.path.join(folder, "stdout"), encoding="utf-8") as file:
         printed = file.read()
-    for name, files, is_sum in reversed(stored):
+    for name, files, fails, is_sum in reversed(stored):
         printed, _, told = printed.rpartition(f"{name}: status ")
         status, _, text = told.partition("\n")
         try:
@@ -410,7 +419,7 @@ def main():
                 assert status == "0" and text == sum_of_turns(files), text
                 ends["long script"] += 1
             else:
-                judge(files, int(status), text, ends)
+                judge(files, fails, int(status), text, ends)
         except (AssertionError, TypeError, KeyError) as wrong:
             print(f"WRONG, {name}: {wrong}")
             return 1

@@ -133,19 +133,19 @@ one_apart d new s does apart = by s.command does
 
     by : (c : Command) → Does d c s.reply new → AreApart new.committed
     by (Open name request) (inl h) = from (ap (λ (x : PlainDesk). x.committed) h.next_is ∙ open_same d name request)
-    by (Open name request) (inr h) = from (ap (λ (x : PlainDesk). x.committed) h.1)
+    by (Open name request) (inr h) = from (ap (λ (x : PlainDesk). x.committed) h.leaves)
     by (Turn name n) (inl h) = from (ap (λ (x : PlainDesk). x.committed) h.next_is ∙ turn_same d name n)
-    by (Turn name n) (inr h) = from (ap (λ (x : PlainDesk). x.committed) h.1.2)
+    by (Turn name n) (inr h) = from (ap (λ (x : PlainDesk). x.committed) h.leaves.2)
     by (Commit name) (inl h) = subst AreApart (sym (ap (λ (x : PlainDesk). x.committed) h.next_is)) (commit_apart d name apart)
-    by (Commit name) (inr h) = from (ap (λ (x : PlainDesk). x.committed) h.1)
+    by (Commit name) (inr h) = from (ap (λ (x : PlainDesk). x.committed) h.leaves)
     by (Close name) (inl h) = from (ap (λ (x : PlainDesk). x.committed) h.next_is ∙ close_same d name)
-    by (Close name) (inr h) = from (ap (λ (x : PlainDesk). x.committed) h.1)
+    by (Close name) (inr h) = from (ap (λ (x : PlainDesk). x.committed) h.leaves)
     by (Release txid) (inl h) = subst AreApart (sym (ap (λ (x : PlainDesk). x.committed) h.next_is)) (release_apart d txid apart)
-    by (Release txid) (inr h) = from (ap (λ (x : PlainDesk). x.committed) h.1)
+    by (Release txid) (inr h) = from (ap (λ (x : PlainDesk). x.committed) h.leaves)
     by (Blocks bytes) (inl h) = from (ap (λ (x : PlainDesk). x.committed) h.next_is)
-    by (Blocks bytes) (inr h) = from (ap (λ (x : PlainDesk). x.committed) h.1.1)
+    by (Blocks bytes) (inr h) = from (ap (λ (x : PlainDesk). x.committed) h.leaves.1)
     by (Pending hex) (inl h) = from (ap (λ (x : PlainDesk). x.committed) h.next_is)
-    by (Pending hex) (inr h) = from (ap (λ (x : PlainDesk). x.committed) h.1)
+    by (Pending hex) (inr h) = from (ap (λ (x : PlainDesk). x.committed) h.leaves)
 
 pub all_apart : (d new : PlainDesk) (said : List Said) → AreApart d.committed → Runs d said new → AreApart new.committed
 all_apart d new [] apart runs = subst (λ (x : PlainDesk). AreApart x.committed) (sym runs) apart

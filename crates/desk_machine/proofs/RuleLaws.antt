@@ -147,19 +147,19 @@ one_open d new s does h = by s.command does
 
     by : (c : Command) → Does d c s.reply new → AreOpen new.jobs
     by (Open name request) (inl k) = from _ (ap (λ (x : PlainDesk). x.jobs) k.next_is) (open_open d name request h)
-    by (Open name request) (inr k) = from _ (ap (λ (x : PlainDesk). x.jobs) k.1) h
+    by (Open name request) (inr k) = from _ (ap (λ (x : PlainDesk). x.jobs) k.leaves) h
     by (Turn name n) (inl k) = from _ (ap (λ (x : PlainDesk). x.jobs) k.next_is) (turn_open d name n h)
-    by (Turn name n) (inr k) = from _ (ap (λ (x : PlainDesk). x.jobs) k.1.2) (left_open d.jobs k.1.0 name n (job_at d.jobs name) refl k.1.1 h)
+    by (Turn name n) (inr k) = from _ (ap (λ (x : PlainDesk). x.jobs) k.leaves.2) (left_open d.jobs k.leaves.0 name n (job_at d.jobs name) refl k.leaves.1 h)
     by (Commit name) (inl k) = from _ (ap (λ (x : PlainDesk). x.jobs) k.next_is) (commit_open d name h)
-    by (Commit name) (inr k) = from _ (ap (λ (x : PlainDesk). x.jobs) k.1) h
+    by (Commit name) (inr k) = from _ (ap (λ (x : PlainDesk). x.jobs) k.leaves) h
     by (Close name) (inl k) = from _ (ap (λ (x : PlainDesk). x.jobs) k.next_is) (close_open d name h)
-    by (Close name) (inr k) = from _ (ap (λ (x : PlainDesk). x.jobs) k.1) h
+    by (Close name) (inr k) = from _ (ap (λ (x : PlainDesk). x.jobs) k.leaves) h
     by (Release txid) (inl k) = from _ (ap (λ (x : PlainDesk). x.jobs) k.next_is) (release_open d txid h)
-    by (Release txid) (inr k) = from _ (ap (λ (x : PlainDesk). x.jobs) k.1) h
+    by (Release txid) (inr k) = from _ (ap (λ (x : PlainDesk). x.jobs) k.leaves) h
     by (Blocks bytes) (inl k) = from _ (ap (λ (x : PlainDesk). x.jobs) k.next_is) h
-    by (Blocks bytes) (inr k) = from _ (ap (λ (x : PlainDesk). x.jobs) k.1.1) h
+    by (Blocks bytes) (inr k) = from _ (ap (λ (x : PlainDesk). x.jobs) k.leaves.1) h
     by (Pending hex) (inl k) = from _ (ap (λ (x : PlainDesk). x.jobs) k.next_is) h
-    by (Pending hex) (inr k) = from _ (ap (λ (x : PlainDesk). x.jobs) k.1) h
+    by (Pending hex) (inr k) = from _ (ap (λ (x : PlainDesk). x.jobs) k.leaves) h
 
 pub all_open : (d new : PlainDesk) (said : List Said) → AreOpen d.jobs → Runs d said new → AreOpen new.jobs
 all_open d new [] h runs = subst (λ (x : PlainDesk). AreOpen x.jobs) (sym runs) h

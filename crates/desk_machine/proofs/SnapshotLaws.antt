@@ -119,7 +119,7 @@ turn_kept d new other n reply name j does at = by (bytes_eq name other) refl doe
     by : (same : Bool) → bytes_eq name other ≡ same → Does d (Turn other n) reply new → Kept name j reply (Turn other n) new
     by false e (inl s) = stays (bytes_eq name other) e (ap (λ (x : PlainDesk). job_at x.jobs name) s.next_is ∙ turned_other d name other n e)
     by false e (inr s) =
-        let left = s.1 in
+        let left = s.leaves in
         stays (bytes_eq name other) e (ap (λ (x : PlainDesk). job_at x.jobs name) left.2 ∙ left_other d.jobs left.0 name other n e left.1)
     by true e (inl s) =
         let is = same_name name other e in
@@ -130,11 +130,11 @@ turn_kept d new other n reply name j does at = by (bytes_eq name other) refl doe
     by true e (inr s) =
         let is = same_name name other e in
         let here = subst (λ (x : List ℕ). job_at d.jobs x ≡ Some j) is at in
-        let left = s.1 in
+        let left = s.leaves in
         let found = left_found d.jobs left.0 other n j here left.1 in
         own (bytes_eq name other) e found.0
         (ap (λ (x : PlainDesk). job_at x.jobs name) left.2 ∙ ap (λ (x : List ℕ). job_at left.0 x) is ∙ found.2)
-        (inr (s.0, found.1))
+        (inr (s.reply_is, found.1))
 
 -- ---- any call
 
@@ -144,21 +144,21 @@ idle name j reply c new none at = (j, at, λ rest k alone. subst (λ (ps : List 
 
 one_kept : (d new : PlainDesk) (c : Command) (reply : Reply) (name : List ℕ) (j : Job) → Does d c reply new → job_at d.jobs name ≡ Some j → StaysOpen name reply c → Kept name j reply c new
 one_kept d new (Open other request) reply name j (inl s) at stays = idle name j reply (Open other request) new refl (ap (λ (x : PlainDesk). job_at x.jobs name) s.next_is ∙ open_leaves d other request name j at)
-one_kept d new (Open other request) reply name j (inr s) at stays = idle name j reply (Open other request) new refl (ap (λ (x : PlainDesk). job_at x.jobs name) s.1 ∙ at)
+one_kept d new (Open other request) reply name j (inr s) at stays = idle name j reply (Open other request) new refl (ap (λ (x : PlainDesk). job_at x.jobs name) s.leaves ∙ at)
 one_kept d new (Turn other n) reply name j does at stays = turn_kept d new other n reply name j does at
 one_kept d new (Commit other) reply name j (inl s) at stays =
     idle name j reply (Commit other) new refl
     (ap (λ (x : PlainDesk). job_at x.jobs name) s.next_is ∙ commit_leaves d other name j at (λ is txid psbt e. stays is txid psbt (s.reply_is ∙ e)))
-one_kept d new (Commit other) reply name j (inr s) at stays = idle name j reply (Commit other) new refl (ap (λ (x : PlainDesk). job_at x.jobs name) s.1 ∙ at)
+one_kept d new (Commit other) reply name j (inr s) at stays = idle name j reply (Commit other) new refl (ap (λ (x : PlainDesk). job_at x.jobs name) s.leaves ∙ at)
 one_kept d new (Close other) reply name j (inl s) at stays =
     idle name j reply (Close other) new refl (ap (λ (x : PlainDesk). job_at x.jobs name) s.next_is ∙ close_leaves d other name j at (λ is e. stays is (s.reply_is ∙ e)))
-one_kept d new (Close other) reply name j (inr s) at stays = idle name j reply (Close other) new refl (ap (λ (x : PlainDesk). job_at x.jobs name) s.1 ∙ at)
+one_kept d new (Close other) reply name j (inr s) at stays = idle name j reply (Close other) new refl (ap (λ (x : PlainDesk). job_at x.jobs name) s.leaves ∙ at)
 one_kept d new (Release txid) reply name j (inl s) at stays = idle name j reply (Release txid) new refl (ap (λ (x : PlainDesk). job_at x.jobs name) s.next_is ∙ release_leaves d txid name ∙ at)
-one_kept d new (Release txid) reply name j (inr s) at stays = idle name j reply (Release txid) new refl (ap (λ (x : PlainDesk). job_at x.jobs name) s.1 ∙ at)
+one_kept d new (Release txid) reply name j (inr s) at stays = idle name j reply (Release txid) new refl (ap (λ (x : PlainDesk). job_at x.jobs name) s.leaves ∙ at)
 one_kept d new (Blocks bytes) reply name j (inl s) at stays = idle name j reply (Blocks bytes) new refl (ap (λ (x : PlainDesk). job_at x.jobs name) s.next_is ∙ at)
-one_kept d new (Blocks bytes) reply name j (inr s) at stays = idle name j reply (Blocks bytes) new refl (ap (λ (x : PlainDesk). job_at x.jobs name) s.1.1 ∙ at)
+one_kept d new (Blocks bytes) reply name j (inr s) at stays = idle name j reply (Blocks bytes) new refl (ap (λ (x : PlainDesk). job_at x.jobs name) s.leaves.1 ∙ at)
 one_kept d new (Pending hex) reply name j (inl s) at stays = idle name j reply (Pending hex) new refl (ap (λ (x : PlainDesk). job_at x.jobs name) s.next_is ∙ at)
-one_kept d new (Pending hex) reply name j (inr s) at stays = idle name j reply (Pending hex) new refl (ap (λ (x : PlainDesk). job_at x.jobs name) s.1 ∙ at)
+one_kept d new (Pending hex) reply name j (inr s) at stays = idle name j reply (Pending hex) new refl (ap (λ (x : PlainDesk). job_at x.jobs name) s.leaves ∙ at)
 
 pub alone_through : (d new : PlainDesk) (said : List Said) (name : List ℕ) (j : Job) → Runs d said new → job_at d.jobs name ≡ Some j → KeepOpen name said → (k : Job) × (job_at new.jobs name ≡ Some k) × Alone j (turns_of name said) k
 alone_through d new [] name j runs at keep = (j, ap (λ (x : PlainDesk). job_at x.jobs name) runs ∙ at, refl)

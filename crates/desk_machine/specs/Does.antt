@@ -1,10 +1,11 @@
 -- What a call on a desk does: a step of the machine, or, where it ran out of memory, a part of one.
-use Rattle.std.specs.Prelude.{ℕ, ◌≡◌, ◌⊎◌, List, Option, Some, None, take}
+use Rattle.std.specs.Prelude.{ℕ, ◌≡◌, ◌<◌, ◌%◌, ◌⊎◌, false, List, Option, Some, None, length, take}
+use Rattle.fund_plan.specs.Selection.{PlainFunded}
 use Rattle.fund_plan.specs.State.{IsCutShort}
 use Rattle.desk_machine.specs.Commands.{Command, Open, Turn, Commit, Close, Release, Blocks, Pending}
-use Rattle.desk_machine.specs.Machine.{Step, add_blocks, records_at, step_of, with_jobs}
+use Rattle.desk_machine.specs.Machine.{Step, add_blocks, funded_of, records_at, step_of, with_jobs}
 use Rattle.desk_machine.specs.Replies.{Reply, NoMemory}
-use Rattle.desk_machine.specs.State.{Job, PlainDesk, job_at, put_job}
+use Rattle.desk_machine.specs.State.{Job, PlainDesk, has_job, job_at, put_job}
 
 -- the machine's reply, and its next state
 pub record IsStep (s : Step) (reply : Reply) (new : PlainDesk) : Type 0 where
@@ -33,6 +34,24 @@ Leaves d (Release txid) new = new ≡ d
 Leaves d (Blocks bytes) new = (n : ℕ) × (new ≡ record { held = (add_blocks d.held (take n (records_at d.held bytes).blocks) None).held; committed = d.committed; jobs = d.jobs })
 Leaves d (Pending hex) new = new ≡ d
 
+-- Which commands take memory, and where: an open of a name that no open job has, where fewer than 64 are open; a turn of a job
+-- that is open; a commit of a job whose last turn came to a payment; blocks; and a transaction whose hex digits are of an even
+-- number. Closing a job and releasing a payment take none.
+abbrev pub TakesMemory : PlainDesk → Command → Type 0
+TakesMemory d (Open name request) = (has_job d.jobs name ≡ false) × (length d.jobs < 64)
+TakesMemory d (Turn name n) = (j : Job) × (job_at d.jobs name ≡ Some j)
+TakesMemory d (Commit name) = (j : Job) × (f : PlainFunded) × (job_at d.jobs name ≡ Some j) × (funded_of j.answer ≡ Some f)
+TakesMemory d (Close name) = ⊥
+TakesMemory d (Release txid) = ⊥
+TakesMemory d (Blocks bytes) = Unit {0}
+TakesMemory d (Pending hex) = (length hex % 2 ≡ 1) → ⊥
+
+-- a call that ran out of memory
+pub record IsShort (d : PlainDesk) (c : Command) (reply : Reply) (new : PlainDesk) : Type 0 where
+  pub reply_is : reply ≡ NoMemory
+  pub takes : TakesMemory d c
+  pub leaves : Leaves d c new
+
 -- what a call does
 abbrev pub Does : PlainDesk → Command → Reply → PlainDesk → Type 0
-Does d c reply new = IsStep (step_of d c) reply new ⊎ ((reply ≡ NoMemory) × Leaves d c new)
+Does d c reply new = IsStep (step_of d c) reply new ⊎ IsShort d c reply new

@@ -1,13 +1,14 @@
 -- What a call did is a step of the machine.
-use Rattle.std.specs.Prelude.{ℕ, ◌≡◌, List, None, Result, Ok, Err, IfOk, OnOk, OnErr, MatchResult, take}
+use Rattle.std.specs.Prelude.{ℕ, ◌≡◌, false, List, None, Result, Ok, Err, IfOk, OnOk, OnErr, MatchResult, length, nat_le, take}
 use Rattle.std.proofs.Common.{sym, ap, ◌∙◌, subst}
+use Rattle.std.proofs.lemmas.Bool.{leb-false}
 use Rattle.fund_base.specs.declared.memory.Memory.{Memory}
 use Rattle.fund_files.specs.declared.held.Held.{Held}
-use Rattle.desk_machine.specs.Commands.{Blocks, Commit}
-use Rattle.desk_machine.specs.Does.{Leaves}
+use Rattle.desk_machine.specs.Commands.{Blocks, Commit, Open}
+use Rattle.desk_machine.specs.Does.{Leaves, TakesMemory}
 use Rattle.desk_machine.specs.Machine.{Step, add_blocks, add_records, blocks_step, records_at}
 use Rattle.desk_machine.specs.Replies.{Committed, NoMemory, plain_reply}
-use Rattle.desk_machine.specs.State.{PlainDesk}
+use Rattle.desk_machine.specs.State.{PlainDesk, has_job}
 use Rattle.desk_machine.specs.declared.reply.Reply as given
 use Rattle.desk_machine.specs.declared.reply.Reply.TheVariants as givens
 
@@ -25,6 +26,10 @@ told_commit P (Err m) reply txid psbt is told e = let same : NoMemory ≡ Commit
 
 pub commit_name : (a b : List ℕ) → Commit a ≡ Commit b → a ≡ b
 commit_name a b e = cc
+
+-- an open takes memory behind the tests of the name and of the number of jobs
+pub takes_to_open : (old d : PlainDesk) (name request : List ℕ) → d ≡ old → has_job d.jobs name ≡ false → nat_le 64 (length d.jobs) ≡ false → TakesMemory old (Open name request)
+takes_to_open old d name request same none few = subst (λ (x : PlainDesk). TakesMemory x (Open name request)) same (none, leb-false 64 (length d.jobs) few)
 
 -- ---- blocks
 

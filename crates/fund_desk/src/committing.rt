@@ -1,8 +1,9 @@
 //! The payment of a job, as it is committed.
 
-ghost use Rattle.std.specs.Prelude.{◌≡◌, IfOk, MatchResult, Some};
+ghost use Rattle.std.specs.Prelude.{◌≡◌, IfOk, MatchResult, OnErr, Some};
 ghost use Rattle.fund_files.specs.Chain.{IsHeld};
 ghost use Rattle.fund_plan.specs.Answer.{IsSelection};
+ghost use Rattle.fund_plan.specs.Selection.{PlainFunded};
 ghost use Rattle.fund_desk.specs.Given.{IsGiven, IsNotGiven, IsWrittenOut};
 ghost use Rattle.desk_machine.specs.Machine.{funded_of};
 ghost use Rattle.desk_machine.specs.Replies.{plain_reply};
@@ -87,7 +88,8 @@ pub fn give_out(
 ) -> Result<Result<Given, Reply>, Memory>
     requires held { IsHeld held.now }
     requires job { IsJob held.now.wallet.change job.now }
-    ensures { IfOk result (λ r. MatchResult r (IsGiven held.now committed.now job.now) (λ reply. IsNotGiven held.now committed.now job.now (plain_reply reply))) }
+    ensures given { IfOk result (λ r. MatchResult r (IsGiven held.now committed.now job.now) (λ reply. IsNotGiven held.now committed.now job.now (plain_reply reply))) }
+    ensures funded { OnErr result ((f : PlainFunded) × (funded_of job.now.answer ≡ Some f)) }
 {
     match job.funded() {
         Some(funded) => give_funded(alloc, held, committed, job, funded),

@@ -2,9 +2,9 @@
 
 ghost use Rattle.std.specs.Prelude.{ℕ, ◌≡◌, ◌≤◌, List, IfOk, MatchResult, OnErr, OnOk, length};
 ghost use Rattle.fund_files.specs.Chain.{IsHeld};
-ghost use Rattle.desk_machine.specs.Commands.{IsCommand, Turn, Commit, Blocks, plain_command};
+ghost use Rattle.desk_machine.specs.Commands.{IsCommand, Open, Turn, Commit, Blocks, Pending, plain_command};
 ghost use Rattle.desk_machine.specs.Commits.{IsCommit};
-ghost use Rattle.desk_machine.specs.Does.{Does, Leaves};
+ghost use Rattle.desk_machine.specs.Does.{Does, Leaves, TakesMemory};
 ghost use Rattle.desk_machine.specs.Machine.{blocks_step, close_step, commit_step, open_step, pending_step, release_step, turn_step};
 ghost use Rattle.desk_machine.specs.Replies as replies;
 ghost use Rattle.desk_machine.specs.Replies.{IsOfBytes, plain_reply};
@@ -101,6 +101,7 @@ impl Desk {
         ensures reply { IfOk result (λ r. plain_reply r ≡ (open_step self.old name.now request.now).reply) }
         ensures next { OnOk result (self.new ≡ (open_step self.old name.now request.now).next) }
         ensures memory { OnErr result (self.new ≡ self.old) }
+        ensures takes { OnErr result (TakesMemory self.old (Open name.now request.now)) }
     {
         if has_job(&self.jobs, name) {
             return Ok(Reply::TakenName);
@@ -124,13 +125,15 @@ impl Desk {
         ensures reply { IfOk result (λ r. plain_reply r ≡ (turn_step self.old name.now tries).reply) }
         ensures next { OnOk result (self.new ≡ (turn_step self.old name.now tries).next) }
         ensures memory { OnErr result (Leaves self.old (Turn name.now tries) self.new) }
+        ensures takes { OnErr result (TakesMemory self.old (Turn name.now tries)) }
     {
         turn(&mut self.jobs, name, tries)
     }
 
     /// The payment of the job of this name as it is given out, or the reply where none is. The error is out of memory.
     fn given_for(&self, name: &str) -> Result<Result<Given, Reply>, Memory>
-        ensures { IfOk result (λ r. MatchResult r (IsDue self.now name.now) (λ reply. IsNotDue self.now name.now (plain_reply reply))) }
+        ensures given { IfOk result (λ r. MatchResult r (IsDue self.now name.now) (λ reply. IsNotDue self.now name.now (plain_reply reply))) }
+        ensures takes { OnErr result (TakesMemory self.now (Commit name.now)) }
     {
         match job_in(&self.jobs, name) {
             Some(job) => give_out(self.alloc, &self.held, &self.committed, job),
@@ -145,6 +148,7 @@ impl Desk {
         ensures next { OnOk result (self.new ≡ (commit_step self.old name.now).next) }
         ensures commits { (txid psbt : List ℕ) → IfOk result (λ r. plain_reply r ≡ replies.Committed txid psbt → IsCommit self.old name.now txid psbt self.new) }
         ensures memory { OnErr result (self.new ≡ self.old) }
+        ensures takes { OnErr result (TakesMemory self.old (Commit name.now)) }
     {
         self.committed.push(given.payment)?;
         close(&mut self.jobs, name);
@@ -157,6 +161,7 @@ impl Desk {
         ensures next { OnOk result (self.new ≡ (commit_step self.old name.now).next) }
         ensures commits { (txid psbt : List ℕ) → IfOk result (λ r. plain_reply r ≡ replies.Committed txid psbt → IsCommit self.old name.now txid psbt self.new) }
         ensures memory { OnErr result (self.new ≡ self.old) }
+        ensures takes { OnErr result (TakesMemory self.old (Commit name.now)) }
     {
         match self.given_for(name)? {
             Ok(given) => self.remember(name, given),
@@ -206,6 +211,7 @@ impl Desk {
         ensures reply { IfOk result (λ r. plain_reply r ≡ (pending_step self.old digits.now).reply) }
         ensures next { OnOk result (self.new ≡ (pending_step self.old digits.now).next) }
         ensures memory { OnErr result (self.new ≡ self.old) }
+        ensures takes { OnErr result (TakesMemory self.old (Pending digits.now)) }
     {
         add_hex(self.alloc, &mut self.held, digits)
     }
@@ -213,7 +219,8 @@ impl Desk {
     /// Does a command, and replies to it: the first reply of its kind that applies, in the order in which [`Reply`] has
     /// them. Both the reply and the desk behind it are the machine's; each command has one of either. After
     /// [`Reply::Memory`] the desk is as before, but that the job of a turn stands where some of its tries lead, its last
-    /// answer staying, and that some of the blocks are added.
+    /// answer staying, and that some of the blocks are added. That reply comes only where memory is taken: never to a close or
+    /// a release, and never in place of a reply for which none is taken.
     pub fn command(&mut self, command: &Command) -> Reply
         requires { IsCommand (plain_command command.now) }
         ensures does { Does self.old (plain_command command.now) (plain_reply result) self.new }

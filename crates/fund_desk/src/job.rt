@@ -7,7 +7,7 @@ ghost use Rattle.desk_machine.specs.Does.{IsLagging, LeavesJobs};
 ghost use Rattle.desk_machine.specs.Machine.{funded_of, jobs_in, reply_in};
 ghost use Rattle.desk_machine.specs.Replies.{plain_reply};
 ghost use Rattle.desk_machine.specs.Rules.{IsAnswered, IsJob};
-ghost use Rattle.desk_machine.specs.State.{has_job, is_named, job_at, new_job, without_job};
+ghost use Rattle.desk_machine.specs.State.{Job, has_job, is_named, job_at, new_job, without_job};
 ghost use Rattle.desk_machine.specs.Turns.{by_outcome, is_unfinished, turn_reply, turned};
 
 use desk_machine::Reply;
@@ -191,6 +191,7 @@ pub fn turn(jobs: &mut Vec<OpenJob>, name: &str, tries: u64) -> Result<Reply, Me
     ensures reply { IfOk result (λ r. plain_reply r ≡ reply_in tries (job_at jobs.old.items name.now)) }
     ensures next { OnOk result (jobs.new.items ≡ jobs_in jobs.old.items name.now tries (job_at jobs.old.items name.now)) }
     ensures memory { OnErr result (LeavesJobs jobs.old.items name.now tries (job_at jobs.old.items name.now) jobs.new.items) }
+    ensures open { OnErr result ((j : Job) × (job_at jobs.old.items name.now ≡ Some j)) }
     ensures each { (change : Watch) → All (IsJob change) jobs.old.items → All (IsJob change) jobs.new.items }
 {
     match place_of(jobs, name) {

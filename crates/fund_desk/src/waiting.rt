@@ -1,10 +1,10 @@
 //! A pending transaction of a command, read and added.
 
-ghost use Rattle.std.specs.Prelude.{◌≡◌, IfOk, Ok, OnErr, OnOk};
+ghost use Rattle.std.specs.Prelude.{◌≡◌, ◌≢◌, ◌%◌, IfOk, Ok, OnErr, OnOk, length};
 ghost use Rattle.fund_files.specs.Chain.{IsHeld};
 ghost use Rattle.tx_codec.specs.TransactionText.{IsTransaction};
 ghost use Rattle.desk_machine.specs.Machine.{add_pending, pending_by_tx, whole_tx};
-ghost use Rattle.desk_machine.specs.Replies.{plain_reply};
+ghost use Rattle.desk_machine.specs.Replies.{BadHex, BadTx, Refused, plain_reply};
 
 use crate::chain::{add_pending, is_later, is_repeat};
 use crate::records::refuse_book;
@@ -38,6 +38,28 @@ fn add_tx(held: &mut Held, tx: Tx) -> Result<Reply, Memory>
     }
 }
 
+/// The reply to bytes that are no transaction. The error is out of memory.
+fn refuse_tx(fault: TxFault) -> Result<Reply, Memory>
+    ensures reply { IfOk result (λ r. (fault ≢ TxFault.Memory) × (plain_reply r ≡ Refused (BadTx fault))) }
+    ensures memory { OnErr result (fault ≡ TxFault.Memory) }
+{
+    match fault {
+        TxFault::Memory => Err(Memory),
+        fault => Ok(Reply::Refused(Refusal::Tx(fault))),
+    }
+}
+
+/// The reply to what isn't an even number of hex digits. The error is out of memory.
+fn refuse_hex(error: FromHexError) -> Result<Reply, Memory>
+    ensures reply { IfOk result (λ r. (error ≢ FromHexError.OutOfMemory) × (plain_reply r ≡ Refused BadHex)) }
+    ensures memory { OnErr result (error ≡ FromHexError.OutOfMemory) }
+{
+    match error {
+        FromHexError::OutOfMemory => Err(Memory),
+        _ => Ok(Reply::Refused(Refusal::Kind)),
+    }
+}
+
 /// Adds the transaction of these bytes, all of them.
 fn add_bytes(alloc: Global, held: &mut Held, bytes: &[u8]) -> Result<Reply, Memory>
     requires { IsHeld held.old }
@@ -49,8 +71,7 @@ fn add_bytes(alloc: Global, held: &mut Held, bytes: &[u8]) -> Result<Reply, Memo
 {
     match read_whole_tx(alloc, bytes) {
         Ok(tx) => add_tx(held, tx),
-        Err(TxFault::Memory) => Err(Memory),
-        Err(fault) => Ok(Reply::Refused(Refusal::Tx(fault))),
+        Err(fault) => refuse_tx(fault),
     }
 }
 
@@ -65,10 +86,10 @@ pub fn add_hex(alloc: Global, held: &mut Held, digits: &[u8]) -> Result<Reply, M
     ensures held { IsHeld held.new }
     ensures change { held.new.wallet.change ≡ held.old.wallet.change }
     ensures memory { OnErr result (held.new ≡ held.old) }
+    ensures even { OnErr result ((length digits.now % 2 ≡ 1) → ⊥) }
 {
     match hex::decode(alloc, digits) {
         Ok(bytes) => add_bytes(alloc, held, &bytes),
-        Err(FromHexError::OutOfMemory) => Err(Memory),
-        Err(_) => Ok(Reply::Refused(Refusal::Kind)),
+        Err(error) => refuse_hex(error),
     }
 }

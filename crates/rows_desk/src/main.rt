@@ -2,17 +2,17 @@
 //! printed. What it must print was worked out apart from this program.
 //!
 //! `case NAME` begins anew, without files. `file NAME HEX` makes a file, and `more NAME COUNT HEX` puts these bytes behind it
-//! COUNT times. `desk` does what the script says. `sum` does that too, and prints how many lines came of it, and the SHA-256
-//! of all that was printed.
+//! COUNT times. `desk` does what the script says; numbers behind it are those of the replies, from 0, at which the output
+//! fails. `sum` does that too, and prints how many lines came of it, and the SHA-256 of all that was printed.
 #![tactic(auto)]
 
 use command_desk::desk;
 use command_end::{Sources, Status};
-use fund_base::{MemShelf, Shelf, StdSink, SureSink, put_all};
+use fund_base::{MemShelf, MemSink, Memory, Shelf, Sink, StdSink, SureSink, put_all};
 use sha2::{Digest, Sha256};
 use std::alloc::Global;
 use std::io;
-use std::io::{BufRead, BufReader};
+use std::io::{BufRead, BufReader, ErrorKind};
 
 /// The name of a case, and its files.
 #[derive(Drop)]
@@ -51,8 +51,17 @@ fn lengthen(
     Ok(())
 }
 
+/// The numbers of these words. What is no number stands for that of a put that never comes.
+fn numbers(alloc: Global, words: &[&str]) -> Result<Vec<u64>, Memory> {
+    let mut numbers = Vec::new(alloc);
+    for word in words {
+        numbers.push(word.parse().unwrap_or(u64::MAX))?;
+    }
+    Ok(numbers)
+}
+
 /// Does the script of a case.
-fn done(alloc: Global, case: &mut Case, sink: &mut SureSink) -> Status {
+fn done<O: Sink>(alloc: Global, case: &mut Case, sink: &mut O) -> Status {
     let sources = Sources {
         wallet: "wallet.json",
         blocks: "blocks.dat",
@@ -60,9 +69,9 @@ fn done(alloc: Global, case: &mut Case, sink: &mut SureSink) -> Status {
     desk(alloc, &sources, "script", &mut case.shelf, sink)
 }
 
-/// Prints how the script of a case ended, and all that it printed.
-fn show(rt: &HostRuntime, case: &mut Case) -> io::Result<()> {
-    let mut sink = SureSink::new(rt.alloc());
+/// Prints how the script of a case ended, and all that it printed, where these puts fail.
+fn show(rt: &HostRuntime, case: &mut Case, puts: Vec<u64>) -> io::Result<()> {
+    let mut sink = MemSink::new(rt.alloc(), puts);
     let status = done(rt.alloc(), case, &mut sink);
     println!(rt; "{}: status {}", case.name, status.code())?;
     let mut out = StdSink::new(rt);
@@ -102,7 +111,10 @@ fn line(rt: &HostRuntime, case: &mut Case, words: &[&str]) -> io::Result<()> {
         ["more", name, count, digits] => {
             lengthen(alloc, case, name, count, &bytes(alloc, digits))
         }
-        ["desk"] => show(rt, case),
+        ["desk", puts @ ..] => match numbers(alloc, puts) {
+            Ok(puts) => show(rt, case, puts),
+            Err(Memory) => Err(io::Error::from(ErrorKind::OutOfMemory)),
+        },
         ["sum"] => sum(rt, case),
         _ => println!(rt; "no such line"),
     }

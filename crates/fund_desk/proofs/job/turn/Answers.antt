@@ -9,7 +9,7 @@ use Rattle.desk_machine.specs.Rules.{IsJob}
 use Rattle.desk_machine.specs.State.{Job, is_named, put_job}
 use Rattle.fund_desk.proofs.CommitLaws.{job_stands}
 use Rattle.fund_desk.proofs.DeskLaws.{put_each}
-use Rattle.fund_desk.proofs.JobLaws.{job_still, on_err, on_ok}
+use Rattle.fund_desk.proofs.JobLaws.{job_still, on_any_err, on_err, on_ok}
 use Rattle.fund_desk.proofs.job.turn.Goals as goal
 
 pub returns-in-Some-clause-reply : goal.returns-in-Some-clause-reply
@@ -37,6 +37,13 @@ returns-in-Some-clause-memory c =
     let at = at_place name jobs c.in-Some.place c.index_mut-job.result.now e c.index_mut-job.ensures.value in
     on_err c.turn.result _ _
     (λ lag. subst (λ (o : Option Job). LeavesJobs jobs name c.args.tries o (set jobs c.in-Some.place c.turn.new.self)) (sym at) (c.turn.new.self, lag, sym (put_place name c.turn.new.self jobs c.in-Some.place e))) c.turn.ensures.memory
+
+pub returns-in-Some-clause-open : goal.returns-in-Some-clause-open
+returns-in-Some-clause-open c =
+    let jobs = c.args.jobs.now.items in
+    let name = c.args.name.now in
+    let e : position (is_named name) jobs ≡ Some c.in-Some.place = sym (c.in-Some.ensures ∙ ap (λ (js : List Job). position (is_named name) js) c.deref.ensures.value) in
+    on_any_err c.turn.result _ (c.index_mut-job.result.now, at_place name jobs c.in-Some.place c.index_mut-job.result.now e c.index_mut-job.ensures.value)
 
 pub returns-in-Some-clause-each : goal.returns-in-Some-clause-each
 returns-in-Some-clause-each c = λ change each.

@@ -5,6 +5,7 @@ use Rattle.desk_machine.specs.Rules.{IsDesk}
 use Rattle.desk_machine.specs.State.{PlainDesk}
 use Rattle.fund_desk.specs.Due.{IsDue}
 use Rattle.fund_desk.proofs.CommitLaws.{commit_due, desk_due, due_done, given_desk, remembered}
+use Rattle.fund_desk.proofs.JobLaws.{on_any_err}
 use Rattle.fund_desk.proofs.StepLaws.{next_at, reply_at}
 use Rattle.fund_desk.proofs.desk.Desk.remember.Goals as goal
 
@@ -40,3 +41,6 @@ returns-clause-commits c = λ txid psbt e.
     let due = subst (λ (x : PlainDesk). IsDue x name g) (sym c.self.view_is) c.requires in
     subst (λ (x : PlainDesk). IsCommit c.args.self.now name txid psbt x) (sym (remembered d name g.payment _ _ c.in_ok-push.ensures.items c.close.ensures))
     (subst (λ (x : PlainDesk). IsCommit x name txid psbt (given_desk d name g.payment)) c.self.view_is (commit_due d name g c.self.invariant due txid psbt e))
+
+pub returns-in_err-push-clause-takes : goal.returns-in_err-push-clause-takes
+returns-in_err-push-clause-takes c = on_any_err c.from_residual.result _ (c.requires.job, c.requires.given.funded, c.requires.stands, c.requires.given.answers)
