@@ -1,6 +1,8 @@
 -- Which files are asked for, and which reads are told.
-use Rattle.std.proofs.Common.{◌≡◌, ◌≢◌, ℕ, List, inl, inr}
+use Rattle.std.proofs.Common.{◌≡◌, ℕ, List, inl, inr, refl}
 use Rattle.fund_base.specs.Causes.{ShelfView, SinkView}
+use Rattle.fund_files.specs.declared.refusal.File.{File}
+use Rattle.fund_files.specs.declared.stop.Stop.{Stop as ChainStop}
 use Rattle.fund_files.specs.declared.stop.Stop.TheVariants as chains
 use Rattle.command_coins.proofs.AskingLaws.{stopped_asks}
 use Rattle.command_end.specs.Names.{Sources}
@@ -12,25 +14,18 @@ use Rattle.command_complete.specs.Words.{IsStopped}
 use Rattle.command_complete.specs.declared.stop.Stop.{Stop}
 use Rattle.command_complete.specs.declared.stop.Stop.TheVariants as stops
 
--- a read that failed is answered as such, or for want of memory
-pub told_read : (told : Type 0) (s : Sources) (name : List ℕ) (stop : Stop) (sink sink' : SinkView) (result : Status) → IsStopped told s name stop sink sink' result → result ≢ statuses.ReadFault → result ≢ statuses.Memory → TellsRead stop → ⊥
-told_read told s name (stops.Chain (chains.Read file)) sink sink' result (inl a) read memory t = read a.0
-told_read told s name (stops.Chain (chains.Read file)) sink sink' result (inr w) read memory t = memory w.0
-told_read told s name (stops.Chain (chains.Refused refusal)) sink sink' result h read memory t = t
-told_read told s name (stops.Chain chains.Memory) sink sink' result h read memory t = t
-told_read told s name stops.Read sink sink' result (inl a) read memory t = read a.0
-told_read told s name stops.Read sink sink' result (inr w) read memory t = memory w.0
-told_read told s name stops.TooLong sink sink' result h read memory t = t
-told_read told s name (stops.Refused refusal) sink sink' result h read memory t = t
-told_read told s name stops.Memory sink sink' result h read memory t = t
+-- a stop of the chain that tells of a read that failed is that
+pub chain_tells : (stop : ChainStop) (P : Type 0) → ((file : File) → stop ≡ chains.Read file → P) → TellsRead (stops.Chain stop) → P
+chain_tells (chains.Read file) P h tells = h file refl
+chain_tells (chains.Refused refusal) P h tells = absurd tells
+chain_tells chains.Memory P h tells = absurd tells
 
 -- what was asked for up to a file that wasn't read
 pub stop_asks : (told_files told : Type 0) (s : Sources) (name : List ℕ) (stop : Stop) (shelf shelf' : ShelfView) (sink sink' : SinkView) (result : Status) → StopsFor told_files s name shelf shelf' stop → IsStopped told s name stop sink sink' result
     → AsksUpTo s name shelf shelf' stop → result ≡ statuses.ReadFault → AsksToUnread s name shelf shelf'
 stop_asks told_files told s name (stops.Chain stop) shelf shelf' sink sink' result h line a is = inl (stopped_asks told_files told s stop shelf shelf' sink sink' result h line a.0 a.1 is)
 stop_asks told_files told s name stops.Read shelf shelf' sink sink' result h line a is = inr (h.0, a)
-stop_asks told_files told s name stops.TooLong shelf shelf' sink sink' result h (inl e) a is = absurd (cc (e.0, is))
-stop_asks told_files told s name stops.TooLong shelf shelf' sink sink' result h (inr e) a is = absurd (cc (e.0, is))
+stop_asks told_files told s name stops.TooLong shelf shelf' sink sink' result h e a is = absurd (cc (e.0, is))
 stop_asks told_files told s name (stops.Refused refusal) shelf shelf' sink sink' result h (inl e) a is = absurd (cc (e.0, is))
 stop_asks told_files told s name (stops.Refused refusal) shelf shelf' sink sink' result h (inr e) a is = absurd (cc (e.0, is))
 stop_asks told_files told s name stops.Memory shelf shelf' sink sink' result h e a is = absurd (cc (e.0, is))

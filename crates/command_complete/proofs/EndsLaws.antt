@@ -69,8 +69,7 @@ module _ (told_files told : Type 0) (s : Sources) (name : List ℕ) (shelf shelf
   stop_ends (stops.Chain stop) result h a = chain_ends stop result h a
   stop_ends stops.Read result h (inl a) = subst EndsAs (sym a.0) (inr (h.0, h.1, a.1))
   stop_ends stops.Read result h (inr w) = wanting_ends result w
-  stop_ends stops.TooLong result h (inl a) = subst EndsAs (sym a.0) (inr (h, a.1))
-  stop_ends stops.TooLong result h (inr w) = wanting_ends result w
+  stop_ends stops.TooLong result h a = subst EndsAs (sym a.0) (inr (h, a.1))
   stop_ends (stops.Refused refusal) result h (inl a) = subst EndsAs (sym a.0) (inr (refusal, h, a.1))
   stop_ends (stops.Refused refusal) result h (inr w) = wanting_ends result w
   stop_ends stops.Memory result h w = wanting_ends result w

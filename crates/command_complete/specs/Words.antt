@@ -1,5 +1,5 @@
 -- How a PSBT that isn't made whole is answered.
-use Rattle.std.specs.Prelude.{ℕ, List, ◌∷◌, ◌++◌, codes}
+use Rattle.std.specs.Prelude.{ℕ, ◌≡◌, List, ◌∷◌, ◌++◌, codes}
 use Rattle.std.specs.Fmt.{decimal}
 use Rattle.fault_text.specs.Coin.{coin_text}
 use Rattle.fault_text.specs.Words.{psbt_fault_words}
@@ -8,6 +8,7 @@ use Rattle.psbt_complete.specs.declared.fault.CompleteFault.{CompleteFault}
 use Rattle.psbt_complete.specs.declared.fault.CompleteFault.TheVariants.{Missing, OtherOutput, Memory}
 use Rattle.command_coins.specs.Answer as chains
 use Rattle.command_end.specs.AnswerLines.{IsAnswered, IsWanting}
+use Rattle.command_end.specs.Lines.{GotLine, fault_line}
 use Rattle.command_end.specs.Names.{Sources}
 use Rattle.command_end.specs.declared.status.Status.{Status}
 use Rattle.command_end.specs.declared.status.Status.TheVariants as statuses
@@ -32,6 +33,6 @@ refusal_words (refusals.Input fault) = codes "input psbt " ++ input_fault_words 
 abbrev pub IsStopped : Type 0 → Sources → (name : List ℕ) → Stop → SinkView → SinkView → Status → Type 0
 IsStopped told s name (stops.Chain stop) old new result = chains.IsStopped told s stop old new result
 IsStopped told s name stops.Read old new result = IsAnswered told (codes "read " ++ name) statuses.ReadFault old new result
-IsStopped told s name stops.TooLong old new result = IsAnswered told (codes "limit psbt") statuses.Limit old new result
+IsStopped told s name stops.TooLong old new result = (result ≡ statuses.Limit) × (told → GotLine (fault_line (codes "limit psbt")) old new)
 IsStopped told s name (stops.Refused refusal) old new result = IsAnswered told (refusal_words refusal) statuses.Input old new result
 IsStopped told s name stops.Memory old new result = IsWanting told old new result

@@ -27,7 +27,7 @@ fn printed<H: Shelf, O: Sink>(
     ensures ends { Ends H.tells O.tells (plain_sources sources.now) psbt.now (H.view shelf.old) (H.view shelf.new) (O.view out.old) (O.view out.new) result }
     ensures frame { OnlyReads H.tells (H.view shelf.old) (H.view shelf.new) }
     ensures counts { CountsNeverFall (O.view out.old) (O.view out.new) }
-    ensures unfailed { result ≢ Status.ReadFault → result ≢ Status.Memory → (H.view shelf.new).reads ≡ (H.view shelf.old).reads }
+    ensures all_read { result ≢ Status.ReadFault → (H.view shelf.new).reads ≡ (H.view shelf.old).reads }
     ensures asked { H.tells → AsksInOrder (plain_sources sources.now) psbt.now (H.view shelf.old) (H.view shelf.new) }
     ensures unread_last { H.tells → result ≡ Status.ReadFault → AsksToUnread (plain_sources sources.now) psbt.now (H.view shelf.old) (H.view shelf.new) }
     ensures refused_alone { H.tells → (cause : FileCause) → IsWalletCause ((H.view shelf.old).files sources.now.wallet.now) cause → Asks (sources.now.wallet.now ∷ []) (H.view shelf.old).asked (H.view shelf.new).asked }
@@ -61,9 +61,9 @@ pub fn complete<H: Shelf, O: Sink>(
     // Where no count rose, the status is that of what the files come to, or want of memory.
     ensures complete { H.tells → NoneFailed (plain_sources sources.now) psbt.now (H.view shelf.old) (H.view shelf.new) (O.view out.old) (O.view out.new) → (o : Outcome) → ComesTo (H.view shelf.old).files (plain_sources sources.now) psbt.now o → (result ≡ status_of o) ⊎ (result ≡ Status.Memory) }
 
-    // Nothing is written; and a read that failed is told as such, or there was not enough memory to tell.
+    // Nothing is written; and a read that failed is told as that, and as nothing else.
     ensures frame { OnlyReads H.tells (H.view shelf.old) (H.view shelf.new) }
-    ensures unfailed { result ≢ Status.ReadFault → result ≢ Status.Memory → (H.view shelf.new).reads ≡ (H.view shelf.old).reads }
+    ensures all_read { result ≢ Status.ReadFault → (H.view shelf.new).reads ≡ (H.view shelf.old).reads }
     ensures counts { CountsNeverFall (O.view out.old) (O.view out.new) }
 
     // It asks for the wallet file, the block file and the PSBT file, in this order, and for no other name: for none after

@@ -10,8 +10,8 @@ pub returns-clause-complete : goal.returns-clause-complete
 returns-clause-complete g c = λ t none o due.
     ends_complete _ g.O.Sink.tells (plain_sources c.args.sources.now) c.args.psbt.now (g.H.Shelf.view c.args.shelf.now) (g.H.Shelf.view c.printed.new.shelf) (g.O.Sink.view c.args.out.now) (g.O.Sink.view c.printed.new.out) t o due none c.printed.result c.printed.ensures.ends
 
-pub returns-clause-unfailed : goal.returns-clause-unfailed
-returns-clause-unfailed g c = c.printed.ensures.unfailed
+pub returns-clause-all_read : goal.returns-clause-all_read
+returns-clause-all_read g c = c.printed.ensures.all_read
 
 pub returns-clause-unread_last : goal.returns-clause-unread_last
 returns-clause-unread_last g c = c.printed.ensures.unread_last

@@ -1,5 +1,5 @@
 use Rattle.command_coins.proofs.AskingLaws.{printed_read}
-use Rattle.command_complete.proofs.AskingLaws.{stop_asks, told_read}
+use Rattle.command_complete.proofs.AskingLaws.{stop_asks}
 use Rattle.command_complete.proofs.EndsLaws.{printed_ends, stop_ends}
 use Rattle.command_end.specs.Names.{plain_sources}
 use Rattle.command_complete.proofs.command.printed.Goals as goal
@@ -13,12 +13,11 @@ pub returns-in-Err-clause-ends : goal.returns-in-Err-clause-ends
 returns-in-Err-clause-ends g c =
     stop_ends _ _ (plain_sources c.args.sources.now) c.args.psbt.now (g.H.Shelf.view c.args.shelf.now) (g.H.Shelf.view c.completed.new.shelf) (g.O.Sink.view c.args.out.now) (g.O.Sink.view c.answer.new.out) c.in-Err.stop c.answer.result c.in-Err.ensures.stop c.answer.ensures.line
 
-pub returns-in-Ok-clause-unfailed : goal.returns-in-Ok-clause-unfailed
-returns-in-Ok-clause-unfailed g c = λ read memory. c.in-Ok.ensures.unfailed
+pub returns-in-Ok-clause-all_read : goal.returns-in-Ok-clause-all_read
+returns-in-Ok-clause-all_read g c = λ other. c.in-Ok.ensures.unfailed
 
-pub returns-in-Err-clause-unfailed : goal.returns-in-Err-clause-unfailed
-returns-in-Err-clause-unfailed g c = λ read memory.
-    c.in-Err.ensures.unfailed (told_read _ (plain_sources c.args.sources.now) c.args.psbt.now c.in-Err.stop (g.O.Sink.view c.args.out.now) (g.O.Sink.view c.answer.new.out) c.answer.result c.answer.ensures.line read memory)
+pub returns-in-Err-clause-all_read : goal.returns-in-Err-clause-all_read
+returns-in-Err-clause-all_read g c = λ other. c.in-Err.ensures.unfailed (λ tells. other (c.answer.ensures.read tells))
 
 pub returns-in-Ok-clause-unread_last : goal.returns-in-Ok-clause-unread_last
 returns-in-Ok-clause-unread_last g c = λ t is.
