@@ -1,28 +1,17 @@
 //! What a replacement is made from, by a wallet's text and a request's.
 
-ghost use Rattle.std.specs.Prelude.{◌<◌, IfOk, IsSome};
+ghost use Rattle.std.specs.Prelude.{◌<◌, IsSome};
 ghost use Rattle.payment_states.specs.BookOf.{IsBookOf};
 
 use crate::lines::{fault_text, terms_text};
-use coin_book::{Book, BookFault};
+use coin_book::Book;
 use fee_bump::{BumpTerms, bump_terms};
 use fund_base::Memory;
 use payment_states::{all_states, confirmed_without};
 use request_text::{Request, read_request};
+use row_books::book_of;
 use std::alloc::Global;
 use wallet_text::{Wallet, read_wallet};
-
-/// The book of a wallet without blocks.
-fn book_of(alloc: Global, wallet: &Wallet) -> Result<Book, BookFault>
-    ensures { IfOk result (λ b. IsBookOf wallet.now b) }
-{
-    let mut book = Book::new(alloc, wallet)?;
-    for place in 0..wallet.pending.len() {
-        let tx = &wallet.pending[place];
-        book.add_pending(tx)?;
-    }
-    Ok(book)
-}
 
 /// The terms in lines.
 fn told(

@@ -5,12 +5,10 @@
 //! must print was worked out apart from this program.
 #![tactic(auto)]
 
-mod escape;
-
 use command_complete::complete;
 use command_end::Sources;
-use escape::unescaped;
 use fund_base::{MemShelf, MemSink, Memory, StdSink, put_all};
+use row_bytes::unescaped;
 use std::alloc::Global;
 use std::io;
 use std::io::{BufRead, BufReader, ErrorKind};

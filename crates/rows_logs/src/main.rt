@@ -6,12 +6,11 @@
 #![tactic(auto)]
 
 mod calls;
-mod escape;
 mod shown;
 
 use closing_log::{LogText, LogTextFault, read_sections, write_sections, write_tail};
-use escape::{escaped, unescaped};
 use fund_base::Memory;
+use row_bytes::{escaped, unescaped};
 use shown::push_log;
 use std::alloc::Global;
 use std::io;

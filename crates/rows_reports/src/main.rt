@@ -7,13 +7,12 @@
 //! - `wide`: what is written of a run that stands at the stage `wide`, and below it what reading that comes to
 #![tactic(auto)]
 
-mod escape;
 mod shown;
 
 use closing_log::Stage;
-use escape::{escaped, unescaped};
 use fund_base::Memory;
 use fund_report::{Report, read_report, write_report};
+use row_bytes::{escaped, unescaped};
 use shown::{fault_text, report_text};
 use std::alloc::Global;
 use std::io;

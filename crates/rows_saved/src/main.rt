@@ -8,12 +8,11 @@
 //!   after so many tries, after these letters, JOB being the digest of the job now; or why it isn't resumed
 #![tactic(auto)]
 
-mod escape;
 mod resumed;
 mod shown;
 
-use escape::{escaped, unescaped};
 use fund_base::Memory;
+use row_bytes::{escaped, unescaped};
 use search_keep::{read_saved, write_saved};
 use shown::{fault_text, saved_text};
 use std::alloc::Global;

@@ -1,10 +1,10 @@
 //! Searches that go on from saved positions.
 
-use crate::escape::unescaped;
 use crate::shown::{best_text, fault_text};
 use fund_base::Memory;
 use hex::FromHex;
 use pick_problem::{Problem, Progress};
+use row_bytes::unescaped;
 use row_columns::{places_text, problem_in};
 use search_keep::{Walk, read_saved, resume};
 use std::alloc::Global;

@@ -1,4 +1,6 @@
-//! Bytes on one line.
+//! The bytes of columns of rows that stored runs read and print: `\n`, `\t` and `\\` are a line feed, a tab and a backslash,
+//! `\xHH` is the byte HH, and `-` alone is no byte.
+#![tactic(auto)]
 
 use fund_base::Memory;
 use std::alloc::Global;
@@ -13,8 +15,8 @@ fn byte_of(high: u8, low: u8) -> u8 {
     }
 }
 
-/// The bytes that the line stands for.
-pub(crate) fn unescaped(alloc: Global, line: &[u8]) -> Result<Vec<u8>, Memory> {
+/// The bytes that a column stands for. The error is out of memory.
+pub fn unescaped(alloc: Global, line: &[u8]) -> Result<Vec<u8>, Memory> {
     let mut bytes = Vec::new(alloc);
     let mut rest = match line {
         [b'-'] => &[],
@@ -35,8 +37,9 @@ pub(crate) fn unescaped(alloc: Global, line: &[u8]) -> Result<Vec<u8>, Memory> {
     Ok(bytes)
 }
 
-/// The line that stands for the bytes of a saved text, in which only line feeds have to be escaped.
-pub(crate) fn escaped(alloc: Global, bytes: &[u8]) -> Result<String, Memory> {
+/// The column that stands for the bytes of a text, in which only line feeds and backslashes have to be escaped. The error is
+/// out of memory.
+pub fn escaped(alloc: Global, bytes: &[u8]) -> Result<String, Memory> {
     let mut line = String::new(alloc);
     for byte in bytes {
         match *byte {

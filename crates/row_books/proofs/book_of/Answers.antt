@@ -8,7 +8,7 @@ use Rattle.block_feed.specs.Block.{ChainBlock}
 use Rattle.wallet_text.specs.PlainWallet.{PlainWallet}
 use Rattle.wallet_text.specs.WalletRules.{AreDistinct}
 use Rattle.coin_book.specs.History.{History, confirmed_before}
-use Rattle.rows_bump.proofs.terms.book_of.Goals as goal
+use Rattle.row_books.proofs.book_of.Goals as goal
 
 -- the next transaction isn't among those before it
 fresh : (ts : List Transaction) (i : ℕ) (t : Transaction) → AreDistinct ts → i < length ts → t ≡ get_or ts i t → All (λ s. txid_of s ≢ txid_of t) (take i ts)
