@@ -1,25 +1,34 @@
 """That docs/TROUBLES.md has the sentence of each fault as the program has it, and no other.
 
     python3 tests/troubles.py           compares; ends with 1 where they differ
-    python3 tests/troubles.py --write   makes that section of the page anew
+    python3 tests/troubles.py --write   makes these sections of the page anew
 
-The sentences stand once, in crates/fault_sentences/specs/Sentences.antt; its code is proved to give these."""
+The sentences stand in crates/fault_sentences/specs/Sentences.antt, and those of the words of `ninelace pay` in
+crates/pay_words/specs/Sentences.antt; the code is proved to give these. Where both have a fault, as an unknown method,
+its sentence is one."""
 import os
 import re
 import sys
 
 TOP = os.path.dirname(os.path.dirname(os.path.abspath(__file__)))
 SENTENCES = os.path.join(TOP, "crates/fault_sentences/specs/Sentences.antt")
+WORDS = os.path.join(TOP, "crates/pay_words/specs/Sentences.antt")
 PAGE = os.path.join(TOP, "docs/TROUBLES.md")
 HEADING = "## Each fault in a sentence"
-INTRO = "fault_sentences has each fault in one of these sentences. No program says them yet.\n"
+INTRO = "`ninelace` says the sentence of a fault behind its line, and `ninelace explain LINE` says that of any line.\n"
+WORDS_HEADING = "## Words of `pay`"
+WORDS_INTRO = "`ninelace pay` says the sentence behind the word or the flag that it is about.\n"
 
 # the words of a fault line before those of a fault, by the definition that has its sentence
 LINES = {
     "blocks_sentence": "input blocks ",
     "wallet_sentence": "input wallet ",
     "request_sentence": "input request ",
+    "bump_sentence": "input bump ",
+    "not_pending_sentence": "input bump NotPending ",
+    "state_sentence": "input bump NotPending ",
     "plan_sentence": "input plan ",
+    "psbt_sentence": "input psbt ",
     "tx_sentence": "input wallet Tx LIST INDEX ",
     "address_sentence": "input request Address INDEX ",
     "check_sentence": "check ",
@@ -32,18 +41,34 @@ LINES = {
 OTHERS = {
     "Usage": "usage", "Read": "read NAME", "Write": "write NAME", "Keep": "keep", "Memory": "memory",
     "WalletLimit": "limit wallet", "BlocksLimit": "limit blocks", "RequestLimit": "limit request",
-    "CoinsLimit": "limit coins", "ReportLimit": "limit report", "LogLimit": "limit log", "RepeatCoin": "input book RepeatCoin COIN", "BumpNotYet": "input bump NotYet",
+    "CoinsLimit": "limit coins", "ScriptLimit": "limit script", "PsbtLimit": "limit psbt", "ReportLimit": "limit report", "LogLimit": "limit log", "RepeatCoin": "input book RepeatCoin COIN",
     "plan_sentence TooMany": "limit groups",
     "kept_sentence Form": "saved SavedForm", "kept_sentence Spent": "limit tries",
     "kept_sentence LongLog": "limit log", "kept_sentence Part": "saved SavedFalse Part",
     "kept_sentence Section": "saved SavedFalse Section", "kept_sentence IllFormed": "saved SavedFalse IllFormed",
     "kept_sentence Log": "saved SavedFalse Log",
 }
+# the sentences that stand alone, with their line
+ALONE = {
+    "wallet_member_sentence": "input wallet Member NAME", "wallet_missing_sentence": "input wallet Missing NAME",
+    "wallet_repeat_sentence": "input wallet Repeat LIST INDEX", "request_missing_sentence": "input request Missing NAME",
+    "rate_range_sentence": "input request RateRange NAME", "missing_sentence": "input psbt Missing INPUT COIN",
+    "other_output_sentence": "input psbt OtherOutput INPUT COIN", "other_pairs_sentence": "input psbt OtherPairs",
+}
+# the same, of a report without a payment
+REPORTS = {"none_sentence": "none", "unfinished_sentence": "unfinished"}
+# what comes before the name of a fault of words, by the definition that has its sentence
+OF_WORDS = {"word_sentence": "", "amount_sentence": "Amount ", "rate_sentence": "Rate "}
+# the faults of words whose sentence stands in the other file too, with their line there
+SAME = {"Method": "fault input request Kind method", "Seed": "fault input request Kind seed", "Memory": "fault memory"}
 # of a field its place in the line, as the pages write it
 FIELDS = {"place": "PLACE", "output": "OUTPUT", "height": "HEIGHT", "name": "NAME", "index": "INDEX", "list": "LIST",
-          "fault": "FAULT", "coin": "COIN", "sum": "SUM", "number": "NUMBER", "kept": "KEPT", "found": "FOUND", "now": "NOW"}
+          "fault": "FAULT", "coin": "COIN", "sum": "SUM", "number": "NUMBER", "kept": "KEPT", "found": "FOUND", "now": "NOW", "txid": "TXID", "n": "COUNT", "fee": "FEE", "vsize": "VSIZE",
+          "version": "VERSION", "input": "INPUT"}
 CASE = re.compile(r'^(\w+) \(?\w+\.(\w+)((?: \w+)*)\)? = codes "([^"]*)"$')
+NONE = re.compile(r'^(\w+) None = codes "([^"]*)"$')
 KIND = re.compile(r'^ +if bytes_eq name \(codes "(\w+)"\) then codes "([^"]*)" else$')
+LONE = re.compile(r'^(\w+_sentence) = codes "([^"]*)"$')
 REST = re.compile(r'^ +codes "([^"]*)"$')
 HEAD = re.compile(r'^(\w+_(?:kind|member)_sentence) name =$')
 
@@ -62,38 +87,61 @@ def rows():
     found, function = [], None
     for line in open(SENTENCES, encoding="utf-8").read().split("\n"):
         case, kind, rest, head = CASE.match(line), KIND.match(line), REST.match(line), HEAD.match(line)
-        if case:
-            found.append((line_of(case[1], case[2], case[3]), case[4]))
+        none, lone = NONE.match(line), LONE.match(line)
+        if lone:
+            found.append((REPORTS.get(lone[1]) or "fault " + ALONE[lone[1]], lone[2]))
+        elif none:
+            found.append(("fault " + LINES[none[1]] + "None", none[2]))
+        elif case and (case[1], case[2]) == ("state_sentence", "Pending"):
+            pass  # no line says it: a payment that is Pending has another fault, or none
+        elif case:
+            found.append(("fault " + line_of(case[1], case[2], case[3]), case[4]))
         elif head:
             function = head[1]
         elif kind:
-            found.append((LINES[function] + kind[1], kind[2]))
+            found.append(("fault " + LINES[function] + kind[1], kind[2]))
         elif rest:
-            found.append((LINES[function] + "NAME", rest[1]))
+            found.append(("fault " + LINES[function] + "NAME", rest[1]))
     return found
 
 
+def word_rows():
+    """The faults of words and their sentences, in the order of the definitions."""
+    cases = [CASE.match(line) for line in open(WORDS, encoding="utf-8").read().split("\n")]
+    return [(OF_WORDS[case[1]] + case[2], case[4]) for case in cases if case]
+
+
 def section():
-    """The section of the page."""
+    """The sections of the page."""
     lines = [HEADING, "", INTRO, "| Line | Sentence |", "|---|---|"]
-    lines += ["| `fault %s` | %s |" % row for row in rows()]
+    lines += ["| `%s` | %s |" % row for row in rows()]
+    lines += ["", WORDS_HEADING, "", WORDS_INTRO, "| Fault | Sentence |", "|---|---|"]
+    lines += ["| `%s` | %s |" % row for row in word_rows()]
     return "\n".join(lines) + "\n"
+
+
+def apart():
+    """The faults of words whose sentence is another in the other file."""
+    told, words = dict(rows()), dict(word_rows())
+    return [name for name, line in SAME.items() if words[name] != told[line]]
 
 
 def main():
     page = open(PAGE, encoding="utf-8").read()
     begin = page.find(HEADING)
-    end = page.find("\n## ", begin + 1) + 1 if begin >= 0 else 0
+    end = page.find("## Taken without a word")
+    if apart():
+        print("pay_words says of %s otherwise than fault_sentences" % ", ".join(apart()))
+        return 1
     if sys.argv[1:] == ["--write"]:
-        if begin < 0:
-            begin = end = page.find("## Taken without a word")
+        begin = end if begin < 0 else begin
         page = page[:begin] + section() + "\n" + page[end:]
         open(PAGE, "w", encoding="utf-8").write(page)
         return 0
     if begin < 0 or page[begin:end].strip() != section().strip():
         print("docs/TROUBLES.md: the sentences of the faults aren't those of the program; run tests/troubles.py --write")
         return 1
-    print("%d sentences are the same" % len(rows()))
+    print("%d sentences are the same" % (len(rows()) + len(word_rows())))
     return 0
 
 

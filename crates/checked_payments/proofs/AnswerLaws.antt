@@ -114,7 +114,7 @@ short_paid p f found plan result whole =
     let source = found_in p found result in
     let number : source.row.number ≡ found.row = sym (ap (λ (x : PlainFound). x.row) source.is) in
     let payment : IsPayment p (funded_at p mark.Partial found) = (end_done p (ends.Partial found) plan result).payments in
-    paid_of p f (funded_at p mark.Partial found) (inr (source.row, (source.in_ladder, number))) payment whole
+    paid_of p f (funded_at p mark.Partial found) plan (inr (source.row, (source.in_ladder, number))) payment whole
 
 short_log : (p : PlainPlan) (n : ℕ) (found : PlainFound) → AreSteps (steps_of p) → Claims p n (funded_at p mark.Partial found) → AreShort (steps_of p) (log_at p n).closed
 short_log p n found are claims =

@@ -3,4 +3,5 @@ pub mod EndsLaws
 pub mod LineLaws
 pub mod MadeLaws
 pub mod OutcomeLaws
+pub mod ReplacedLaws
 pub mod StopLaws

@@ -16,8 +16,9 @@ use Rattle.report_check.specs.declared.fault.CheckFault.{CheckFault}
 use Rattle.report_check.specs.declared.fault.CheckFault.TheVariants as faults
 use Rattle.command_end.specs.Names.{Sources}
 use Rattle.command_fund.specs.Names.{Payment}
+use Rattle.command_check.proofs.ReplacedLaws.{replaced_as}
 use Rattle.command_check.specs.Due.{CanBeJudged, IsFormBroken}
-use Rattle.command_check.specs.Evidence.{AreRead, HasLoggedReport, HasReport, HavePlan, IsPlanOf, IsTooLong, IsWithin}
+use Rattle.command_check.specs.Evidence.{AreRead, BurdenReplaces, HasLoggedReport, HasReport, HavePlan, IsPlanOf, IsReplacingPlan, IsTooLong, IsWithin}
 use Rattle.command_check.specs.Statuses.{IsVouched}
 use Rattle.command_check.specs.Stops.{StopsAtEvidence, StopsAtLog, StopsAtReport, StopsFor, StopsJudging, StopsReading, form_stop_of, stop_of_fault}
 use Rattle.command_check.specs.Words.{accepted_text}
@@ -166,8 +167,8 @@ module _ (told : Type 0) (s : Sources) (p : Payment) (report : List ℕ) (plan :
         (h.0, λ t. inr (record { plan = plan; found = r; judged = can_judge t; first = fault_beside plan r log (old.files p.log) fault (read_back t).log_is h.1; real = h.0 }))
     judging_stops stops.Memory h = tt
 
-    pub vouched_is : (text : List ℕ) → IsAccepted plan r log → Vouches plan r → text ≡ accepted_text r → IsVouched told old.files s p report text
-    vouched_is text accepted vouches prints = record {
+    pub vouched_is : (text : List ℕ) → IsAccepted plan r log → Vouches plan r → BurdenReplaces of.wallet of.blocks of.asked plan → text ≡ accepted_text r → IsVouched told old.files s p report text
+    vouched_is text accepted vouches replacing prints = record {
       plan = plan;
       inputs = of;
       found = r;
@@ -177,6 +178,7 @@ module _ (told : Type 0) (s : Sources) (p : Payment) (report : List ℕ) (plan :
       accepted = accepted;
       pays = accepted_pays plan r log accepted;
       vouches = vouches;
+      replaces = replaced_as of.wallet of.blocks of.asked plan replacing of.rules r (accepted_pays plan r log accepted);
       prints = prints;
       comes_to = λ t. record { plan = plan; judged = can_judge t; accepted = accepted_beside plan r log (old.files p.log) (read_back t).log_is accepted };
     }
@@ -198,11 +200,11 @@ pub if_judging_stops : (told : Type 0) (s : Sources) (p : Payment) (report : Lis
 if_judging_stops told s p report plan old middle new r log (Ok text) of only read h = tt
 if_judging_stops told s p report plan old middle new r log (Err stop) of only read h = judging_stops told s p report plan old middle new of only r log read stop h
 
-pub if_vouched : (told : Type 0) (s : Sources) (p : Payment) (report : List ℕ) (plan : PlainPlan) (old middle new : ShelfView) (r : reports.Report) (log : List ℕ) (result : Result (String Global) Stop) → IsPlanOf told old.files s p plan → OnlyReads told old middle
+pub if_vouched : (told : Type 0) (s : Sources) (p : Payment) (report : List ℕ) (plan : PlainPlan) (old middle new : ShelfView) (r : reports.Report) (log : List ℕ) (result : Result (String Global) Stop) → IsReplacingPlan told old.files s p plan → OnlyReads told old middle
     → (told → AreRead (middle.files report) (middle.files p.log) r log) → IfOk result (λ _. IsAccepted plan r log) → IfOk result (λ _. Vouches plan r) → IfOk result (λ text. string_bytes text ≡ accepted_text r)
     → IfOk result (λ text. IsVouched told old.files s p report (string_bytes text))
-if_vouched told s p report plan old middle new r log (Ok text) of only read accepted vouches prints = vouched_is told s p report plan old middle new of only r log read (string_bytes text) accepted vouches prints
-if_vouched told s p report plan old middle new r log (Err stop) of only read accepted vouches prints = tt
+if_vouched told s p report plan old middle new r log (Ok text) h only read accepted vouches prints = vouched_is told s p report plan old middle new h.of only r log read (string_bytes text) accepted vouches h.replaces prints
+if_vouched told s p report plan old middle new r log (Err stop) h only read accepted vouches prints = tt
 
 -- ---- the judgement's faults
 

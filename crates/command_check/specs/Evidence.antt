@@ -2,17 +2,19 @@
 use Rattle.std.specs.Prelude.{ℕ, ◌≡◌, ◌<◌, ◌≤◌, List, length}
 use Rattle.block_feed.specs.Block.{ChainBlock}
 use Rattle.fund_base.specs.Causes.{ShelfView, Rose}
+use Rattle.fund_plan.specs.Selection.{PlainFunded}
 use Rattle.fund_report.specs.ReportText.{IsReportText}
 use Rattle.fund_report.specs.declared.report.Report as reports
 use Rattle.fund_steps.specs.Plan.{IsPlan, PlainPlan}
 use Rattle.report_check.specs.Verdict.{HasLog}
 use Rattle.request_text.specs.PlainRequest.{PlainRequest}
 use Rattle.wallet_text.specs.PlainWallet.{PlainWallet}
-use Rattle.fund_files.specs.Chain.{held_of}
+use Rattle.fund_files.specs.Chain.{held_of, history_of}
 use Rattle.command_end.specs.Names.{Sources}
 use Rattle.command_fund.specs.Due.{plan_of}
 use Rattle.command_fund.specs.Inputs.{AreInputs}
 use Rattle.command_fund.specs.Names.{Payment}
+use Rattle.command_fund.specs.Replacing.{PaysTheBurden, ReplacesIf}
 use Rattle.command_check.specs.declared.stop.Evidence.{Evidence}
 use Rattle.command_check.specs.declared.stop.Evidence.TheVariants.{Report, Log}
 
@@ -30,6 +32,15 @@ pub record IsPlanOf (told : Type 0) (files : List ℕ → List ℕ) (s : Sources
 -- the files hold a wallet, blocks and a request, of which this is the plan
 abbrev pub HavePlan : (List ℕ → List ℕ) → Sources → Payment → PlainPlan → Type 0
 HavePlan files s p plan = IsPlanOf (Unit {0}) files s p plan
+
+-- whatever pays the plan's burden replaces the payment that the request names, if it names one
+abbrev pub BurdenReplaces : PlainWallet → List ChainBlock → PlainRequest → PlainPlan → Type 0
+BurdenReplaces w blocks r plan = (f : PlainFunded) → PaysTheBurden plan f → ReplacesIf w (history_of w blocks) r f
+
+-- the plan of a wallet, blocks and a request, with that
+pub record IsReplacingPlan (told : Type 0) (files : List ℕ → List ℕ) (s : Sources) (p : Payment) (plan : PlainPlan) : Type 0 where
+  pub of : IsPlanOf told files s p plan
+  pub replaces : BurdenReplaces of.wallet of.blocks of.asked plan
 
 -- ---- what is judged
 

@@ -1,20 +1,31 @@
 -- How a check ends, by its status.
 use Rattle.std.specs.Prelude.{ℕ, ◌≡◌, ◌≢◌, ◌⊎◌, List, ◌++◌, codes}
+use Rattle.block_feed.specs.Block.{ChainBlock}
 use Rattle.fund_base.specs.Causes.{ShelfView, SinkView, Rose, HasPart}
+use Rattle.fund_base.specs.declared.candidate.Candidate.{Candidate}
+use Rattle.fund_files.specs.Chain.{history_of}
 use Rattle.fund_files.specs.declared.refusal.File.{File}
+use Rattle.fund_plan.specs.Selection as plans
+use Rattle.fund_report.specs.PlainFunded.{PlainFunded}
 use Rattle.fund_report.specs.ReportText.{IsReportText}
 use Rattle.fund_report.specs.declared.report.Report.{Report}
+use Rattle.fund_report.specs.declared.report.Report.TheVariants as reports
 use Rattle.fund_steps.specs.Plan.{PlainPlan}
+use Rattle.psbt_codec.specs.PartialTransaction.{PartialTransaction}
+use Rattle.report_check.specs.Payment.{IsPsbtText, PaysBy}
 use Rattle.report_check.specs.Verdict.{HasLog, IsAccepted, IsPaid}
 use Rattle.report_check.specs.Vouched.{Vouches}
 use Rattle.report_check.specs.declared.fault.CheckFault.{CheckFault}
 use Rattle.report_check.specs.declared.fault.CheckFault.TheVariants as faults
+use Rattle.request_text.specs.PlainRequest.{PlainRequest}
+use Rattle.wallet_text.specs.PlainWallet.{PlainWallet}
 use Rattle.command_end.specs.Lines.{GotLine, fault_line}
 use Rattle.command_end.specs.Names.{Sources}
 use Rattle.command_end.specs.declared.status.Status.{Status}
 use Rattle.command_end.specs.declared.status.Status.TheVariants as statuses
 use Rattle.command_fund.specs.Inputs as inputs
 use Rattle.command_fund.specs.Names.{Payment}
+use Rattle.command_fund.specs.Replacing.{ReplacesIf}
 use Rattle.command_fund.specs.Statuses as payments
 use Rattle.command_check.specs.Due.{Accepted, Broken, ComesTo, TooLong}
 use Rattle.command_check.specs.Evidence.{IsPlanOf, IsReached, IsUnread, evidence_name}
@@ -23,11 +34,29 @@ use Rattle.command_check.specs.declared.stop.Evidence.{Evidence}
 
 -- ---- an accepted report
 
+-- the payment of a report, from these coins
+abbrev pub payment_in : PlainFunded → List Candidate → plans.PlainFunded
+payment_in f coins = record { mark = f.mark; row = f.row; stage = f.stage; coins = coins; change = f.change; waste = f.waste; weight = f.weight }
+
+-- The PSBT of a report pays as the report says; and where the request names a payment, this one replaces it by the rules of
+-- BIP 125.
+pub record ReplacesAsSaid (w : PlainWallet) (blocks : List ChainBlock) (r : PlainRequest) (plan : PlainPlan) (f : PlainFunded) : Type 0 where
+  pub psbt : PartialTransaction
+  pub text : IsPsbtText f.text psbt
+  pub pays : PaysBy plan f psbt
+  pub replaces : ReplacesIf w (history_of w blocks) r (payment_in f pays.coins)
+
+-- so it is of a report of a payment
+abbrev pub Replaced : PlainWallet → List ChainBlock → PlainRequest → PlainPlan → Report → Type 0
+Replaced w blocks r plan (reports.Funded f) = ReplacesAsSaid w blocks r plan f
+Replaced w blocks r plan (reports.NoSelection tries) = Unit {0}
+Replaced w blocks r plan (reports.Unfinished tries row stage) = Unit {0}
+
 -- A report that is accepted with the bytes of its log, for the plan of a wallet, blocks and a request; and what it vouches
 -- for, in words of pools, problems, best selections and payments: it names the plan's answer of all that there is to find,
--- unless it is partial or of an unfinished run. A payment is paid as the report says, from listed coins and from candidates
--- that meet its row. This is what is printed of it. Where the files are told, they hold all of this; the log is asked for
--- where the report has one.
+-- unless it is partial or of an unfinished run. A payment is paid as the report says, from presets and from candidates that
+-- meet its row. Where the request names a payment, this one replaces it by the rules of BIP 125. This is what is printed of
+-- it. Where the files are told, they hold all of this; the log is asked for where the report has one.
 pub record IsVouched (told_files : Type 0) (files : List ℕ → List ℕ) (s : Sources) (p : Payment) (report text : List ℕ) : Type 0 where
   pub plan : PlainPlan
   pub inputs : IsPlanOf told_files files s p plan
@@ -38,6 +67,7 @@ pub record IsVouched (told_files : Type 0) (files : List ℕ → List ℕ) (s : 
   pub accepted : IsAccepted plan found log
   pub pays : IsPaid plan found
   pub vouches : Vouches plan found
+  pub replaces : Replaced inputs.wallet inputs.blocks inputs.asked plan found
   pub prints : text ≡ accepted_text found
   pub comes_to : told_files → ComesTo files s p report (Accepted found)
 

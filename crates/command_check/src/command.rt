@@ -47,6 +47,9 @@ fn verdict<H: Shelf, O: Sink>(
 /// accepted, and its first line. The wallet, the blocks and the request are refused as they are when the payment is funded.
 /// What is refused gets its fault line there. It writes no file.
 ///
+/// Where the request names a payment, the payment of an accepted report replaces that one by the rules of BIP 125, whatever
+/// its mark.
+///
 /// The clauses on content hold where the shelf and the sink tell theirs.
 pub fn check<H: Shelf, O: Sink>(
     alloc: Global,

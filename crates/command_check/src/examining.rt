@@ -4,35 +4,48 @@ ghost use Rattle.std.specs.Prelude.{◌≡◌, ◌≢◌, None, IfErr, IfOk};
 ghost use Rattle.fund_base.specs.Causes.{OnlyReads};
 ghost use Rattle.fund_files.specs.Chain.{IsHeld};
 ghost use Rattle.fund_files.specs.declared.refusal.File.{File};
+ghost use Rattle.fund_plan.specs.Selection.{PlainFunded};
 ghost use Rattle.fund_steps.specs.Plan.{IsPlan};
 ghost use Rattle.command_end.specs.Names.{plain_sources};
-ghost use Rattle.command_fund.specs.Due.{not_taken, plan_of};
+ghost use Rattle.command_fund.specs.Due.{bump_fault_in, plan_of, terms_for};
 ghost use Rattle.command_fund.specs.Inputs.{AsksInOrder, NoneBehind};
 ghost use Rattle.command_fund.specs.Names.{plain_payment};
 ghost use Rattle.command_fund.specs.PlanEnds.{StopsPlan};
+ghost use Rattle.command_fund.specs.Replacing.{PaysTheBurden, ReplacesIf};
 ghost use Rattle.command_fund.specs.Stops.{StopsFor};
-ghost use Rattle.command_check.specs.Evidence.{IsPlanOf};
+ghost use Rattle.command_check.specs.Evidence.{IsReplacingPlan};
 
 use command_end::Sources;
-use command_fund::{Inputs, Payment, Stop, read_inputs};
+use command_fund::{Inputs, Payment, PlanCoins, Stop, plan_coins, read_inputs};
+use fee_bump::BumpTerms;
 use fund_base::Shelf;
 use fund_files::Held;
 use report_check::Examiner;
 use request_text::Request;
 use std::alloc::Global;
 
-/// What reports on a request of a wallet are judged against: the plan of the request.
-fn made(alloc: Global, held: Held, request: Request) -> Result<Examiner, Stop>
+/// What reports on a request of a wallet are judged against: the plan of the request. The terms are those of the replacement,
+/// where the request names a payment to be replaced.
+fn made(
+    alloc: Global,
+    held: Held,
+    request: Request,
+    terms: Option<BumpTerms>,
+) -> Result<Examiner, Stop>
     requires held { IsHeld held }
-    requires taken { not_taken request ≡ None }
+    requires terms { terms ≡ terms_for held request }
+    requires taken { bump_fault_in held request ≡ None }
     ensures made { IfOk result (λ e. e ≡ plan_of held request) }
     ensures rules { IfOk result IsPlan }
+    ensures replaces { IfOk result (λ e. (f : PlainFunded) → PaysTheBurden e f → ReplacesIf held.wallet held.book request f) }
     ensures stop { IfErr result (StopsPlan held request) }
 {
-    let (_, coins) = held.states_and_coins(alloc)?;
+    // no book has a history with a fault
+    held.book.len();
+    let PlanCoins { candidates, bump } = plan_coins(alloc, &held, &request, terms)?;
     let wallet = held.wallet;
     let change = wallet.change;
-    let examiner = Examiner::new(alloc, request, change, coins)?;
+    let examiner = Examiner::new(alloc, request, change, candidates, bump)?;
     examiner.keeps_rules();
     Ok(examiner)
 }
@@ -45,13 +58,17 @@ pub fn examiner<H: Shelf>(
     payment: &Payment,
     shelf: &mut H,
 ) -> Result<Examiner, Stop>
-    ensures plan { IfOk result (IsPlanOf H.tells (H.view shelf.old).files (plain_sources sources.now) (plain_payment payment.now)) }
+    ensures plan { IfOk result (IsReplacingPlan H.tells (H.view shelf.old).files (plain_sources sources.now) (plain_payment payment.now)) }
     ensures frame { OnlyReads H.tells (H.view shelf.old) (H.view shelf.new) }
     ensures stop { IfErr result (StopsFor H.tells (plain_sources sources.now) (plain_payment payment.now) (H.view shelf.old) (H.view shelf.new)) }
     ensures asked { H.tells → AsksInOrder (plain_sources sources.now) (plain_payment payment.now) (H.view shelf.old) (H.view shelf.new) }
     ensures none_behind { H.tells → NoneBehind (plain_sources sources.now) (H.view shelf.old) (H.view shelf.new) }
     ensures all_read { ((file : File) → result ≢ Err (Stop.Read file)) → (H.view shelf.new).reads ≡ (H.view shelf.old).reads }
 {
-    let Inputs { held, request } = read_inputs(alloc, sources, payment, shelf)?;
-    made(alloc, held, request)
+    let Inputs {
+        held,
+        request,
+        terms,
+    } = read_inputs(alloc, sources, payment, shelf)?;
+    made(alloc, held, request, terms)
 }

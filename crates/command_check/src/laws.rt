@@ -21,7 +21,8 @@ pub fn checks_have_one_outcome()
 /// The law of what an accepted report vouches for, by the files alone, whoever wrote the report and the log. Marked as
 /// exhausted, drawn or given, or saying that there is none, it names the plan's answer of all that there is to find;
 /// exhausted, its coins are the best selection of the problem of its row and stage. Partial, it is paid as it says, from
-/// listed coins and from candidates that meet its row. Of a run that goes on it has its form, and no more.
+/// presets and from candidates that meet its row. Presets are the coins that the request lists, or those of the payment that
+/// it replaces. Of a run that goes on it has its form, and no more.
 ///
 /// What is printed of it is the first line of the file.
 pub fn accepted_reports_vouch()

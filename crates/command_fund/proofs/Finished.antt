@@ -35,7 +35,7 @@ use Rattle.fund_files.specs.Cause.{FileCause}
 use Rattle.fund_files.specs.Cause as files
 use Rattle.command_end.specs.AnswerLines.{IsWanting}
 use Rattle.command_end.specs.Lines.{GotLine, fault_line, status_of_file}
-use Rattle.command_fund.specs.Cause.{Cause, Files, BumpNotYet, Plan, cause_of, status_of_cause, status_of_plan}
+use Rattle.command_fund.specs.Cause.{Cause, Files, Bump, Plan, cause_of, status_of_cause, status_of_plan}
 use Rattle.command_fund.specs.Meant.{IsDue}
 use Rattle.command_fund.specs.Stops.{StopsFor}
 use Rattle.command_fund.specs.Words.{IsStopped, refusal_words}
@@ -151,7 +151,7 @@ plan_status plans.Memory = inl refl
 
 pub refusal_status : (cause : Cause) → (status_of_cause cause ≡ statuses.Input) ⊎ (status_of_cause cause ≡ statuses.Limit)
 refusal_status (Files cause) = file_status cause
-refusal_status BumpNotYet = inl refl
+refusal_status (Bump fault) = inl refl
 refusal_status (Plan fault) = plan_status fault
 
 refused_ends : (told_files told told_jobs : Type 0) (s : Sources) (p : Payment) (job : Option (List ℕ)) (keeper : KeeperView) (refusal : Refusal) (shelf shelf' : ShelfView) (sink sink' : SinkView) → (told_files → IsDue shelf.files s p (cause_of refusal)) → (told → GotLine (fault_line (refusal_words refusal)) sink sink')

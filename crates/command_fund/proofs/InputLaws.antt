@@ -1,16 +1,22 @@
 -- What was read of the files of a payment, joined; and why their reading stops.
-use Rattle.std.proofs.Common.{◌≡◌, ℕ, cond, List, Option, Some, None, inl, inr, refl, sym, subst, [], ◌∷◌}
-use Rattle.std.specs.Prelude.{is_some}
-use Rattle.std.proofs.lemmas.Option.{same_Some}
+use Rattle.std.proofs.Common.{◌≡◌, ℕ, List, Option, Some, None, inl, inr, refl, sym, subst, [], ◌∷◌}
+use Rattle.std.specs.Prelude.{◌≢◌, option_and_then}
+use Rattle.std.proofs.lemmas.Option.{none-some}
+use Rattle.fee_bump.proofs.CauseLaws.{bump_means}
+use Rattle.fee_bump.specs.Faults.{fault_of as bump_fault_of}
+use Rattle.fee_bump.specs.declared.fault.BumpFault.{BumpFault}
+use Rattle.fee_bump.specs.declared.fault.BumpFault.TheVariants as bumps
 use Rattle.fund_base.specs.Causes.{Asks, OnlyReads, ShelfView}
 use Rattle.fund_base.proofs.Asking.{asks_first, asks_then}
 use Rattle.fund_base.proofs.Outside.{rose_earlier}
 use Rattle.block_feed.specs.Block.{ChainBlock}
 use Rattle.request_text.specs.PlainRequest.{PlainRequest}
 use Rattle.wallet_text.specs.PlainWallet.{PlainWallet}
+use Rattle.wallet_text.specs.WalletRules.{IsWallet}
 use Rattle.fund_files.proofs.StopLaws.{not_refused}
 use Rattle.fund_files.specs.Behind.{AreHeld}
 use Rattle.fund_files.specs.Cause.{cause_of}
+use Rattle.fund_files.specs.Chain.{held_of, history_of}
 use Rattle.fund_files.specs.Contents.{HasChain, HasRequest}
 use Rattle.fund_files.specs.FileStops.{StopsAsked, StopsChain}
 use Rattle.fund_files.specs.Refusals.{IsRequestCause}
@@ -20,21 +26,21 @@ use Rattle.fund_files.specs.declared.refusal.File.TheVariants.{Wallet, Blocks, R
 use Rattle.fund_files.specs.declared.stop.Stop.{Stop as FileStop}
 use Rattle.fund_files.specs.declared.stop.Stop.TheVariants as stops
 use Rattle.command_end.specs.Names.{Sources}
-use Rattle.command_fund.specs.Cause.{Cause, BumpNotYet}
-use Rattle.command_fund.specs.Due.{not_taken}
+use Rattle.command_fund.specs.Cause.{Bump}
+use Rattle.command_fund.specs.Due.{bump_fault_in}
 use Rattle.command_fund.specs.Inputs.{AreAsked, AreInputs, AsksInOrder, IsUnread, NoneBehind, Reaches}
 use Rattle.command_fund.specs.Meant.{IsDue, IsMeant}
 use Rattle.command_fund.specs.Names.{Payment}
-use Rattle.command_fund.specs.Stops.{StopsFor, lifted}
-use Rattle.command_fund.proofs.DueLaws.{chain_refused, not_taken_due, request_refused}
+use Rattle.command_fund.specs.Stops.{StopsFor, bump_stop_of, lifted}
+use Rattle.command_fund.proofs.DueLaws.{chain_refused, not_replaced_due, request_refused}
 
-pub asked_is : (told : Type 0) (files seen : List ℕ → List ℕ) (s : Sources) (p : Payment) (k : Held) (r : PlainRequest) → AreHeld told (files s.wallet) (files s.blocks) k → (told → seen ≡ files) → (told → HasRequest (seen p.request) r) → not_taken r ≡ None → AreAsked told files s p k r
+pub asked_is : (told : Type 0) (files seen : List ℕ → List ℕ) (s : Sources) (p : Payment) (k : Held) (r : PlainRequest) → AreHeld told (files s.wallet) (files s.blocks) k → (told → seen ≡ files) → (told → HasRequest (seen p.request) r) → bump_fault_in k r ≡ None → AreAsked told files s p k r
 asked_is told files seen s p k r h same asked taken = record {
   held = h.held;
   inputs = λ t. record {
     chain = h.chain t;
     request = subst (λ (f : List ℕ → List ℕ). HasRequest (f p.request) r) (same t) (asked t);
-    taken = taken;
+    taken = subst (λ (x : Held). bump_fault_in x r ≡ None) h.held.is taken;
   };
   taken = taken;
 }
@@ -58,17 +64,42 @@ asked_stops told s p k old middle new (stops.Refused refusal) h only is = λ t.
     (request_refused old.files s p k.wallet h.held.blocks (cause_of refusal) (h.chain t) cause.due, inr (k.wallet, h.held.blocks, h.chain t, cause.meant))
 asked_stops told s p k old middle new stops.Memory h only is = tt
 
--- what isn't taken of a request is that it replaces a payment
-bump_meant : (files : List ℕ → List ℕ) (s : Sources) (p : Payment) (w : PlainWallet) (blocks : List ChainBlock) (r : PlainRequest) (cause : Cause) (bump : Option (List ℕ)) → HasChain (files s.wallet) (files s.blocks) w blocks → HasRequest (files p.request) r → r.bump ≡ bump → cond (is_some bump) (Some BumpNotYet) None ≡ Some cause
-    → IsMeant files s p cause
-bump_meant files s p w blocks r cause (Some txid) has asked own e = subst (λ (x : Cause). IsMeant files s p x) (same_Some BumpNotYet cause e) (w, blocks, r, txid, has, asked, own)
-bump_meant files s p w blocks r cause None has asked own e = absurd cc
+-- what keeps the payment from being replaced that a request names means what it says
+bump_meant : (files : List ℕ → List ℕ) (s : Sources) (p : Payment) (w : PlainWallet) (blocks : List ChainBlock) (r : PlainRequest) (fault : BumpFault) (bump : Option (List ℕ)) → HasChain (files s.wallet) (files s.blocks) w blocks → IsWallet w → HasRequest (files p.request) r → fault ≢ bumps.Memory → r.bump ≡ bump
+    → option_and_then (λ (txid : List ℕ). bump_fault_of w (history_of w blocks) r) bump ≡ Some fault → IsMeant files s p (Bump fault)
+bump_meant files s p w blocks r fault (Some txid) has rules asked real own e = record {
+  wallet = w;
+  blocks = blocks;
+  asked = r;
+  txid = txid;
+  chain = has;
+  rules = rules;
+  request = asked;
+  named = own;
+  keeps = bump_means w (history_of w blocks) r rules txid fault own real e;
+  real = real;
+}
+bump_meant files s p w blocks r fault None has rules asked real own e = absurd (none-some fault e)
 
--- a request that isn't taken
-pub taken_stops : (told : Type 0) (s : Sources) (p : Payment) (k : Held) (r : PlainRequest) (cause : Cause) (old middle : ShelfView) → AreHeld told (old.files s.wallet) (old.files s.blocks) k → OnlyReads told old middle → (told → HasRequest (middle.files p.request) r) → not_taken r ≡ Some cause → told → IsDue old.files s p cause
-taken_stops told s p k r cause old middle h only asked not = λ t.
-    let has : HasRequest (old.files p.request) r = subst (λ (files : List ℕ → List ℕ). HasRequest (files p.request) r) (only.same t) (asked t) in
-    (not_taken_due old.files s p k.wallet h.held.blocks r cause (h.chain t) has not, bump_meant old.files s p k.wallet h.held.blocks r cause r.bump (h.chain t) has refl not)
+bump_is_due : (files : List ℕ → List ℕ) (s : Sources) (p : Payment) (w : PlainWallet) (blocks : List ChainBlock) (r : PlainRequest) (fault : BumpFault) → HasChain (files s.wallet) (files s.blocks) w blocks → IsWallet w → HasRequest (files p.request) r → fault ≢ bumps.Memory
+    → bump_fault_in (held_of w blocks) r ≡ Some fault → IsDue files s p (Bump fault)
+bump_is_due files s p w blocks r fault has rules asked real e = (not_replaced_due files s p w blocks r fault has asked e, bump_meant files s p w blocks r fault r.bump has rules asked real refl e)
+
+-- at the payment that the request names, after the request was read
+module _ (told : Type 0) (s : Sources) (p : Payment) (k : Held) (r : PlainRequest) (old middle new : ShelfView) (h : AreHeld told (old.files s.wallet) (old.files s.blocks) k) (only : OnlyReads told old middle) (asked : told → HasRequest (middle.files p.request) r) where
+  real_stops : (fault : BumpFault) → fault ≢ bumps.Memory → bump_fault_in k r ≡ Some fault → told → IsDue old.files s p (Bump fault)
+  real_stops fault real e t =
+      bump_is_due old.files s p k.wallet h.held.blocks r fault (h.chain t) h.held.rules (subst (λ (files : List ℕ → List ℕ). HasRequest (files p.request) r) (only.same t) (asked t)) real
+      (subst (λ (x : Held). bump_fault_in x r ≡ Some fault) h.held.is e)
+
+  pub bump_stops : (fault : BumpFault) → (fault ≢ bumps.Memory → bump_fault_in k r ≡ Some fault) → StopsFor told s p old new (bump_stop_of fault)
+  bump_stops (bumps.NotPending found) is = let real : bumps.NotPending found ≢ bumps.Memory = λ e. absurd cc in real_stops (bumps.NotPending found) real (is real)
+  bump_stops bumps.NotSignalling is = let real : bumps.NotSignalling ≢ bumps.Memory = λ e. absurd cc in real_stops bumps.NotSignalling real (is real)
+  bump_stops (bumps.ForeignInput point) is = let real : bumps.ForeignInput point ≢ bumps.Memory = λ e. absurd cc in real_stops (bumps.ForeignInput point) real (is real)
+  bump_stops (bumps.TooManyEvicted n) is = let real : bumps.TooManyEvicted n ≢ bumps.Memory = λ e. absurd cc in real_stops (bumps.TooManyEvicted n) real (is real)
+  bump_stops bumps.RateBelowIncrement is = let real : bumps.RateBelowIncrement ≢ bumps.Memory = λ e. absurd cc in real_stops bumps.RateBelowIncrement real (is real)
+  bump_stops (bumps.RateNotHigher fee vsize) is = let real : bumps.RateNotHigher fee vsize ≢ bumps.Memory = λ e. absurd cc in real_stops (bumps.RateNotHigher fee vsize) real (is real)
+  bump_stops bumps.Memory is = tt
 
 -- ---- which files were asked for
 

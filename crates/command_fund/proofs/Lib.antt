@@ -4,3 +4,5 @@ pub mod Finished
 pub mod InputLaws
 pub mod LeavingLaws
 pub mod PlanLaws
+pub mod ReplaceLaws
+pub mod TermsLaws

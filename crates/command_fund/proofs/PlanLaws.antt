@@ -1,13 +1,14 @@
 -- How a plan's run ends is what is due, and what the files of the command come to.
-use Rattle.std.proofs.Common.{◌≡◌, ◌∙◌, ℕ, ◌-◌, min, List, ◌∷◌, Option, Some, None, Result, Ok, Err, refl, sym, ap, subst, arith, All, Contains}
-use Rattle.std.specs.Prelude.{◌≢◌, IfErr, IfOk}
+use Rattle.std.proofs.Common.{◌≡◌, ◌∙◌, ℕ, ◌-◌, min, List, ◌∷◌, Option, Some, None, Result, Ok, Err, refl, sym, ap, subst, arith, All}
+use Rattle.std.specs.Prelude.{◌≢◌, IfErr, IfOk, option_map}
 use Rattle.block_feed.specs.Block.{ChainBlock}
 use Rattle.closing_log.specs.Log.{PlainLog}
+use Rattle.coin_book.specs.Faults.{fault_of as book_fault}
 use Rattle.closing_log.specs.LogText.{IsLogText, text_of as log_text_of}
 use Rattle.fund_base.specs.Causes.{ShelfView}
 use Rattle.fund_base.specs.declared.candidate.Candidate.{Candidate}
 use Rattle.fund_plan.proofs.ClaimLaws.{funded_claims, none_claims, open_claims}
-use Rattle.fund_plan.proofs.EligibleLaws.{payment_eligible}
+use Rattle.fund_plan.proofs.EligibleLaws.{payment_may}
 use Rattle.fund_plan.proofs.EndLaws.{end_back, moved_none, new_told}
 use Rattle.fund_plan.proofs.KeepLaws.{written_on}
 use Rattle.fund_plan.specs.Resumed.{saved_at}
@@ -22,11 +23,12 @@ use Rattle.fund_plan.specs.State.{PlanState, end_in, moved, partial_of, told}
 use Rattle.fund_plan.specs.Steps.{steps_of}
 use Rattle.fund_plan.specs.declared.outcome.Outcome.{Outcome as Answer}
 use Rattle.fund_plan.specs.declared.outcome.Outcome.TheVariants as answers
-use Rattle.fund_steps.specs.Plan.{IsFault, IsPlan, PlainPlan}
+use Rattle.fund_steps.specs.Plan.{IsFault, IsPlan, PlainBump, PlainPlan}
 use Rattle.fund_steps.specs.declared.fault.PlanFault.{PlanFault}
 use Rattle.fund_steps.specs.declared.fault.PlanFault.TheVariants as plans
 use Rattle.fund_report.specs.ReportText.{IsRead, IsReportText}
 use Rattle.fund_report.specs.declared.report.Report.TheVariants as kinds
+use Rattle.payment_states.specs.Makers.{HasMaker}
 use Rattle.psbt_codec.specs.Psbt.{IsPsbt}
 use Rattle.request_text.specs.PlainRequest.{PlainRequest}
 use Rattle.search_run.specs.Kept.{log_of}
@@ -35,13 +37,13 @@ use Rattle.search_run.specs.Step.{AreSteps, PlainStep}
 use Rattle.search_run.specs.declared.ending.End.{End}
 use Rattle.wallet_text.specs.PlainWallet.{PlainWallet}
 use Rattle.wallet_text.specs.declared.wallet.Watch.{Watch}
-use Rattle.fund_files.specs.Chain.{held_of}
+use Rattle.fund_files.specs.Chain.{IsHeld, held_of}
 use Rattle.fund_files.specs.declared.held.Held.{Held}
 use Rattle.fund_payment.specs.Report.{psbt_of, report_of}
 use Rattle.fund_payment.specs.Shown.{ShowsCoins}
 use Rattle.command_end.specs.Names.{Sources}
-use Rattle.command_fund.specs.Cause.{Cause, Files, BumpNotYet, Plan, cause_of}
-use Rattle.command_fund.specs.Due.{Unfinished, NoSelection, Funded, candidates_in, log_text_at, none_report, none_report_at, open_report, open_report_at, plan_of}
+use Rattle.command_fund.specs.Cause.{Cause, Files, Bump, Plan, cause_of}
+use Rattle.command_fund.specs.Due.{Unfinished, NoSelection, Funded, bump_fault_in, bump_of, candidates_by, log_text_at, none_report, none_report_at, open_report, open_report_at, plan_of, terms_for}
 use Rattle.command_fund.specs.Inputs.{AreAsked, AreInputs}
 use Rattle.command_fund.specs.Meant.{IsMeant}
 use Rattle.command_fund.specs.Names.{Payment}
@@ -53,9 +55,12 @@ use Rattle.command_fund.specs.declared.refusal.Stop.{Stop}
 use Rattle.command_fund.specs.declared.refusal.Stop.TheVariants as stops
 use Rattle.command_fund.proofs.DueLaws.{due_is, inputs_due, plan_refused}
 use Rattle.command_fund.proofs.EndedLaws.{log_written, open_stage}
+use Rattle.command_fund.proofs.ReplaceLaws.{replaces_named}
+use Rattle.command_fund.proofs.TermsLaws.{spent_made}
 
-abbrev plan_by : PlainRequest → Watch → List Candidate → PlainPlan
-plan_by r change coins = record { request = r; change = change; candidates = coins }
+-- a plan of these parts
+abbrev plan_from : PlainRequest → Watch → List Candidate → Option PlainBump → PlainPlan
+plan_from r change coins bump = record { request = r; change = change; candidates = coins; bump = bump }
 
 -- ---- why no plan is made
 
@@ -65,15 +70,16 @@ plan_stops k r (plans.NotEligible point) h = let real : plans.NotEligible point 
 plan_stops k r (plans.TooMany number n) h = let real : plans.TooMany number n ≢ plans.Memory = λ e. absurd cc in (plan_refused k r (plans.TooMany number n) h real, (h, real))
 plan_stops k r plans.Memory h = tt
 
-same_plan : (k : Held) (r : PlainRequest) (change : Watch) (coins : List Candidate) → change ≡ k.wallet.change → coins ≡ candidates_in k → plan_by r change coins ≡ plan_of k r
-same_plan k r change coins own all = ap (λ (w : Watch). plan_by r w coins) own ∙ ap (plan_by r k.wallet.change) all
+pub same_plan : (k : Held) (r : PlainRequest) (change : Watch) (coins : List Candidate) (bump : Option PlainBump) → change ≡ k.wallet.change → coins ≡ candidates_by k (terms_for k r) → bump ≡ option_map bump_of (terms_for k r) → plan_from r change coins bump ≡ plan_of k r
+same_plan k r change coins bump own all given =
+    ap (λ (w : Watch). plan_from r w coins bump) own ∙ ap (λ (cs : List Candidate). plan_from r k.wallet.change cs bump) all ∙ ap (plan_from r k.wallet.change (candidates_by k (terms_for k r))) given
 
-pub plan_stops_at : (k : Held) (r : PlainRequest) (change : Watch) (coins : List Candidate) (fault : PlanFault) → change ≡ k.wallet.change → coins ≡ candidates_in k → IsFault (plan_by r change coins) fault → StopsPlan k r (plan_stop_of fault)
-plan_stops_at k r change coins fault own all h =
-    plan_stops k r fault (subst (λ (p : PlainPlan). IsFault p fault) (same_plan k r change coins own all) h)
+pub plan_stops_at : (k : Held) (r : PlainRequest) (change : Watch) (coins : List Candidate) (bump : Option PlainBump) (fault : PlanFault) → change ≡ k.wallet.change → coins ≡ candidates_by k (terms_for k r) → bump ≡ option_map bump_of (terms_for k r) → IsFault (plan_from r change coins bump) fault → StopsPlan k r (plan_stop_of fault)
+plan_stops_at k r change coins bump fault own all given h =
+    plan_stops k r fault (subst (λ (p : PlainPlan). IsFault p fault) (same_plan k r change coins bump own all given) h)
 
-pub new_is : (k : Held) (r : PlainRequest) (change : Watch) (coins : List Candidate) (s : PlanState) → change ≡ k.wallet.change → coins ≡ candidates_in k → s.plan ≡ plan_by r change coins → s.stand ≡ beginning_of s.plan → s.partial ≡ None → IsNew k r s
-new_is k r change coins s own all is stand partial = record { plan = is ∙ same_plan k r change coins own all; stand = stand; partial = partial }
+pub new_is : (k : Held) (r : PlainRequest) (change : Watch) (coins : List Candidate) (bump : Option PlainBump) (s : PlanState) → change ≡ k.wallet.change → coins ≡ candidates_by k (terms_for k r) → bump ≡ option_map bump_of (terms_for k r) → s.plan ≡ plan_from r change coins bump → s.stand ≡ beginning_of s.plan → s.partial ≡ None → IsNew k r s
+new_is k r change coins bump s own all given is stand partial = record { plan = is ∙ same_plan k r change coins bump own all given; stand = stand; partial = partial }
 
 -- ---- a plan behind its tries
 
@@ -198,18 +204,18 @@ concluded_none k r s o text log a is text_is told log_is =
       },
     )
 
--- the coins of a payment are candidates of the chain
-pub paid_from : (k : Held) (r : PlainRequest) (s : PlanState) (o : Answer) (f : PlainFunded) → IsAfter (plan_of k r) r.tries s o → o ≡ answers.Funded f → All (Contains (candidates_in k)) f.coins
-paid_from k r s o f a is =
+-- the book has the transactions that made the coins of a payment
+pub paid_from : (k : Held) (r : PlainRequest) (s : PlanState) (o : Answer) (f : PlainFunded) → IsHeld k → book_fault k.book ≡ None → IsAfter (plan_of k r) r.tries s o → o ≡ answers.Funded f → All (HasMaker k.book) f.coins
+paid_from k r s o f held sound a is =
     let pays : IsPayment (plan_of k r) f = subst (ArePayments (plan_of k r)) is a.pays in
-    pays.candidates
+    spent_made k r held sound f.coins pays.candidates
 
 pub paid_fits : (k : Held) (r : PlainRequest) (s : PlanState) (o : Answer) (f : PlainFunded) → IsAfter (plan_of k r) r.tries s o → o ≡ answers.Funded f → IsSelection r f
 paid_fits k r s o f a is = subst (HasSelection r) is a.fits
 
-pub concluded_paid : (k : Held) (r : PlainRequest) (s : PlanState) (o : Answer) (f : PlainFunded) (tries : ℕ) (text log : List ℕ) → IsAfter (plan_of k r) r.tries s o → o ≡ answers.Funded f → tries ≡ s.stand.past.tries → text ≡ report_of k.book r k.wallet.change tries f
+pub concluded_paid : (k : Held) (r : PlainRequest) (s : PlanState) (o : Answer) (f : PlainFunded) (tries : ℕ) (text log : List ℕ) → IsHeld k → book_fault k.book ≡ None → bump_fault_in k r ≡ None → IsAfter (plan_of k r) r.tries s o → o ≡ answers.Funded f → tries ≡ s.stand.past.tries → text ≡ report_of k.book r k.wallet.change tries f
     → IsPsbt (psbt_of k.book r k.wallet.change f) → ShowsCoins f.coins (psbt_of k.book r k.wallet.change f) → log ≡ log_text_of (log_of (is_partial (end_in s)) s.stand) → IsPlan (plan_of k r) × IsPaid k r text log
-concluded_paid k r s o f tries text log a is tried text_is psbt shows log_is =
+concluded_paid k r s o f tries text log held sound clear a is tried text_is psbt shows log_is =
     let p : PlainPlan = plan_of k r in
     let out : outcome_at p r.tries ≡ answers.Funded f = sym a.outcome ∙ is in
     let goes : outcome_at p r.tries ≡ answers.Unfinished → ⊥ = λ e. absurd (let x = sym out ∙ e in cc) in
@@ -224,7 +230,8 @@ concluded_paid k r s o f tries text log a is tried text_is psbt shows log_is =
         steps = a.steps;
         outcome = out;
         pays = pays;
-        eligible = payment_eligible p f a.rules pays;
+        eligible = payment_may p f a.rules pays;
+        replaces = replaces_named k r f held sound clear a.rules pays;
         claims = funded_claims p r.tries f a.rules a.steps out;
         psbt = psbt;
         shows = shows;
@@ -282,6 +289,7 @@ ended_on told_files files s p w blocks r (endings.Funded texts) inputs c = recor
   outcome = c.1.outcome;
   pays = c.1.pays;
   eligible = c.1.eligible;
+  replaces = c.1.replaces;
   claims = c.1.claims;
   psbt = c.1.psbt;
   shows = c.1.shows;
@@ -294,7 +302,7 @@ ended_on told_files files s p w blocks r (endings.Funded texts) inputs c = recor
 
 meant : (files : List ℕ → List ℕ) (s : Sources) (p : Payment) (w : PlainWallet) (blocks : List ChainBlock) (r : PlainRequest) (cause : Cause) → AreInputs files s p w blocks r → MeansFault (held_of w blocks) r cause → IsMeant files s p cause
 meant files s p w blocks r (Files cause) inputs m = absurd m
-meant files s p w blocks r BumpNotYet inputs m = absurd m
+meant files s p w blocks r (Bump fault) inputs m = absurd m
 meant files s p w blocks r (Plan fault) inputs m = (w, blocks, r, inputs, m.0, m.1)
 
 pub stops_on : (told_files : Type 0) (s : Sources) (p : Payment) (w : PlainWallet) (blocks : List ChainBlock) (r : PlainRequest) (old new : ShelfView) (stop : Stop) → (told_files → AreInputs old.files s p w blocks r) → StopsPlan (held_of w blocks) r stop → StopsFor told_files s p old new stop

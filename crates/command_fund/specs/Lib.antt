@@ -8,6 +8,7 @@ pub mod Meant
 pub mod Names
 pub mod PlanEnds
 pub mod Reading
+pub mod Replacing
 pub mod Statuses
 pub mod Stops
 pub mod Words

@@ -9,7 +9,8 @@ use Rattle.fund_plan.specs.State.{PlanState, end_in, moved}
 use Rattle.fund_plan.specs.Steps.{steps_of}
 use Rattle.fund_plan.specs.declared.outcome.Outcome.{Outcome as Answer}
 use Rattle.fund_plan.specs.declared.outcome.Outcome.TheVariants as answers
-use Rattle.fund_steps.specs.Plan.{IsEligible, IsFault, IsPlan, PlainPlan}
+use Rattle.fund_steps.specs.Listed.{MaySpend}
+use Rattle.fund_steps.specs.Plan.{IsFault, IsPlan, PlainPlan}
 use Rattle.search_run.specs.Kept.{log_of}
 use Rattle.search_run.specs.Step.{AreSteps, PlainStep}
 use Rattle.fund_report.specs.ReportText.{IsRead, IsReportText}
@@ -25,9 +26,10 @@ use Rattle.fund_payment.specs.Shown.{ShowsCoins}
 use Rattle.kept_job.specs.Kept.{new_of}
 use Rattle.kept_job.specs.SavingRules.{CanBeKept}
 use Rattle.command_end.specs.Names.{Sources}
-use Rattle.command_fund.specs.Cause.{Cause, Files, BumpNotYet, Plan, cause_of}
+use Rattle.command_fund.specs.Cause.{Cause, Files, Bump, Plan, cause_of}
 use Rattle.command_fund.specs.Due.{Refused, Unfinished, NoSelection, Funded, log_text_at, none_report_at, open_text, plan_of, planned}
 use Rattle.command_fund.specs.Names.{Payment}
+use Rattle.command_fund.specs.Replacing.{ReplacesIf}
 use Rattle.command_fund.specs.Statuses.{IsFunded, IsNotFunded, IsUnfinished}
 use Rattle.command_fund.specs.declared.funding.Ending.{Ending}
 use Rattle.command_fund.specs.declared.funding.Ending.TheVariants as endings
@@ -73,7 +75,8 @@ pub record IsPaid (k : Held) (r : PlainRequest) (report log : List ℕ) : Type 0
   pub steps : AreSteps (steps_of (plan_of k r))
   pub outcome : outcome_at (plan_of k r) r.tries ≡ answers.Funded funded
   pub pays : IsPayment (plan_of k r) funded
-  pub eligible : All (IsEligible (plan_of k r)) funded.coins
+  pub eligible : All (MaySpend (plan_of k r)) funded.coins
+  pub replaces : ReplacesIf k.wallet k.book r funded
   pub claims : Claims (plan_of k r) r.tries funded
   pub psbt : IsPsbt (psbt_of k.book r k.wallet.change funded)
   pub shows : ShowsCoins funded.coins (psbt_of k.book r k.wallet.change funded)
@@ -118,7 +121,7 @@ IsConcluded k r (endings.Funded texts) = IsPlan (plan_of k r) × IsPaid k r text
 -- the fault of a plan, as a cause
 abbrev pub MeansFault : Held → PlainRequest → Cause → Type 0
 MeansFault k r (Files cause) = ⊥
-MeansFault k r BumpNotYet = ⊥
+MeansFault k r (Bump fault) = ⊥
 MeansFault k r (Plan fault) = IsFault (plan_of k r) fault × (fault ≢ plans.Memory)
 
 -- the stop is the refusal that is due, or want of memory

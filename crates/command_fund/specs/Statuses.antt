@@ -10,7 +10,8 @@ use Rattle.fund_plan.specs.Outcome.{log_at, outcome_at, tries_at}
 use Rattle.fund_plan.specs.Selection.{PlainFunded}
 use Rattle.fund_plan.specs.Steps.{steps_of}
 use Rattle.fund_plan.specs.declared.outcome.Outcome.TheVariants as answers
-use Rattle.fund_steps.specs.Plan.{IsEligible, IsPlan}
+use Rattle.fund_steps.specs.Listed.{MaySpend}
+use Rattle.fund_steps.specs.Plan.{IsPlan}
 use Rattle.search_run.specs.Step.{AreSteps}
 use Rattle.fund_report.specs.ReportText.{IsReportText}
 use Rattle.fund_report.specs.declared.report.Report.TheVariants as kinds
@@ -31,6 +32,7 @@ use Rattle.command_fund.specs.Inputs.{AreInputs, IsUnread, Reaches, name_of}
 use Rattle.command_fund.specs.Jobs.{IsLeft}
 use Rattle.command_fund.specs.Meant.{IsDue}
 use Rattle.command_fund.specs.Names.{Payment}
+use Rattle.command_fund.specs.Replacing.{ReplacesIf}
 use Rattle.command_fund.specs.Words.{refusal_words}
 use Rattle.command_fund.specs.declared.refusal.Refusal.{Refusal}
 
@@ -41,9 +43,10 @@ status_of (Unfinished report) = statuses.Unfinished
 status_of (NoSelection report log) = statuses.NoSelection
 status_of (Funded report log) = statuses.Done
 
--- A wallet, blocks and a request with a payment: its coins are candidates, the presets among them, and the others are of
--- groups of the pool of the row that it names; the transaction made of them pays each recipient exactly, and at least the
--- fee. What a signer gets is a PSBT of version 0 (BIP 174) of which each input shows the value and the script of its coin.
+-- A wallet, blocks and a request with a payment: its coins are candidates or those of a payment that is replaced, the presets
+-- among them, and the others are of groups of the pool of the row that it names; the transaction made of them pays each
+-- recipient exactly, and at least the fee. Where the request names a payment, it replaces that by the rules of BIP 125. What a
+-- signer gets is a PSBT of version 0 (BIP 174) of which each input shows the value and the script of its coin.
 -- An exhausted payment is proved to be the best, by the log. The report and the log tell of it; the log's bytes are a
 -- text of it, which says that it is ended. The searches and draws of its plan keep their rules. Where the files are told, they
 -- hold this wallet, these blocks and this request.
@@ -57,7 +60,8 @@ pub record IsFunded (told_files : Type 0) (files : List ℕ → List ℕ) (s : S
   pub steps : AreSteps (steps_of (plan_of (held_of wallet blocks) asked))
   pub outcome : outcome_at (plan_of (held_of wallet blocks) asked) asked.tries ≡ answers.Funded funded
   pub pays : IsPayment (plan_of (held_of wallet blocks) asked) funded
-  pub eligible : All (IsEligible (plan_of (held_of wallet blocks) asked)) funded.coins
+  pub eligible : All (MaySpend (plan_of (held_of wallet blocks) asked)) funded.coins
+  pub replaces : ReplacesIf wallet (history_of wallet blocks) asked funded
   pub claims : Claims (plan_of (held_of wallet blocks) asked) asked.tries funded
   pub psbt : IsPsbt (psbt_of (history_of wallet blocks) asked wallet.change funded)
   pub shows : ShowsCoins funded.coins (psbt_of (history_of wallet blocks) asked wallet.change funded)

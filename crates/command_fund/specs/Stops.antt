@@ -1,4 +1,6 @@
 -- Why a payment stops before it writes or prints.
+use Rattle.fee_bump.specs.declared.fault.BumpFault.{BumpFault}
+use Rattle.fee_bump.specs.declared.fault.BumpFault.TheVariants as bumps
 use Rattle.fund_base.specs.Causes.{Rose, ShelfView}
 use Rattle.fund_files.specs.declared.stop.Stop.{Stop as FileStop}
 use Rattle.fund_files.specs.declared.stop.Stop.TheVariants as files
@@ -19,6 +21,11 @@ abbrev pub lifted : FileStop → Stop
 lifted (files.Read file) = stops.Read file
 lifted (files.Refused refusal) = stops.Refused (refusals.Files refusal)
 lifted files.Memory = stops.Memory
+
+-- the stop of a payment that isn't replaced: want of memory comes from that of its terms alone
+abbrev pub bump_stop_of : BumpFault → Stop
+bump_stop_of bumps.Memory = stops.Memory
+bump_stop_of fault = stops.Refused (refusals.Bump fault)
 
 -- A read of a file failed, those before it being in order, or the files are refused.
 abbrev pub StopsFor : Type 0 → Sources → Payment → ShelfView → ShelfView → Stop → Type 0

@@ -1,6 +1,6 @@
 -- What a refusal says, and how a payment that stops is answered.
 use Rattle.std.specs.Prelude.{ℕ, ◌≡◌, List, ◌++◌, codes}
-use Rattle.fault_text.specs.Words.{plan_fault_words}
+use Rattle.fault_text.specs.Words.{bump_fault_words, plan_fault_words}
 use Rattle.fund_base.specs.Causes.{SinkView}
 use Rattle.command_end.specs.AnswerLines.{IsAnswered, IsWanting}
 use Rattle.command_end.specs.Lines.{GotLine, fault_line, file_refusal_words}
@@ -18,7 +18,7 @@ use Rattle.command_fund.specs.declared.refusal.Stop.TheVariants as stops
 -- what a refusal says behind the word fault
 unfoldable pub refusal_words : Refusal → List ℕ
 refusal_words (refusals.Files refusal) = file_refusal_words refusal
-refusal_words refusals.BumpNotYet = codes "input bump NotYet"
+refusal_words (refusals.Bump fault) = bump_fault_words fault
 refusal_words (refusals.Plan fault) = plan_fault_words fault
 
 -- the answer to a stop

@@ -15,7 +15,7 @@ use command_end::{
     Sources, Status, file_refusal_words, file_status, put_fault, refuse_keep, refuse_read,
     want_of_memory,
 };
-use fault_text::plan_fault_words;
+use fault_text::{bump_fault_words, plan_fault_words};
 use fund_base::{Memory, Sink};
 use fund_files::File;
 use fund_steps::PlanFault;
@@ -28,7 +28,7 @@ fn refusal_words(alloc: Global, refusal: &Refusal) -> Result<String, Memory>
 {
     match refusal {
         Refusal::Files(refusal) => file_refusal_words(alloc, refusal),
-        Refusal::BumpNotYet => Ok(format!(in alloc; "input bump NotYet")?),
+        Refusal::Bump(fault) => bump_fault_words(alloc, fault),
         Refusal::Plan(fault) => plan_fault_words(alloc, fault),
     }
 }

@@ -38,8 +38,12 @@ fn outcome<H: Shelf>(
     ensures none_behind { H.tells → NoneBehind (plain_sources sources.now) (H.view shelf.old) (H.view shelf.new) }
     ensures all_read { ((file : File) → result ≢ Err (Stop.Read file)) → (H.view shelf.new).reads ≡ (H.view shelf.old).reads }
 {
-    let Inputs { held, request } = read_inputs(alloc, sources, payment, shelf)?;
-    conclude(alloc, &held, &request)
+    let Inputs {
+        held,
+        request,
+        terms,
+    } = read_inputs(alloc, sources, payment, shelf)?;
+    conclude(alloc, &held, &request, terms)
 }
 
 /// Keeps a run that is unfinished where there is a job to keep it as, and then prints its report, which was made before.
@@ -78,7 +82,8 @@ fn leave<H: Shelf, O: Sink, K: Keeper>(
 /// Funds a payment with the request's tries: it reads the three files, writes the log, and then prints the report to `out`.
 /// Where the run is unfinished, it writes no log: the tries are used up, a search is open, and nothing is taken. Where there
 /// is a job, it then keeps the run as that, from its first part on, before it prints the report, which is made before. A
-/// finished run keeps nothing. What is refused gets its fault line there.
+/// finished run keeps nothing. What is refused gets its fault line there. Where the request names a payment to be replaced,
+/// the payment replaces that one by the rules of BIP 125, or the request is refused.
 ///
 /// The clauses on content hold where the shelf, the sink and the keeper tell theirs.
 pub fn fund<H: Shelf, O: Sink, K: Keeper>(

@@ -1,21 +1,24 @@
 //! How a request ends whose files are read.
 
-ghost use Rattle.std.specs.Prelude.{◌≡◌, All, Contains, None, IfErr, IfOk};
+ghost use Rattle.std.specs.Prelude.{◌≡◌, All, None, IfErr, IfOk};
 ghost use Rattle.closing_log.specs.LogText.{text_of as log_text_of};
 ghost use Rattle.fund_plan.specs.Answer.{IsSelection};
 ghost use Rattle.fund_plan.specs.Outcome.{is_partial};
 ghost use Rattle.fund_plan.specs.State.{end_in};
 ghost use Rattle.search_run.specs.Kept.{log_of};
 ghost use Rattle.fund_report.specs.ReportText.{IsReportText};
+ghost use Rattle.payment_states.specs.Makers.{HasMaker};
 ghost use Rattle.psbt_codec.specs.Psbt.{IsPsbt};
 ghost use Rattle.fund_files.specs.Chain.{IsHeld};
 ghost use Rattle.fund_payment.specs.Report.{psbt_of, report_of};
 ghost use Rattle.fund_payment.specs.Shown.{ShowsCoins};
-ghost use Rattle.command_fund.specs.Due.{candidates_in, none_report, not_taken, open_report, plan_of};
+ghost use Rattle.command_fund.specs.Due.{bump_fault_in, none_report, open_report, plan_of, terms_for};
 ghost use Rattle.command_fund.specs.PlanEnds.{IsAfter, IsConcluded, IsNew, IsOpenAt, IsOpenReport, StopsPlan};
 
+use crate::coins::{PlanCoins, plan_coins};
 use crate::refusal::Stop;
 use closing_log::write_sections;
+use fee_bump::BumpTerms;
 use fund_base::Memory;
 use fund_files::Held;
 use fund_payment::payment_report;
@@ -58,26 +61,39 @@ struct Run {
     outcome: Outcome,
 }
 
-/// The plan of the request, of which no try is made yet.
-pub fn new_plan(alloc: Global, held: &Held, request: &Request) -> Result<Plan, Stop>
+/// The plan of the request, of which no try is made yet. The terms are those of the replacement, where the request names a
+/// payment to be replaced.
+pub fn new_plan(
+    alloc: Global,
+    held: &Held,
+    request: &Request,
+    terms: Option<BumpTerms>,
+) -> Result<Plan, Stop>
     requires held { IsHeld held.now }
-    requires taken { not_taken request.now ≡ None }
+    requires terms { terms ≡ terms_for held.now request.now }
+    requires taken { bump_fault_in held.now request.now ≡ None }
     ensures plan { IfOk result (IsNew held.now request.now) }
     ensures stop { IfErr result (StopsPlan held.now request.now) }
 {
-    let (_, coins) = held.states_and_coins(alloc)?;
-    let plan = Plan::new(alloc, request, &held.wallet.change, coins)?;
+    let PlanCoins { candidates, bump } = plan_coins(alloc, held, request, terms)?;
+    let plan = Plan::new(alloc, request, &held.wallet.change, candidates, bump)?;
     Ok(plan)
 }
 
 /// A run of the request's plan, with the request's tries.
-fn run_plan(alloc: Global, held: &Held, request: &Request) -> Result<Run, Stop>
+fn run_plan(
+    alloc: Global,
+    held: &Held,
+    request: &Request,
+    terms: Option<BumpTerms>,
+) -> Result<Run, Stop>
     requires held { IsHeld held.now }
-    requires taken { not_taken request.now ≡ None }
+    requires terms { terms ≡ terms_for held.now request.now }
+    requires taken { bump_fault_in held.now request.now ≡ None }
     ensures run { IfOk result (λ r. IsAfter (plan_of held.now request.now) request.now.tries r.plan r.outcome) }
     ensures stop { IfErr result (StopsPlan held.now request.now) }
 {
-    let mut plan = new_plan(alloc, held, request)?;
+    let mut plan = new_plan(alloc, held, request, terms)?;
     plan.keeps_rules();
     plan.keeps_steps();
     let outcome = plan.go(request.tries)?;
@@ -137,7 +153,7 @@ pub fn none_texts(alloc: Global, plan: &Plan) -> Result<Texts, Memory>
     Ok(Texts { report, log })
 }
 
-/// What is printed and written of a payment. The error is out of memory.
+/// What is printed and written of a payment from coins whose transactions the book has. The error is out of memory.
 pub fn paid_texts(
     alloc: Global,
     held: &Held,
@@ -147,7 +163,7 @@ pub fn paid_texts(
 ) -> Result<Texts, Memory>
     requires held { IsHeld held.now }
     requires funded { IsSelection request.now funded.now }
-    requires coins { All (Contains (candidates_in held.now)) funded.now.coins }
+    requires makers { All (HasMaker held.now.book) funded.now.coins }
     ensures report { IfOk result (λ t. t.report.items ≡ report_of held.now.book request.now held.now.wallet.change plan.now.stand.past.tries funded.now) }
     ensures fits { IfOk result (λ _. IsPsbt (psbt_of held.now.book request.now held.now.wallet.change funded.now)) }
     ensures shows { IfOk result (λ _. ShowsCoins funded.now.coins (psbt_of held.now.book request.now held.now.wallet.change funded.now)) }
@@ -161,6 +177,7 @@ pub fn paid_texts(
 /// How a request ends after this run of its plan. The error is out of memory.
 fn ends(alloc: Global, held: &Held, request: &Request, run: Run) -> Result<Ending, Memory>
     requires held { IsHeld held.now }
+    requires taken { bump_fault_in held.now request.now ≡ None }
     requires run { IsAfter (plan_of held.now request.now) request.now.tries run.plan run.outcome }
     ensures { IfOk result (IsConcluded held.now request.now) }
 {
@@ -175,20 +192,29 @@ fn ends(alloc: Global, held: &Held, request: &Request, run: Run) -> Result<Endin
             Ok(Ending::NoSelection(texts))
         }
         Outcome::Funded(funded) => {
+            // no book has a history with a fault
+            held.book.len();
             let texts = paid_texts(alloc, held, request, &plan, &funded)?;
             Ok(Ending::Funded(texts))
         }
     }
 }
 
-/// How the request of a wallet ends, or its refusal: a run of its plan with the request's tries.
-pub fn conclude(alloc: Global, held: &Held, request: &Request) -> Result<Ending, Stop>
+/// How the request of a wallet ends, or its refusal: a run of its plan with the request's tries. The terms are those of the
+/// replacement, where the request names a payment to be replaced.
+pub fn conclude(
+    alloc: Global,
+    held: &Held,
+    request: &Request,
+    terms: Option<BumpTerms>,
+) -> Result<Ending, Stop>
     requires held { IsHeld held.now }
-    requires taken { not_taken request.now ≡ None }
+    requires terms { terms ≡ terms_for held.now request.now }
+    requires taken { bump_fault_in held.now request.now ≡ None }
     ensures ends { IfOk result (IsConcluded held.now request.now) }
     ensures stop { IfErr result (StopsPlan held.now request.now) }
 {
-    let run = run_plan(alloc, held, request)?;
+    let run = run_plan(alloc, held, request, terms)?;
     let ending = ends(alloc, held, request, run)?;
     Ok(ending)
 }

@@ -1,20 +1,23 @@
 //! What the files of a payment hold.
 
-ghost use Rattle.std.specs.Prelude.{◌≡◌, ◌≢◌, IfErr, IfOk, option_map};
+ghost use Rattle.std.specs.Prelude.{◌≡◌, ◌≢◌, Err, IfErr, IfOk, IsSome, None, OnOk, Some};
+ghost use Rattle.fee_bump.specs.declared.fault.BumpFault.TheVariants as bumps;
 ghost use Rattle.fund_base.specs.Causes.{OnlyReads};
+ghost use Rattle.fund_files.specs.Chain.{IsHeld};
 ghost use Rattle.fund_files.specs.declared.refusal.File.{File};
 ghost use Rattle.command_end.specs.Names.{plain_sources};
-ghost use Rattle.command_fund.specs.Cause.{cause_of};
-ghost use Rattle.command_fund.specs.Due.{not_taken};
+ghost use Rattle.command_fund.specs.Due.{bump_fault_in, terms_for};
 ghost use Rattle.command_fund.specs.Inputs.{AreAsked, AsksInOrder, NoneBehind};
 ghost use Rattle.command_fund.specs.Names.{plain_payment};
 ghost use Rattle.command_fund.specs.Stops.{StopsFor};
 
 use crate::names::Payment;
-use crate::refusal::{Refusal, Stop};
+use crate::refusal::Stop;
 use command_end::Sources;
+use fee_bump::{BumpFault, BumpTerms, bump_terms};
 use fund_base::Shelf;
 use fund_files::{Held, read_asked, read_chain};
+use payment_states::all_states;
 use request_text::Request;
 use std::alloc::Global;
 
@@ -23,21 +26,37 @@ use std::alloc::Global;
 pub struct Inputs {
     pub held: Held,
     pub request: Request,
+    /// What a replacement of the payment that the request names is made from, if it names one.
+    pub terms: Option<BumpTerms>,
 }
 
-/// What isn't taken of the request yet.
-fn not_taken(request: &Request) -> Option<Refusal>
-    ensures { option_map cause_of result ≡ not_taken request.now }
+/// What a replacement of the payment that the request names is made from, if it names one; or why that isn't replaced. Memory
+/// comes only where it names one.
+fn terms_for(alloc: Global, held: &Held, request: &Request) -> Result<Option<BumpTerms>, BumpFault>
+    requires { IsHeld held.now }
+    ensures terms { IfOk result (λ terms. terms ≡ terms_for held.now request.now) }
+    ensures none { OnOk result (bump_fault_in held.now request.now ≡ None) }
+    ensures fault { IfErr result (λ fault. fault ≢ bumps.Memory → bump_fault_in held.now request.now ≡ Some fault) }
+    ensures short { result ≡ Err bumps.Memory → IsSome request.now.bump }
 {
-    if request.bump.is_some() {
-        Some(Refusal::BumpNotYet)
-    } else {
-        None
+    if request.bump.is_none() {
+        return Ok(None);
     }
+    let states = all_states(alloc, &held.book, &held.wallet)?;
+    let terms = bump_terms(
+        alloc,
+        &held.book,
+        &held.wallet,
+        &states,
+        held.tip.height,
+        request,
+    )?;
+    Ok(Some(terms))
 }
 
-/// What the files of a payment hold: the wallet, which is read first, then the blocks, then the request, which replaces no
-/// payment. A file that is refused leaves those behind it unread.
+/// What the files of a payment hold: the wallet, which is read first, then the blocks, then the request. A file that is
+/// refused leaves those behind it unread. Then, where the request names a payment to be replaced, what its replacement is made
+/// from, or why it isn't replaced.
 pub fn read_inputs<H: Shelf>(
     alloc: Global,
     sources: &Sources,
@@ -45,6 +64,7 @@ pub fn read_inputs<H: Shelf>(
     shelf: &mut H,
 ) -> Result<Inputs, Stop>
     ensures held { IfOk result (λ x. AreAsked H.tells (H.view shelf.old).files (plain_sources sources.now) (plain_payment payment.now) x.held x.request) }
+    ensures terms { IfOk result (λ x. x.terms ≡ terms_for x.held x.request) }
     ensures frame { OnlyReads H.tells (H.view shelf.old) (H.view shelf.new) }
     ensures stop { IfErr result (StopsFor H.tells (plain_sources sources.now) (plain_payment payment.now) (H.view shelf.old) (H.view shelf.new)) }
     ensures asked { H.tells → AsksInOrder (plain_sources sources.now) (plain_payment payment.now) (H.view shelf.old) (H.view shelf.new) }
@@ -54,8 +74,10 @@ pub fn read_inputs<H: Shelf>(
 {
     let held = read_chain(alloc, sources.wallet, sources.blocks, shelf)?;
     let request = read_asked(alloc, payment.request, shelf)?;
-    match not_taken(&request) {
-        Some(refusal) => Err(Stop::Refused(refusal)),
-        None => Ok(Inputs { held, request }),
-    }
+    let terms = terms_for(alloc, &held, &request)?;
+    Ok(Inputs {
+        held,
+        request,
+        terms,
+    })
 }

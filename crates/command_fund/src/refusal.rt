@@ -2,6 +2,7 @@
 
 ghost use Rattle.std.specs.Prelude.{◌≡◌};
 
+use fee_bump::BumpFault;
 use fund_base::Memory;
 use fund_files::{File, FileRefusal, Stop as FileStop};
 use fund_outside::KeepFault;
@@ -12,8 +13,8 @@ use fund_steps::PlanFault;
 pub enum Refusal {
     /// A file is refused.
     Files(FileRefusal),
-    /// A payment is to be replaced. That isn't taken yet.
-    BumpNotYet,
+    /// The payment that the request names isn't replaced.
+    Bump(BumpFault),
     /// No plan is made of the request.
     Plan(PlanFault),
 }
@@ -54,6 +55,19 @@ impl From<KeepFault> for Stop {
         match fault {
             KeepFault::Failed => Stop::Keep,
             KeepFault::Memory => Stop::Memory,
+        }
+    }
+}
+
+impl From<BumpFault> for Stop {
+    ghost use Rattle.command_fund.specs.Stops.{bump_stop_of};
+
+    ghost from_gives = { λ fault stop. stop ≡ bump_stop_of fault };
+
+    fn from(fault: BumpFault) -> Stop {
+        match fault {
+            BumpFault::Memory => Stop::Memory,
+            _ => Stop::Refused(Refusal::Bump(fault)),
         }
     }
 }

@@ -4,7 +4,7 @@ use Rattle.block_feed.specs.Block.{ChainBlock}
 use Rattle.closing_log.specs.LogText as logs
 use Rattle.closing_log.specs.LogText.{IsLogText}
 use Rattle.fund_outside.specs.Kept.{KeptJob}
-use Rattle.fund_plan.proofs.EligibleLaws.{payment_eligible}
+use Rattle.fund_plan.proofs.EligibleLaws.{payment_may}
 use Rattle.fund_plan.specs.Answer.{IsPayment}
 use Rattle.fund_plan.specs.Resumed.{log_in}
 use Rattle.fund_plan.specs.Selection.{PlainFunded}
@@ -27,15 +27,16 @@ use Rattle.command_fund.specs.Due.{Funded, NoSelection, Unfinished, none_report,
 use Rattle.command_fund.specs.Inputs.{AreInputs}
 use Rattle.command_fund.specs.Names.{Payment}
 use Rattle.command_fund.specs.PlanEnds.{IsOpenReport}
+use Rattle.command_fund.specs.Replacing.{ReplacesIf}
 use Rattle.command_resume.specs.Resumed.{HasGone, IsFunded, IsNotFunded, IsUnfinished}
 use Rattle.command_resume.proofs.UninterruptedLaws.{uninterrupted}
 
 module _ (told_files told_jobs : Type 0) (files : List ℕ → List ℕ) (s : Sources) (p : Payment) (o : Option KeptJob) (w : PlainWallet) (blocks : List ChainBlock) (r : PlainRequest) (st : PlanState)
     (inputs : told_files → AreInputs files s p w blocks r) where
   pub paid_on : (f : PlainFunded) (report log bytes : List ℕ) (g : HasGone told_files told_jobs files s p o (held_of w blocks) r st (answers.Funded f)) → IsLogText bytes g.gone.log → IsPayment (plan_of (held_of w blocks) r) f
-      → IsPsbt (psbt_of (history_of w blocks) r w.change f) → ShowsCoins f.coins (psbt_of (history_of w blocks) r w.change f)
+      → IsPsbt (psbt_of (history_of w blocks) r w.change f) → ShowsCoins f.coins (psbt_of (history_of w blocks) r w.change f) → ReplacesIf w (history_of w blocks) r f
       → report ≡ report_of (history_of w blocks) r w.change st.stand.past.tries f → log ≡ logs.text_of (log_in st) → IsFunded told_files told_jobs files s p o report log
-  paid_on f report log bytes g text pays psbt shows report_is log_is = record {
+  paid_on f report log bytes g text pays psbt shows replaces report_is log_is = record {
     wallet = w;
     blocks = blocks;
     asked = r;
@@ -44,10 +45,11 @@ module _ (told_files told_jobs : Type 0) (files : List ℕ → List ℕ) (s : So
     state = st;
     gone = g;
     pays = pays;
-    eligible = payment_eligible (plan_of (held_of w blocks) r) f g.rules pays;
+    eligible = payment_may (plan_of (held_of w blocks) r) f g.rules pays;
     claims = claims_payment told_jobs (plan_of (held_of w blocks) r) g.digest o r.tries st f g.gone g.rules g.steps;
     psbt = psbt;
     shows = shows;
+    replaces = replaces;
     reports = report_is;
     logs = log_is;
     reads =

@@ -17,7 +17,6 @@ use Rattle.command_fund.specs.Due.{plan_of}
 use Rattle.command_fund.specs.Inputs.{AsksTwice}
 use Rattle.command_fund.specs.Jobs.{KeepsJobs}
 use Rattle.command_fund.specs.Names.{Payment}
-use Rattle.command_fund.specs.Statuses.{IsLogLost}
 use Rattle.command_resume.proofs.UninterruptedLaws.{told_gone}
 use Rattle.command_resume.specs.Due.{AreReady}
 use Rattle.command_resume.specs.Endings.{IsLeftBy}

@@ -1,7 +1,8 @@
 -- How a request ends whose plan went on from a job.
-use Rattle.std.proofs.Common.{◌≡◌, ◌∙◌, ℕ, ◌≤◌, ◌+◌, List, ◌∷◌, Option, sym, subst, arith, All, Contains}
+use Rattle.std.proofs.Common.{◌≡◌, ◌∙◌, ℕ, ◌≤◌, ◌+◌, List, ◌∷◌, Option, None, sym, subst, arith, All}
 use Rattle.block_feed.specs.Block.{ChainBlock}
 use Rattle.closing_log.specs.declared.log.Stage.{Stage}
+use Rattle.coin_book.specs.Faults.{fault_of as book_fault}
 use Rattle.closing_log.specs.declared.log.Stage.TheVariants.{Presets, Changeless, LeanBig, Draw, LeanSmall, Wide}
 use Rattle.fund_outside.specs.Kept.{KeptJob}
 use Rattle.fund_plan.specs.Answer.{ArePayments, HasSelection, IsPayment, IsSelection}
@@ -12,11 +13,12 @@ use Rattle.fund_plan.specs.declared.outcome.Outcome.{Outcome as Answer}
 use Rattle.fund_plan.specs.declared.outcome.Outcome.TheVariants as answers
 use Rattle.fund_report.specs.ReportText.{IsRead}
 use Rattle.fund_steps.specs.Plan.{IsPlan}
+use Rattle.payment_states.specs.Makers.{HasMaker}
 use Rattle.pick_problem.specs.Problem.{PlainProblem}
 use Rattle.request_text.specs.PlainRequest.{PlainRequest}
 use Rattle.search_run.specs.Step.{AreSteps, FitsStage, IsStep, PlainStep}
 use Rattle.wallet_text.specs.PlainWallet.{PlainWallet}
-use Rattle.fund_files.specs.Chain.{held_of}
+use Rattle.fund_files.specs.Chain.{IsHeld, held_of}
 use Rattle.fund_files.specs.declared.held.Held.{Held}
 use Rattle.kept_job.proofs.KeepingLaws.{can_keep_on, step_on}
 use Rattle.kept_job.proofs.ResumedLaws.{claims_open}
@@ -26,10 +28,13 @@ use Rattle.kept_job.specs.SavingRules.{CanBeKept}
 use Rattle.kept_job.specs.declared.resuming.Resumed.{Resumed}
 use Rattle.command_end.specs.Names.{Sources}
 use Rattle.command_fund.specs.Digest.{digest_in}
-use Rattle.command_fund.specs.Due.{candidates_in, open_report, plan_of}
+use Rattle.command_fund.specs.Due.{bump_fault_in, open_report, plan_of}
 use Rattle.command_fund.specs.Inputs.{AreInputs}
 use Rattle.command_fund.specs.Names.{Payment}
 use Rattle.command_fund.specs.PlanEnds.{IsOpenAt, IsOpenReport}
+use Rattle.command_fund.specs.Replacing.{ReplacesIf}
+use Rattle.command_fund.proofs.ReplaceLaws.{replaces_named}
+use Rattle.command_fund.proofs.TermsLaws.{spent_made}
 use Rattle.command_resume.specs.Endings.{CanBeLeft, IsEnded}
 use Rattle.command_resume.specs.Resumed.{HasGone}
 use Rattle.command_resume.specs.Runs.{IsConcluded, IsRunOn, IsStillOpen}
@@ -80,9 +85,13 @@ fits_on k r run f h is = subst (HasSelection r) is h.fits
 pub pays_on : (k : Held) (r : PlainRequest) (run : Run) (f : PlainFunded) → IsRunOn k r run → run.resumed.outcome ≡ answers.Funded f → IsPayment (plan_of k r) f
 pays_on k r run f h is = subst (ArePayments (plan_of k r)) is h.pays
 
--- the coins of a payment are candidates of the chain
-pub coins_on : (k : Held) (r : PlainRequest) (run : Run) (f : PlainFunded) → IsRunOn k r run → run.resumed.outcome ≡ answers.Funded f → All (Contains (candidates_in k)) f.coins
-coins_on k r run f h is = (pays_on k r run f h is).candidates
+-- the book has the transactions that made the coins of a payment
+pub coins_on : (k : Held) (r : PlainRequest) (run : Run) (f : PlainFunded) → IsHeld k → book_fault k.book ≡ None → IsRunOn k r run → run.resumed.outcome ≡ answers.Funded f → All (HasMaker k.book) f.coins
+coins_on k r run f held sound h is = spent_made k r held sound f.coins (pays_on k r run f h is).candidates
+
+-- where the request names a payment, it replaces that
+pub replaces_on : (k : Held) (r : PlainRequest) (run : Run) (f : PlainFunded) → IsHeld k → book_fault k.book ≡ None → bump_fault_in k r ≡ None → IsRunOn k r run → run.resumed.outcome ≡ answers.Funded f → ReplacesIf k.wallet k.book r f
+replaces_on k r run f held sound clear h is = replaces_named k r f held sound clear h.rules (pays_on k r run f h is)
 
 -- what is said of a run whatever is told of the jobs
 pub untold : (told_jobs : Type 0) (k : Held) (r : PlainRequest) (now : List ℕ) (o : Option KeptJob) (st : PlanState) (x : Resumed) → HasResumed told_jobs (plan_of k r) now o r.tries st x → HasResumed ⊥ (plan_of k r) now o r.tries st x
@@ -155,4 +164,4 @@ module _ (told_files told_jobs : Type 0) (files : List ℕ → List ℕ) (s : So
       unpaid_on told_files told_jobs files s p o w blocks r run.plan inputs texts.report.items texts.log.items resumed.read.0 (went answers.NoSelection c.is) resumed.read.1 c.reports c.told c.logs
   ended_on (endings.Funded texts) c =
       paid_on told_files told_jobs files s p o w blocks r run.plan inputs c.funded texts.report.items texts.log.items resumed.read.0 (went (answers.Funded c.funded) c.is) resumed.read.1 (subst (ArePayments (plan_of (held_of w blocks) r)) c.is pays)
-      c.psbt c.shows c.reports c.logs
+      c.psbt c.shows c.replaces c.reports c.logs

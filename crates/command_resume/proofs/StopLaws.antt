@@ -15,7 +15,7 @@ use Rattle.command_end.specs.Lines.{GotLine, fault_line, status_of_file}
 use Rattle.command_end.specs.Names.{Sources}
 use Rattle.command_end.specs.declared.status.Status.{Status}
 use Rattle.command_end.specs.declared.status.Status.TheVariants as statuses
-use Rattle.command_fund.specs.Cause.{Cause, Files, BumpNotYet, Plan, cause_of, status_of_cause, status_of_plan}
+use Rattle.command_fund.specs.Cause.{Cause, Files, Bump, Plan, cause_of, status_of_cause, status_of_plan}
 use Rattle.command_fund.specs.Meant.{IsDue}
 use Rattle.command_fund.specs.Names.{Payment}
 use Rattle.command_fund.specs.Stops as fund_stops
@@ -47,7 +47,7 @@ plan_status plans.Memory = inl refl
 
 refusal_status : (cause : Cause) → (status_of_cause cause ≡ statuses.Input) ⊎ (status_of_cause cause ≡ statuses.Limit)
 refusal_status (Files cause) = file_status cause
-refusal_status BumpNotYet = inl refl
+refusal_status (Bump fault) = inl refl
 refusal_status (Plan fault) = plan_status fault
 
 module _ (told_files told told_jobs : Type 0) (s : Sources) (p : Payment) (job : List ℕ) where

@@ -6,7 +6,6 @@ use Rattle.fund_outside.specs.Kept.{KeptJob}
 use Rattle.fund_plan.specs.Outcome.{by_end, end_at, is_partial, log_at, outcome_at, stand_after, tries_at}
 use Rattle.fund_plan.specs.Resumed.{log_in}
 use Rattle.fund_plan.specs.State.{PlanState, end_in, told}
-use Rattle.fund_plan.specs.Steps.{steps_of}
 use Rattle.fund_plan.specs.declared.outcome.Outcome.{Outcome as Answer}
 use Rattle.fund_plan.specs.declared.outcome.Outcome.TheVariants as answers
 use Rattle.fund_steps.proofs.FaultLaws.{none_found}
@@ -17,7 +16,7 @@ use Rattle.fund_report.specs.declared.report.Report.TheVariants as kinds
 use Rattle.request_text.specs.PlainRequest.{PlainRequest}
 use Rattle.search_run.specs.Kept.{log_of, tail_of}
 use Rattle.search_run.specs.Run.{Stand}
-use Rattle.search_run.specs.Step.{AreSteps, PlainStep}
+use Rattle.search_run.specs.Step.{PlainStep}
 use Rattle.search_run.specs.declared.ending.End.{End}
 use Rattle.search_run.specs.declared.ending.End.TheVariants as ends
 use Rattle.fund_files.specs.declared.held.Held.{Held}

@@ -14,7 +14,8 @@ use Rattle.fund_plan.specs.declared.outcome.Outcome.{Outcome as Answer}
 use Rattle.fund_plan.specs.declared.outcome.Outcome.TheVariants as answers
 use Rattle.fund_report.specs.ReportText.{IsReportText}
 use Rattle.fund_report.specs.declared.report.Report.TheVariants as kinds
-use Rattle.fund_steps.specs.Plan.{IsEligible, IsPlan}
+use Rattle.fund_steps.specs.Listed.{MaySpend}
+use Rattle.fund_steps.specs.Plan.{IsPlan}
 use Rattle.psbt_codec.specs.Psbt.{IsPsbt}
 use Rattle.request_text.specs.PlainRequest.{PlainRequest}
 use Rattle.search_run.specs.Step.{AreSteps}
@@ -32,6 +33,7 @@ use Rattle.command_fund.specs.Due.{Funded, NoSelection, Unfinished, none_report,
 use Rattle.command_fund.specs.Due as payments
 use Rattle.command_fund.specs.Inputs.{AreInputs}
 use Rattle.command_fund.specs.Names.{Payment}
+use Rattle.command_fund.specs.Replacing.{ReplacesIf}
 
 -- ---- what is gone on with
 
@@ -54,9 +56,9 @@ IsUninterrupted told_files told_jobs files s p o k r due =
 -- ---- how it ends
 
 -- A wallet, blocks and a request with a payment, to which a run came that went on from the job. As for a payment without a
--- stop: its coins are eligible, the transaction pays each recipient and at least the fee, and a signer is shown its coins.
--- What its mark claims is so, whatever the keeper returned. The log is the whole log of the job; its bytes are a text of it, which
--- says that it is ended.
+-- stop: its coins are eligible or those of a payment that is replaced, which is done by the rules of BIP 125; the transaction
+-- pays each recipient and at least the fee, and a signer is shown its coins. What its mark claims is so, whatever the keeper
+-- returned. The log is the whole log of the job; its bytes are a text of it, which says that it is ended.
 pub record IsFunded (told_files told_jobs : Type 0) (files : List ℕ → List ℕ) (s : Sources) (p : Payment) (o : Option KeptJob) (report log : List ℕ) : Type 0 where
   pub wallet : PlainWallet
   pub blocks : List ChainBlock
@@ -66,7 +68,8 @@ pub record IsFunded (told_files told_jobs : Type 0) (files : List ℕ → List �
   pub state : PlanState
   pub gone : HasGone told_files told_jobs files s p o (held_of wallet blocks) asked state (answers.Funded funded)
   pub pays : IsPayment (plan_of (held_of wallet blocks) asked) funded
-  pub eligible : All (IsEligible (plan_of (held_of wallet blocks) asked)) funded.coins
+  pub eligible : All (MaySpend (plan_of (held_of wallet blocks) asked)) funded.coins
+  pub replaces : ReplacesIf wallet (history_of wallet blocks) asked funded
   pub claims : ClaimsOn (plan_of (held_of wallet blocks) asked) gone.gone.saved.tries asked.tries state funded
   pub psbt : IsPsbt (psbt_of (history_of wallet blocks) asked wallet.change funded)
   pub shows : ShowsCoins funded.coins (psbt_of (history_of wallet blocks) asked wallet.change funded)

@@ -19,6 +19,7 @@ use Rattle.fund_payment.specs.Shown.{ShowsCoins}
 use Rattle.kept_job.specs.Resuming.{HasResumed}
 use Rattle.command_fund.specs.Due.{none_report, open_report, plan_of}
 use Rattle.command_fund.specs.PlanEnds.{IsOpenReport}
+use Rattle.command_fund.specs.Replacing.{ReplacesIf}
 use Rattle.command_resume.specs.Endings.{CanBeLeft}
 use Rattle.command_resume.specs.declared.resuming.Ending.{Ending}
 use Rattle.command_resume.specs.declared.resuming.Ending.TheVariants as endings
@@ -40,6 +41,7 @@ pub record IsPaid (k : Held) (r : PlainRequest) (run : Run) (report log : List �
   pub is : run.resumed.outcome ≡ answers.Funded funded
   pub psbt : IsPsbt (psbt_of k.book r k.wallet.change funded)
   pub shows : ShowsCoins funded.coins (psbt_of k.book r k.wallet.change funded)
+  pub replaces : ReplacesIf k.wallet k.book r funded
   pub reports : report ≡ report_of k.book r k.wallet.change run.plan.stand.past.tries funded
   pub logs : log ≡ logs.text_of (log_in run.plan)
 

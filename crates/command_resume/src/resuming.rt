@@ -1,10 +1,11 @@
 //! How a request ends that is gone on with from a kept job.
 
-ghost use Rattle.std.specs.Prelude.{◌≡◌, ◌≢◌, ◌≤◌, Err, IfErr, IfOk, IsErrOf};
+ghost use Rattle.std.specs.Prelude.{◌≡◌, ◌≢◌, ◌≤◌, Err, IfErr, IfOk, IsErrOf, None};
 ghost use Rattle.fund_base.specs.Causes.{OnlyReads, Rose};
 ghost use Rattle.fund_files.specs.Chain.{IsHeld};
 ghost use Rattle.fund_files.specs.declared.refusal.File.{File};
 ghost use Rattle.command_end.specs.Names.{plain_sources};
+ghost use Rattle.command_fund.specs.Due.{bump_fault_in};
 ghost use Rattle.command_fund.specs.Inputs.{AsksTwice, NoneBehind};
 ghost use Rattle.command_fund.specs.Names.{plain_payment};
 ghost use Rattle.command_fund.specs.Stops as payments;
@@ -69,6 +70,7 @@ struct Ready {
 /// How the request ends after this run of its plan. The error is out of memory.
 fn ends(alloc: Global, held: &Held, request: &Request, run: Run) -> Result<Ending, Memory>
     requires held { IsHeld held.now }
+    requires taken { bump_fault_in held.now request.now ≡ None }
     requires run { IsRunOn held.now request.now run }
     ensures { IfOk result (IsConcluded held.now request.now run) }
 {
@@ -98,6 +100,8 @@ fn ends(alloc: Global, held: &Held, request: &Request, run: Run) -> Result<Endin
             Ok(Ending::NoSelection(texts))
         }
         Outcome::Funded(funded) => {
+            // no book has a history with a fault
+            held.book.len();
             let texts = paid_texts(alloc, held, request, &plan, &funded)?;
             Ok(Ending::Funded(texts))
         }
@@ -118,8 +122,12 @@ fn prepare<H: Shelf>(
     ensures none_behind { H.tells → NoneBehind (plain_sources sources.now) (H.view shelf.old) (H.view shelf.new) }
     ensures all_read { ((file : File) → result ≢ Err (FundStop.Read file)) → (H.view shelf.new).reads ≡ (H.view shelf.old).reads }
 {
-    let Inputs { held, request } = read_inputs(alloc, sources, payment, shelf)?;
-    let plan = new_plan(alloc, &held, &request)?;
+    let Inputs {
+        held,
+        request,
+        terms,
+    } = read_inputs(alloc, sources, payment, shelf)?;
+    let plan = new_plan(alloc, &held, &request, terms)?;
     plan.keeps_rules();
     plan.keeps_steps();
     let digest = read_digest(alloc, sources, payment, shelf)?;
@@ -139,6 +147,7 @@ fn run_on<K: Keeper>(
     job: &str,
 ) -> Result<Ending, KeptFault>
     requires held { IsHeld ready.held }
+    requires taken { bump_fault_in ready.held ready.request ≡ None }
     requires plan { IsPlanned ready }
     ensures ends { IfOk result (HasEnded K.tells ready ((K.view keeper.old).jobs job.now)) }
     ensures fault { K.tells → IfErr result (IsNotResumed ready.plan.plan ready.digest ((K.view keeper.old).jobs job.now) ready.request.tries) }

@@ -15,6 +15,7 @@ use Rattle.coin_book.specs.History.{History}
 use Rattle.coin_book.specs.declared.coin.Coin.{Coin}
 use Rattle.payment_states.proofs.FitSteps.{fit}
 use Rattle.payment_states.specs.BookOf.{IsBookOf}
+use Rattle.fund_steps.proofs.BumpLaws.{no_bump}
 use Rattle.payment_states.specs.Candidates.{candidate_at, candidate_of, candidates_of, is_candidate}
 use Rattle.payment_states.specs.PendingView.{place_in}
 use Rattle.output_groups.specs.Forming.{alone}
@@ -127,7 +128,7 @@ load_roomy number count most row = λ n keeps.
 pub load_keeps : (number count : ℕ) → 1 ≤ count → count ≤ 10_000 → AreDistinctEarlier (earlier_of number count) → IsPlan (load_plan number count)
 load_keeps number count some most distinct = record {
   request = load_request number count some most;
-  bump = refl;
+  bump = no_bump (request_of number count) (load_plan number count).candidates refl;
   change = (load_wallet number count distinct).change;
   candidates = load_candidates number count most distinct;
   within = load_within number count most;

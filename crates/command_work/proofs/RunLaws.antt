@@ -23,7 +23,7 @@ use Rattle.fund_files.specs.declared.stop.Stop.{Stop as FileStop}
 use Rattle.fund_files.specs.declared.stop.Stop.TheVariants as file_stops
 use Rattle.command_end.specs.declared.status.Status.{Status}
 use Rattle.command_end.specs.declared.status.Status.TheVariants as statuses
-use Rattle.command_fund.specs.Cause.{Cause, Files, BumpNotYet, Plan, cause_of}
+use Rattle.command_fund.specs.Cause.{Cause, Files, Bump, Plan, cause_of}
 use Rattle.command_fund.specs.PlanEnds.{IsConcluded, IsOpen, IsPaid, IsUnpaid, MeansFault, StopsPlan}
 use Rattle.fund_steps.specs.Plan.{IsPlan}
 use Rattle.command_fund.specs.Stops.{lifted}
@@ -37,6 +37,10 @@ use Rattle.command_work.specs.Statuses.{IsFunded, IsNotFunded, IsSummary, IsUnfi
 use Rattle.command_work.specs.Stops.{IsRun, StopsLoad}
 use Rattle.command_work.specs.declared.running.Run.{Run}
 use Rattle.command_work.proofs.BookLaws.{load_sound}
+use Rattle.std.proofs.lemmas.List.Elements.{All-weaker}
+use Rattle.fund_steps.proofs.BumpLaws.{may_plain}
+use Rattle.fund_steps.specs.Listed.{MaySpend}
+use Rattle.fund_steps.specs.Plan.{IsEligible}
 use Rattle.command_work.proofs.DueLaws.{distinct_due}
 use Rattle.command_work.proofs.PlanLaws.{load_unrefused}
 
@@ -70,7 +74,7 @@ run_paid number count report log summary distinct h is = record {
   plan = h.0;
   outcome = h.1.outcome;
   pays = h.1.pays;
-  eligible = h.1.eligible;
+  eligible = All-weaker (MaySpend (load_plan number count)) (IsEligible (load_plan number count)) (λ c may. may_plain (load_plan number count) c refl may) h.1.funded.coins h.1.eligible;
   claims = h.1.claims;
   psbt = h.1.psbt;
   shows = h.1.shows;
@@ -132,7 +136,7 @@ hold_stops number count w file_stops.Memory most distinct is h = tt
 
 no_means : (number count : ℕ) (cause : Cause) → 1 ≤ count → count ≤ 10_000 → AreDistinctEarlier (earlier_of number count) → MeansFault (load_of number count) (request_of number count) cause → ⊥
 no_means number count (Files cause) some most distinct m = m
-no_means number count BumpNotYet some most distinct m = m
+no_means number count (Bump fault) some most distinct m = m
 no_means number count (Plan fault) some most distinct m = load_unrefused number count fault some most distinct m.0 m.1
 
 stops_at : (number count : ℕ) (stop : Stop) → 1 ≤ count → count ≤ 10_000 → AreDistinctEarlier (earlier_of number count) → StopsPlan (load_of number count) (request_of number count) stop → StopsLoad number count stop

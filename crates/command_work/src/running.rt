@@ -64,7 +64,7 @@ fn conclude_load(alloc: Global, number: u64, count: u32) -> Result<Ending, Stop>
 {
     let Workload { wallet, request } = load(alloc, number, count)?;
     let held = hold(alloc, wallet)?;
-    conclude(alloc, &held, &request)
+    conclude(alloc, &held, &request, None)
 }
 
 /// The summary of a report with this text, and the status of its run. The error is out of memory.

@@ -9,7 +9,7 @@ use Rattle.search_run.specs.Step.{PlainStep}
 use Rattle.search_run.specs.declared.ending.End.{End}
 use Rattle.search_run.specs.declared.ending.End.TheVariants as ends
 use Rattle.fund_steps.specs.Plan.{PlainPlan}
-use Rattle.fund_steps.specs.Listed.{presets_in}
+use Rattle.fund_steps.specs.Listed.{burden_in, presets_in}
 use Rattle.fund_steps.specs.Presets.{presets_of}
 use Rattle.fund_steps.specs.Terms.{load_of, rates_of}
 use Rattle.fund_steps.specs.declared.presets.Presets.{Presets}
@@ -157,7 +157,7 @@ spent_none s n spent = by (moved s n).partial refl
 
 given_ends : (p : PlainPlan) → is_unfinished (given_of p) ≡ false
 unfolding given_of
-given_ends p = by (presets_of (rates_of p.request) (load_of p.request p.change (presets_in p)))
+given_ends p = by (presets_of (rates_of p.request) (load_of p.request p.change (presets_in p) (burden_in p)))
   where
     by : (x : Presets) → is_unfinished (by_presets p x) ≡ false
     by presets.Short = refl

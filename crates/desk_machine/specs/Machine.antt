@@ -58,7 +58,7 @@ with_committed d committed = record { held = d.held; committed = committed; jobs
 
 -- what a job is opened with: the coins that may be spent now, but for those of committed payments
 abbrev pub plan_in : PlainDesk → PlainRequest → PlainPlan
-plan_in d r = record { request = r; change = d.held.wallet.change; candidates = free_in d }
+plan_in d r = record { request = r; change = d.held.wallet.change; candidates = free_in d; bump = None }
 
 abbrev pub by_fault : PlainPlan → Option PlanFault → Result PlainPlan Refusal
 by_fault p (Some fault) = Err (BadPlan fault)

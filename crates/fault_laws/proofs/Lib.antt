@@ -1,3 +1,4 @@
+pub mod BumpFaults
 pub mod FileFaults
 pub mod OtherFaults
 pub mod ReadBack

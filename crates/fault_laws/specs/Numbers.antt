@@ -1,12 +1,16 @@
 -- The numbers of a fault have 128 bits at most, and its hashes 32 bytes, as those of every fault of the program do.
-use Rattle.std.specs.Prelude.{ℕ, ◌<◌, ◌^◌}
+use Rattle.std.specs.Prelude.{ℕ, ◌<◌, ◌^◌, IfSome}
 use Rattle.block_feed.specs.declared.fault.FeedFault.{FeedFault}
 use Rattle.block_feed.specs.declared.fault.FeedFault.TheVariants as feeds
+use Rattle.fee_bump.specs.declared.fault.BumpFault.{BumpFault}
+use Rattle.fee_bump.specs.declared.fault.BumpFault.TheVariants as bumps
 use Rattle.fund_steps.specs.declared.fault.PlanFault.{PlanFault}
 use Rattle.fund_steps.specs.declared.fault.PlanFault.TheVariants as plans
 use Rattle.json_fields.specs.Fields.{IsHash, IsPoint}
 use Rattle.log_checker.specs.declared.fault.LogFault.{LogFault}
 use Rattle.log_checker.specs.declared.fault.LogFault.TheVariants as logs
+use Rattle.payment_states.specs.declared.state.State.{State}
+use Rattle.payment_states.specs.declared.state.State.TheVariants as states
 use Rattle.psbt_codec.specs.declared.fault.PsbtFault.{PsbtFault}
 use Rattle.psbt_codec.specs.declared.fault.PsbtFault.TheVariants as psbts
 use Rattle.request_text.specs.declared.fault.RequestFault.{RequestFault}
@@ -71,6 +75,19 @@ HasPsbtNumbers (psbts.Version version) = IsNumber version
 HasPsbtNumbers (psbts.WrongParent input) = IsNumber input
 HasPsbtNumbers (psbts.Trailing place) = IsNumber place
 HasPsbtNumbers _ = Unit {0}
+
+abbrev pub HasStateNumbers : State → Type 0
+HasStateNumbers (states.Confirmed height) = IsNumber height
+HasStateNumbers (states.Conflicted txid) = IsHash txid
+HasStateNumbers (states.Replaced txid) = IsHash txid
+HasStateNumbers _ = Unit {0}
+
+abbrev pub HasBumpNumbers : BumpFault → Type 0
+HasBumpNumbers (bumps.NotPending found) = IfSome found HasStateNumbers
+HasBumpNumbers (bumps.ForeignInput coin) = IsPoint coin
+HasBumpNumbers (bumps.TooManyEvicted n) = IsNumber n
+HasBumpNumbers (bumps.RateNotHigher fee vsize) = IsNumber fee × IsNumber vsize
+HasBumpNumbers _ = Unit {0}
 
 abbrev pub HasPlanNumbers : PlanFault → Type 0
 HasPlanNumbers (plans.Total sum) = IsNumber sum

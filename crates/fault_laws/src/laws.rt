@@ -3,6 +3,7 @@
 
 ghost use Rattle.std.specs.Prelude.{◌≡◌, ◌⊎◌, ℕ, List, Some, codes};
 ghost use Rattle.block_feed.specs.declared.fault.FeedFault.{FeedFault};
+ghost use Rattle.fee_bump.specs.declared.fault.BumpFault.{BumpFault};
 ghost use Rattle.fund_base.specs.declared.outpoint.OutPoint.{OutPoint};
 ghost use Rattle.fund_steps.specs.declared.fault.PlanFault.{PlanFault};
 ghost use Rattle.fund_steps.specs.declared.fault.PlanFault.TheVariants.{TooMany};
@@ -17,8 +18,8 @@ ghost use Rattle.tx_codec.specs.declared.fault.TxFault.{TxFault};
 ghost use Rattle.wallet_text.specs.Told.{refusal_of};
 ghost use Rattle.wallet_text.specs.declared.fault.WalletFault.{WalletFault};
 ghost use Rattle.fault_text.specs.Coin.{coin_text, shown_hash};
-ghost use Rattle.fault_text.specs.Words.{address_fault_words, feed_fault_words, log_fault_words, plan_fault_words, psbt_fault_words, request_fault_words, tx_fault_words, wallet_fault_words};
-ghost use Rattle.fault_laws.specs.Numbers.{HasFeedNumbers, HasLogNumbers, HasPlanNumbers, HasPsbtNumbers, HasRequestNumbers, HasTxNumbers, HasWalletNumbers};
+ghost use Rattle.fault_text.specs.Words.{address_fault_words, bump_fault_words, feed_fault_words, log_fault_words, plan_fault_words, psbt_fault_words, request_fault_words, tx_fault_words, wallet_fault_words};
+ghost use Rattle.fault_laws.specs.Numbers.{HasBumpNumbers, HasFeedNumbers, HasLogNumbers, HasPlanNumbers, HasPsbtNumbers, HasRequestNumbers, HasTxNumbers, HasWalletNumbers};
 
 /// The law of the words of a transaction's faults: two that are printed alike are the same, with the same field.
 pub fn transaction_faults_are_told_apart()
@@ -53,6 +54,11 @@ pub fn log_faults_are_told_apart()
 /// The law of the words of a PSBT's faults: two that are printed alike are the same, with the same field.
 pub fn psbt_faults_are_told_apart()
     ensures { (a b : PsbtFault) → HasPsbtNumbers a → HasPsbtNumbers b → psbt_fault_words a ≡ psbt_fault_words b → a ≡ b }
+{}
+
+/// The law of the words of why a payment isn't replaced: two that are printed alike are the same, with the same fields.
+pub fn bump_faults_are_told_apart()
+    ensures { (a b : BumpFault) → HasBumpNumbers a → HasBumpNumbers b → bump_fault_words a ≡ bump_fault_words b → a ≡ b }
 {}
 
 /// The law of the words of a plan's faults: two that are printed alike are the same, with the same field, or both say

@@ -1,5 +1,5 @@
 -- The sentence of each fault: what it may be, and what to do. docs/TROUBLES.md has them word for word.
-use Rattle.std.specs.Prelude.{ℕ, List, bytes_eq, codes, string_bytes, if◌then◌else◌}
+use Rattle.std.specs.Prelude.{ℕ, List, Option, Some, None, bytes_eq, codes, string_bytes, if◌then◌else◌}
 use Rattle.tx_codec.specs.declared.fault.TxFault.{TxFault}
 use Rattle.tx_codec.specs.declared.fault.TxFault.TheVariants as txs
 use Rattle.block_feed.specs.declared.fault.FeedFault.{FeedFault}
@@ -10,12 +10,18 @@ use Rattle.wallet_text.specs.declared.fault.WalletFault.{WalletFault}
 use Rattle.wallet_text.specs.declared.fault.WalletFault.TheVariants as wallets
 use Rattle.request_text.specs.declared.fault.RequestFault.{RequestFault}
 use Rattle.request_text.specs.declared.fault.RequestFault.TheVariants as requests
+use Rattle.fee_bump.specs.declared.fault.BumpFault.{BumpFault}
+use Rattle.fee_bump.specs.declared.fault.BumpFault.TheVariants as bumps
+use Rattle.payment_states.specs.declared.state.State.{State}
+use Rattle.payment_states.specs.declared.state.State.TheVariants as states
 use Rattle.fund_steps.specs.declared.fault.PlanFault.{PlanFault}
 use Rattle.fund_steps.specs.declared.fault.PlanFault.TheVariants as plans
 use Rattle.kept_job.specs.declared.fault.KeptFault.{KeptFault}
 use Rattle.kept_job.specs.declared.fault.KeptFault.TheVariants as jobs
 use Rattle.report_check.specs.declared.fault.CheckFault.{CheckFault}
 use Rattle.report_check.specs.declared.fault.CheckFault.TheVariants as checks
+use Rattle.psbt_codec.specs.declared.fault.PsbtFault.{PsbtFault}
+use Rattle.psbt_codec.specs.declared.fault.PsbtFault.TheVariants as psbts
 use Rattle.fault_sentences.specs.declared.stop.Stop.{Stop}
 use Rattle.fault_sentences.specs.declared.stop.Stop.TheVariants as stops
 
@@ -27,13 +33,14 @@ stop_sentence stops.Write = codes "LOG was not written: its folder is missing or
 stop_sentence stops.Keep = codes "The file of jobs was not read or written: another command holds it, it is something else, or the disk is full; run it again."
 stop_sentence stops.Memory = codes "The machine has too little memory: try again with less beside it."
 stop_sentence stops.WalletLimit = codes "The wallet file is above 16 MiB: leave out earlier transactions whose outputs are spent."
-stop_sentence stops.BlocksLimit = codes "The block file is above 1 GiB: give fewer blocks, raise height and hash of the wallet file, and put what it got in the others into earlier."
+stop_sentence stops.BlocksLimit = codes "The block file is above 1 GiB, or above 64 MiB in a script: give the last blocks alone, raise height and hash, and put older transactions into earlier."
 stop_sentence stops.RequestLimit = codes "The request file is above 1 MiB: pay fewer recipients at once."
 stop_sentence stops.CoinsLimit = codes "There are more than 100,000 coins, spent ones among them: leave out earlier transactions whose outputs are spent."
 stop_sentence stops.ReportLimit = codes "The report is above 64 MiB: give the report that was printed."
-stop_sentence stops.LogLimit = codes "The log is above 64 MiB: give LOG as it was written."
+stop_sentence stops.LogLimit = codes "The log is above 64 MiB: give LOG as it was written, or where a job is gone on with, begin anew under another name."
+stop_sentence stops.ScriptLimit = codes "The script of the desk is above 16 MiB: cut it into several."
+stop_sentence stops.PsbtLimit = codes "The PSBT file is above 64 MiB: give the PSBT that was printed."
 stop_sentence stops.RepeatCoin = codes "A transaction stands in earlier and in a block too: leave it out of earlier."
-stop_sentence stops.BumpNotYet = codes "Payments are not replaced yet: wait, or build a payment by hand."
 
 -- a fault of a transaction
 unfoldable pub tx_sentence : TxFault → List ℕ
@@ -82,16 +89,28 @@ wallet_kind_sentence name =
     if bytes_eq name (codes "height") then codes "A height of the wallet file is no whole number, or one of earlier is above the wallet: give that block as a block, or raise height and hash together." else
     codes "The member of this name in the wallet file is not what has to stand there: see the table of the wallet file."
 
+-- a member of a name that isn't known
+unfoldable pub wallet_member_sentence : List ℕ
+wallet_member_sentence = codes "The wallet file has a member of a name that is not known: take it out, or spell it as the table of the wallet file does."
+
+-- a member that has to be there isn't
+unfoldable pub wallet_missing_sentence : List ℕ
+wallet_missing_sentence = codes "The wallet file lacks the member of this name: give it."
+
+-- a transaction stands before it in its list
+unfoldable pub wallet_repeat_sentence : List ℕ
+wallet_repeat_sentence = codes "The transaction at this index stands before it in the same list: take it out."
+
 -- a fault of a wallet file
 unfoldable pub wallet_sentence : WalletFault → List ℕ
 wallet_sentence wallets.NotJson = codes "The wallet file is no JSON text: python3 -m json.tool FILE names the line; save it as UTF-8 without a byte order mark."
 wallet_sentence (wallets.Kind name) = wallet_kind_sentence (string_bytes name)
-wallet_sentence (wallets.Member name) = codes "The wallet file has a member of a name that is not known: take it out, or spell it as the table of the wallet file does."
-wallet_sentence (wallets.Missing name) = codes "The wallet file lacks the member of this name: give it."
+wallet_sentence (wallets.Member name) = wallet_member_sentence
+wallet_sentence (wallets.Missing name) = wallet_missing_sentence
 wallet_sentence (wallets.Script index) = codes "The script at this index stands there twice, is empty, or is longer than 10,000 bytes: take it out; one past the last script means change."
 wallet_sentence (wallets.Weight index) = codes "The weight at this index is out of 165 to 400,000: give weight units and not virtual bytes; one past the last script means change."
 wallet_sentence (wallets.Tx list index fault) = tx_sentence fault
-wallet_sentence (wallets.Repeat list index) = codes "The transaction at this index stands before it in the same list: take it out."
+wallet_sentence (wallets.Repeat list index) = wallet_repeat_sentence
 wallet_sentence (wallets.ParentLater index) = codes "In pending a child stands before its parent: put the parent first."
 wallet_sentence wallets.Memory = stop_sentence stops.Memory
 
@@ -101,7 +120,7 @@ request_kind_sentence name =
     if bytes_eq name (codes "root") then codes "The request file is JSON and no object: it has to begin with a brace and name its members." else
     if bytes_eq name (codes "amount") then codes "An amount is no whole number of satoshi: write it without a point and without quotes." else
     if bytes_eq name (codes "rate") then codes "The rate is no whole number of satoshi per 1,000 virtual bytes: multiply satoshi per virtual byte by 1,000." else
-    if bytes_eq name (codes "coins") then codes "A coin is not spelled as TXID:INDEX in quotes." else
+    if bytes_eq name (codes "coins") then codes "A coin is not spelled as TXID:INDEX: copy it from what coins prints." else
     if bytes_eq name (codes "method") then codes "The method is not known: auto, changeless, weight, draw and manual are." else
     if bytes_eq name (codes "seed") then codes "The seed is not 64 hex digits: openssl rand -hex 32 prints such." else
     if bytes_eq name (codes "when_unfinished") then codes "What is done when tries are used up is neither take nor stop: write one of these." else
@@ -113,22 +132,53 @@ request_member_sentence name =
     if bytes_eq name (codes "coins") then codes "The request lists coins and names a payment to be replaced: leave one of the two out." else
     codes "The request file has a member of a name that is not known: take it out, or spell it as the table of the request file does."
 
+-- a member that has to be there isn't
+unfoldable pub request_missing_sentence : List ℕ
+request_missing_sentence = codes "The request file lacks the member of this name: give it; the methods auto and draw need a seed of 64 hex digits."
+
+-- a rate is above its range
+unfoldable pub rate_range_sentence : List ℕ
+rate_range_sentence = codes "The rate of this name is above 100,000 satoshi per virtual byte: give less."
+
 -- a fault of a request file
 unfoldable pub request_sentence : RequestFault → List ℕ
 request_sentence requests.NotJson = codes "The request file is no JSON text: python3 -m json.tool FILE names the line; save it as UTF-8 without a byte order mark."
 request_sentence (requests.Kind name) = request_kind_sentence (string_bytes name)
 request_sentence (requests.Member name) = request_member_sentence (string_bytes name)
-request_sentence (requests.Missing name) = codes "The request file lacks the member of this name: give it; the methods auto and draw need a seed of 64 hex digits."
+request_sentence (requests.Missing name) = request_missing_sentence
 request_sentence (requests.Address index fault) = address_sentence fault
 request_sentence (requests.Script index) = codes "The script of the recipient at this index is empty or longer than 10,000 bytes: copy it again."
 request_sentence (requests.AmountRange index) = codes "The amount of the recipient at this index is above 21,000,000 bitcoin: give less."
 request_sentence (requests.Dust index) = codes "The amount of the recipient at this index is less than nodes relay: pay more; 1 bitcoin is 100000000 satoshi."
 request_sentence requests.SumRange = codes "The amounts are together above 21,000,000 bitcoin: pay less."
 request_sentence requests.NoRecipients = codes "Nobody is to be paid: name a recipient."
-request_sentence (requests.RateRange name) = codes "The rate of this name is above 100,000 satoshi per virtual byte: give less."
+request_sentence (requests.RateRange name) = rate_range_sentence
 request_sentence requests.TriesRange = codes "The number of tries is 0 or above 10,000,000: give one between."
 request_sentence (requests.Repeat index) = codes "The coin at this index, counted from 0, stands before it too: take it out."
 request_sentence requests.Memory = stop_sentence stops.Memory
+
+-- the state of the payment that the request names, where it isn't Pending
+unfoldable pub state_sentence : State → List ℕ
+state_sentence (states.Confirmed height) = codes "The payment that bump names is confirmed, so nothing can replace it: leave bump out of the request."
+state_sentence (states.Conflicted txid) = codes "A confirmed transaction spends a coin of the payment that bump names: it can not confirm any more, so leave bump out and pay anew."
+state_sentence states.Abandoned = codes "The payment that bump names was abandoned in the wallet file: leave bump out and pay anew, or take the txid out of abandoned."
+state_sentence (states.Replaced txid) = codes "A later payment of pending replaces the one that bump names: name the later one, or take it out of pending if it was never sent."
+state_sentence states.Pending = codes "The payment that bump names waits for a block."
+
+-- the payment that the request names is none that waits: there is none of its txid, or one of this state
+unfoldable pub not_pending_sentence : Option State → List ℕ
+not_pending_sentence None = codes "No transaction of pending has the txid in bump: copy the txid again, or put the payment and its parents into pending."
+not_pending_sentence (Some state) = state_sentence state
+
+-- why a payment isn't replaced
+unfoldable pub bump_sentence : BumpFault → List ℕ
+bump_sentence (bumps.NotPending found) = not_pending_sentence found
+bump_sentence bumps.NotSignalling = codes "The payment that bump names does not signal that it may be replaced, nor does an ancestor that waits: nodes may refuse another, so wait for it."
+bump_sentence (bumps.ForeignInput coin) = codes "The payment that bump names, or one that spends its outputs, spends a coin that the wallet does not know: add its script or its transaction."
+bump_sentence (bumps.TooManyEvicted n) = codes "More than 100 waiting payments would be replaced together: replace one of the later ones, or wait."
+bump_sentence bumps.RateBelowIncrement = codes "The rate is below 1 satoshi per virtual byte: nodes relay no replacement at such a rate, so give 1000 or more."
+bump_sentence (bumps.RateNotHigher fee vsize) = codes "The rate is not above that of the payment that bump names: multiply its fee by 1000, divide by its size, and give more than that."
+bump_sentence bumps.Memory = stop_sentence stops.Memory
 
 -- a fault of a plan
 unfoldable pub plan_sentence : PlanFault → List ℕ
@@ -144,7 +194,7 @@ kept_sentence (jobs.Form place) = codes "The kept job was changed: begin anew un
 kept_sentence (jobs.JobElse kept now) = codes "The job was begun with other files: give the files of the job, byte for byte."
 kept_sentence jobs.Spent = codes "The job has made 10,000,000 tries: fund anew with when_unfinished take, or ask for another payment."
 kept_sentence (jobs.Part number) = codes "A part of the kept log is missing: the file of jobs was changed, so begin anew under another name."
-kept_sentence jobs.LongLog = codes "The log of the kept job is above 64 MiB: the file of jobs was changed, so begin anew under another name."
+kept_sentence jobs.LongLog = stop_sentence stops.LogLimit
 kept_sentence (jobs.Section index) = codes "The kept log is not that of this payment: begin anew under another name."
 kept_sentence jobs.IllFormed = codes "No search stands where the kept job says: begin anew under another name."
 kept_sentence (jobs.Log index fault) = codes "The kept log proves less than it claims: begin anew under another name."
@@ -162,3 +212,39 @@ check_sentence (checks.Section index) = codes "The log is of another request, wa
 check_sentence (checks.Log index fault) = codes "The log proves nothing of a search: fund the payment anew."
 check_sentence checks.Answer = codes "Do not believe the mark of the report: fund the payment anew."
 check_sentence checks.Memory = stop_sentence stops.Memory
+
+-- a fault of a PSBT
+unfoldable pub psbt_sentence : PsbtFault → List ℕ
+psbt_sentence psbts.Magic = codes "The file is no PSBT: its text begins with cHNidP, so give the PSBT that was printed."
+psbt_sentence (psbts.Truncated place) = codes "The PSBT was cut off: copy it again."
+psbt_sentence (psbts.LongCompact place) = codes "The PSBT has a number in a spelling that is too long: it was changed, so copy it again."
+psbt_sentence (psbts.RepeatKey place) = codes "The PSBT has a key twice: it was changed, so copy it again."
+psbt_sentence psbts.NoUnsigned = codes "The PSBT has no unsigned transaction: it is of version 2 or none, so give the PSBT that was printed."
+psbt_sentence (psbts.Unsigned fault) = codes "The transaction of the PSBT can not be read: the PSBT was changed, so copy it again."
+psbt_sentence psbts.NotBare = codes "The transaction of the PSBT is signed already: give the PSBT that was printed."
+psbt_sentence (psbts.Field place) = codes "A field of the PSBT is not as its type asks: the PSBT was changed, so copy it again."
+psbt_sentence (psbts.Version version) = codes "The PSBT is of a version that is not read: ask for one of version 0."
+psbt_sentence (psbts.WrongParent input) = codes "The whole transaction beside an input is not the one that the input spends: give the PSBT that was printed."
+psbt_sentence (psbts.Trailing place) = codes "Bytes stand behind the PSBT: leave off what is behind it."
+psbt_sentence psbts.NotBase64 = codes "The PSBT is not spelled in base64: copy it again, on one line."
+psbt_sentence psbts.Memory = stop_sentence stops.Memory
+
+-- an input of a PSBT whose transaction isn't there
+unfoldable pub missing_sentence : List ℕ
+missing_sentence = codes "Neither the files nor the PSBT have the transaction that an input spends: give the files from which it was funded."
+
+-- an input of a PSBT that shows another output
+unfoldable pub other_output_sentence : List ℕ
+other_output_sentence = codes "Do not sign it: an input shows another output than the one that it spends has."
+
+-- a PSBT that has pairs which would get lost
+unfoldable pub other_pairs_sentence : List ℕ
+other_pairs_sentence = codes "The PSBT has more than was printed, as signatures: give the PSBT that was printed."
+
+-- a report that says that the coins do not pay
+unfoldable pub none_sentence : List ℕ
+none_sentence = codes "The coins do not pay this: too few, too dear at this rate, or not listed; pay less, give a lower rate, or --zero-conf for own outputs that wait."
+
+-- a report that says that the tries are used up
+unfoldable pub unfinished_sentence : List ℕ
+unfinished_sentence = codes "The tries were used up before the search was done, and no payment was made: give more --tries, or another --method."

@@ -21,8 +21,7 @@ pub fn kept_sentence(fault: &KeptFault) -> &'static str
             "The job has made 10,000,000 tries: fund anew with when_unfinished take, or ask for another payment.",
         KeptFault::Part(_) =>
             "A part of the kept log is missing: the file of jobs was changed, so begin anew under another name.",
-        KeptFault::LongLog =>
-            "The log of the kept job is above 64 MiB: the file of jobs was changed, so begin anew under another name.",
+        KeptFault::LongLog => stop_sentence(Stop::LogLimit),
         KeptFault::Section(_) =>
             "The kept log is not that of this payment: begin anew under another name.",
         KeptFault::IllFormed =>

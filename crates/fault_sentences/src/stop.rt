@@ -26,12 +26,14 @@ pub enum Stop {
     CoinsLimit,
     /// The report to be checked is over its limit.
     ReportLimit,
-    /// The log to be checked is over its limit.
+    /// The log to be checked, or that of a kept job, is over its limit.
     LogLimit,
+    /// The script of a desk is over its limit.
+    ScriptLimit,
+    /// The PSBT file is over its limit.
+    PsbtLimit,
     /// A coin is made twice.
     RepeatCoin,
-    /// A payment is to be replaced.
-    BumpNotYet,
 }
 
 /// The sentence of a stop.
@@ -51,14 +53,16 @@ pub fn stop_sentence(stop: Stop) -> &'static str
         Stop::WalletLimit =>
             "The wallet file is above 16 MiB: leave out earlier transactions whose outputs are spent.",
         Stop::BlocksLimit =>
-            "The block file is above 1 GiB: give fewer blocks, raise height and hash of the wallet file, and put what it got in the others into earlier.",
+            "The block file is above 1 GiB, or above 64 MiB in a script: give the last blocks alone, raise height and hash, and put older transactions into earlier.",
         Stop::RequestLimit => "The request file is above 1 MiB: pay fewer recipients at once.",
         Stop::CoinsLimit =>
             "There are more than 100,000 coins, spent ones among them: leave out earlier transactions whose outputs are spent.",
         Stop::ReportLimit => "The report is above 64 MiB: give the report that was printed.",
-        Stop::LogLimit => "The log is above 64 MiB: give LOG as it was written.",
+        Stop::LogLimit =>
+            "The log is above 64 MiB: give LOG as it was written, or where a job is gone on with, begin anew under another name.",
+        Stop::ScriptLimit => "The script of the desk is above 16 MiB: cut it into several.",
+        Stop::PsbtLimit => "The PSBT file is above 64 MiB: give the PSBT that was printed.",
         Stop::RepeatCoin =>
             "A transaction stands in earlier and in a block too: leave it out of earlier.",
-        Stop::BumpNotYet => "Payments are not replaced yet: wait, or build a payment by hand.",
     }
 }

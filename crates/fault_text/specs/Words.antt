@@ -1,5 +1,5 @@
 -- The words of faults: the variant's name and its fields, each after one blank; numbers in decimal.
-use Rattle.std.specs.Prelude.{ℕ, List, ◌∷◌, ◌++◌, codes, string_bytes}
+use Rattle.std.specs.Prelude.{ℕ, List, ◌∷◌, ◌++◌, codes, string_bytes, Option, Some, None}
 use Rattle.std.specs.Fmt.{decimal}
 use Rattle.tx_codec.specs.declared.fault.TxFault.{TxFault}
 use Rattle.tx_codec.specs.declared.fault.TxFault.TheVariants as txs
@@ -9,6 +9,10 @@ use Rattle.segwit_addr.specs.declared.fault.AddrFault.{AddrFault}
 use Rattle.segwit_addr.specs.declared.fault.AddrFault.TheVariants as addresses
 use Rattle.wallet_text.specs.declared.fault.WalletFault.{WalletFault}
 use Rattle.wallet_text.specs.declared.fault.WalletFault.TheVariants as wallets
+use Rattle.payment_states.specs.declared.state.State.{State}
+use Rattle.payment_states.specs.declared.state.State.TheVariants as states
+use Rattle.fee_bump.specs.declared.fault.BumpFault.{BumpFault}
+use Rattle.fee_bump.specs.declared.fault.BumpFault.TheVariants as bumps
 use Rattle.fund_steps.specs.declared.fault.PlanFault.{PlanFault}
 use Rattle.fund_steps.specs.declared.fault.PlanFault.TheVariants as plans
 use Rattle.request_text.specs.declared.fault.RequestFault.{RequestFault}
@@ -114,6 +118,29 @@ psbt_fault_words (psbts.WrongParent input) = codes "WrongParent " ++ decimal inp
 psbt_fault_words (psbts.Trailing place) = codes "Trailing " ++ decimal place
 psbt_fault_words psbts.NotBase64 = codes "NotBase64"
 psbt_fault_words psbts.Memory = codes "Memory"
+
+-- the state of a payment
+unfoldable pub state_words : State → List ℕ
+state_words (states.Confirmed height) = codes "Confirmed " ++ decimal height
+state_words (states.Conflicted txid) = codes "Conflicted " ++ shown_hash txid
+state_words states.Abandoned = codes "Abandoned"
+state_words (states.Replaced txid) = codes "Replaced " ++ shown_hash txid
+state_words states.Pending = codes "Pending"
+
+-- the state of a payment, if there is the payment
+unfoldable pub found_words : Option State → List ℕ
+found_words None = codes "None"
+found_words (Some state) = state_words state
+
+-- why a payment isn't replaced, with the words of its fault line before it
+unfoldable pub bump_fault_words : BumpFault → List ℕ
+bump_fault_words (bumps.NotPending found) = codes "input bump NotPending " ++ found_words found
+bump_fault_words bumps.NotSignalling = codes "input bump NotSignalling"
+bump_fault_words (bumps.ForeignInput coin) = codes "input bump ForeignInput " ++ coin_text coin
+bump_fault_words (bumps.TooManyEvicted n) = codes "input bump TooManyEvicted " ++ decimal n
+bump_fault_words bumps.RateBelowIncrement = codes "input bump RateBelowIncrement"
+bump_fault_words (bumps.RateNotHigher fee vsize) = codes "input bump RateNotHigher " ++ (decimal fee ++ (32 ∷ decimal vsize))
+bump_fault_words bumps.Memory = codes "memory"
 
 -- a fault of a plan, with the word of its fault line before it
 unfoldable pub plan_fault_words : PlanFault → List ℕ

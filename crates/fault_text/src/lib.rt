@@ -5,6 +5,7 @@
 
 mod address;
 mod blocks;
+mod bump;
 mod coin;
 mod laws;
 mod log;
@@ -17,6 +18,7 @@ mod wallet;
 
 pub use address::address_fault_words;
 pub use blocks::feed_fault_words;
+pub use bump::bump_fault_words;
 pub use coin::{coin_text, shown_hash};
 pub use laws::{coins_are_told_apart, names_are_told_apart};
 pub use log::log_fault_words;

@@ -52,7 +52,7 @@ pub signal_back : (t : Transaction) → Signals t → has_signal t ≡ true
 signal_back t s = any_has (λ (i : TxIn). nat_lt i.sequence 4294967294) t.inputs s.1 (s.0, s.2, s.3) (lt-ltb s.1.sequence 4294967294 s.4)
 
 -- a way, and then another
-kin_then : (w : PendingView) {i j k : ℕ} → IsKin w i j → IsKin w j k → IsKin w i k
+pub kin_then : (w : PendingView) {i j k : ℕ} → IsKin w i j → IsKin w j k → IsKin w i k
 kin_then w itself rest = rest
 kin_then w (above p up) rest = above p (kin_then w up rest)
 

@@ -4,6 +4,7 @@ pub mod ConflictLaws
 pub mod FitLaws
 pub mod GoesSteps
 pub mod PayLaws
+pub mod PlanLaws
 pub mod ShorterSteps
 pub mod SizeLaws
 pub mod SumLaws

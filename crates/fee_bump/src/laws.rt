@@ -1,6 +1,7 @@
 //! Laws of replacements. A call of any of them does nothing.
 
 ghost use Rattle.std.specs.Prelude.{◌≡◌, ◌≢◌, ◌<◌, ◌≤◌, ◌+◌, ◌*◌, ◌++◌, ◌↔◌, ℕ, List, All, AllPairs, Any, Contains, None, Some, length};
+ghost use Rattle.fund_base.specs.Candidates.{AreCandidates};
 ghost use Rattle.fund_base.specs.declared.candidate.Candidate.{Candidate};
 ghost use Rattle.fund_base.specs.declared.outpoint.OutPoint.{OutPoint};
 ghost use Rattle.tx_codec.specs.Transaction.{Transaction};
@@ -18,6 +19,7 @@ ghost use Rattle.payment_states.specs.AnyCoin.{facts_at};
 ghost use Rattle.payment_states.specs.BookOf.{IsBookOf};
 ghost use Rattle.payment_states.specs.Causes.{HasCause, Spends};
 ghost use Rattle.payment_states.specs.LeftOut.{confirmed_without_of};
+ghost use Rattle.payment_states.specs.Makers.{HasMaker};
 ghost use Rattle.payment_states.specs.Pendings.{pending_below};
 ghost use Rattle.payment_states.specs.PendingView.{PendingView, tx_at, view_of};
 ghost use Rattle.payment_states.specs.declared.state.State.TheVariants as state;
@@ -92,4 +94,13 @@ pub fn replacements_pay_more()
 pub fn spent_once()
     ensures each { (t : Transaction) (o : OutPoint) → (Contains (spent_by t) o ↔ Any (λ (x : TxIn). x.prev ≡ o) t.inputs) }
     ensures once { (t : Transaction) → AllPairs (λ (a b : OutPoint). a ≢ b) (spent_by t) }
+{}
+
+/// The law of what a plan asks of the terms: presets and candidates are together at most 100,000 coins that a payment can
+/// spend, each outpoint once, and the history has the transactions that made them. Where nothing keeps the payment from being
+/// replaced, the burden is at most 1,000,000,000,000,000,000 satoshi.
+pub fn terms_fit_a_plan()
+    ensures fit { (w : PlainWallet) (h : History) (tip : ℕ) (r : PlainRequest) → IsWallet w → IsBookOf w h → book_fault h ≡ None → AreCandidates ((terms_of w h tip r).presets ++ (terms_of w h tip r).candidates) }
+    ensures makers { (w : PlainWallet) (h : History) (tip : ℕ) (r : PlainRequest) → IsWallet w → IsBookOf w h → book_fault h ≡ None → All (HasMaker h) ((terms_of w h tip r).presets ++ (terms_of w h tip r).candidates) }
+    ensures burden { (w : PlainWallet) (h : History) (tip : ℕ) (r : PlainRequest) (txid : List ℕ) → IsWallet w → IsBookOf w h → book_fault h ≡ None → r.bump ≡ Some txid → fault_of w h r ≡ None → (terms_of w h tip r).burden ≤ 1_000_000_000_000_000_000 }
 {}

@@ -1,27 +1,21 @@
 -- Each input shows its coin.
-use Rattle.std.proofs.Common.{◌≡◌, ◌∙◌, ◌+◌, ◌≤◌, ◌&&◌, ◌||◌, inl, inr, ℕ, Bool, true, false, cond, List, [], ◌∷◌, length, map, Some, None, refl, ap, Contains, All}
+use Rattle.std.proofs.Common.{◌≡◌, ◌∙◌, ◌+◌, ◌≤◌, ◌&&◌, ◌||◌, inl, inr, ℕ, Bool, true, false, cond, List, [], ◌∷◌, length, map, Some, None, refl, ap, All}
 use Rattle.std.specs.Prelude.{◌⊎◌, ◌==◌, nat_le, slice_index}
 use Rattle.std.specs.List.{AllZip}
 use Rattle.std.proofs.Math.Bool.{or-true}
 use Rattle.std.proofs.lemmas.Bool.{and_from, and_parts, both_ways, eq-eqb, eqb-true, le-leb, leb-true, or_cases}
-use Rattle.std.proofs.lemmas.List.Elements.{All-contains, All-head, All-tail, All-weaker}
+use Rattle.std.proofs.lemmas.List.Elements.{All-head, All-tail}
 use Rattle.std.proofs.lemmas.Option.{none-some}
 use Rattle.coin_book.specs.Coins.{parent_of}
-use Rattle.coin_book.specs.Faults.{fault_of}
 use Rattle.coin_book.specs.History.{History}
 use Rattle.fee_rates.specs.Output.{IsProgram, is_program_of}
 use Rattle.fund_base.specs.declared.candidate.Candidate.{Candidate}
 use Rattle.fund_plan.specs.Pays.{payment_from, unsigned_input}
 use Rattle.fund_plan.specs.Selection.{PlainFunded}
-use Rattle.payment_states.proofs.MakerSteps.{all_made}
-use Rattle.payment_states.specs.BookOf.{IsBookOf}
-use Rattle.payment_states.specs.Candidates.{candidates_of}
 use Rattle.payment_states.specs.Makers.{HasMaker, output_of}
 use Rattle.psbt_codec.specs.declared.psbt.Spent.{Spent}
 use Rattle.request_text.specs.PlainRequest.{PlainRequest}
 use Rattle.tx_codec.specs.declared.tx.TxIn.{TxIn}
-use Rattle.wallet_text.specs.PlainWallet.{PlainWallet}
-use Rattle.wallet_text.specs.WalletRules.{IsWallet}
 use Rattle.wallet_text.specs.declared.wallet.Watch.{Watch}
 use Rattle.fund_payment.specs.Report.{psbt_of, spent_of}
 use Rattle.fund_payment.specs.Shown.{ShowsCoin, ShowsCoins}
@@ -95,9 +89,6 @@ points_same : (b : Bool) (coins : List Candidate) → map (λ (i : TxIn). i.prev
 points_same b [] = refl
 points_same b (c ∷ coins) = ap (λ rest. c.coin ∷ rest) (points_same b coins)
 
-pub shown_all : (w : PlainWallet) (h : History) (tip : ℕ) (r : PlainRequest) (change : Watch) (f : PlainFunded) → IsWallet w → IsBookOf w h → fault_of h ≡ None → All (Contains (candidates_of w h tip)) f.coins → ShowsCoins f.coins (psbt_of h r change f)
+pub shown_all : (h : History) (r : PlainRequest) (change : Watch) (f : PlainFunded) → All (HasMaker h) f.coins → ShowsCoins f.coins (psbt_of h r change f)
 unfolding psbt_of payment_from
-shown_all w h tip r change f rules book sound from = record {
-  inputs = points_same r.replaceable f.coins;
-  each = spent_all h f.coins (All-weaker (Contains (candidates_of w h tip)) (HasMaker h) (λ c there. All-contains (HasMaker h) (candidates_of w h tip) c (all_made w h tip rules book sound) there) f.coins from);
-}
+shown_all h r change f made = record { inputs = points_same r.replaceable f.coins; each = spent_all h f.coins made }

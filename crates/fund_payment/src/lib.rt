@@ -7,3 +7,4 @@ mod signing;
 
 pub use laws::inputs_show_coins;
 pub use report::payment_report;
+pub use signing::{coins_have_makers, psbt};

@@ -1,14 +1,15 @@
 //! The report of a payment.
 
-ghost use Rattle.std.specs.Prelude.{◌≡◌, All, Contains, map, IfOk};
+ghost use Rattle.std.specs.Prelude.{◌≡◌, All, map, IfOk};
 ghost use Rattle.psbt_codec.specs.Psbt.{IsPsbt};
 ghost use Rattle.fund_plan.specs.Answer.{IsSelection};
 ghost use Rattle.fund_files.specs.Chain.{IsHeld};
-ghost use Rattle.payment_states.specs.Candidates.{candidates_of};
+ghost use Rattle.payment_states.specs.Makers.{HasMaker};
 ghost use Rattle.fund_payment.specs.Report.{line_of, psbt_of, report_of};
 ghost use Rattle.fund_payment.specs.Shown.{ShowsCoins};
 
-use crate::signing::{psbt_text, shows};
+use crate::laws::inputs_show_coins;
+use crate::signing::psbt_text;
 use fund_base::{Candidate, Memory};
 use fund_files::Held;
 use fund_plan::{Figures, Funded};
@@ -31,8 +32,8 @@ fn lines(alloc: Global, coins: &[Candidate]) -> Result<Vec<InLine>, Memory>
 }
 
 /// The report of a payment that was decided on after these tries: the coins, what the payment comes to, and the PSBT in
-/// base64, of which each input shows the value and the script of its coin. It refuses where there is not enough memory, and
-/// for nothing else.
+/// base64, of which each input shows the value and the script of its coin. The book has the transactions that made the
+/// coins, whether or not these may be spent. The error is out of memory.
 #[tactic(auto, unfolding(crate::specs::Report::report_of))]
 pub fn payment_report(
     alloc: Global,
@@ -43,12 +44,12 @@ pub fn payment_report(
 ) -> Result<Vec<u8>, Memory>
     requires held { IsHeld held.now }
     requires funded { IsSelection request.now funded.now }
-    requires coins { All (Contains (candidates_of held.now.wallet held.now.book held.now.tip.height)) funded.now.coins }
+    requires makers { All (HasMaker held.now.book) funded.now.coins }
     ensures value { IfOk result (λ text. text.items ≡ report_of held.now.book request.now held.now.wallet.change tries funded.now) }
     ensures fits { IfOk result (λ _. IsPsbt (psbt_of held.now.book request.now held.now.wallet.change funded.now)) }
     ensures shows { IfOk result (λ _. ShowsCoins funded.now.coins (psbt_of held.now.book request.now held.now.wallet.change funded.now)) }
 {
-    shows(held, request, funded);
+    inputs_show_coins();
     let figures = Figures::new(request, funded);
     let text = psbt_text(alloc, held, request, funded)?;
     let coins = lines(alloc, &funded.coins)?;

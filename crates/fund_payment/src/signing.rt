@@ -1,21 +1,21 @@
 //! The payment that a signer gets.
 
-ghost use Rattle.std.specs.Prelude.{◌≡◌, ◌≤◌, All, Contains, map, IfOk, string_bytes};
+ghost use Rattle.std.specs.Prelude.{◌≡◌, ◌≤◌, All, map, IfOk, string_bytes};
 ghost use Rattle.tx_codec.specs.declared.tx.TxIn.{TxIn};
 ghost use Rattle.psbt_codec.specs.Psbt.{IsPsbt, IsSpent};
 ghost use Rattle.fund_base.specs.declared.candidate.Candidate.{Candidate};
 ghost use Rattle.fund_plan.specs.Answer.{IsSelection};
 ghost use Rattle.fund_files.specs.Chain.{HasTexts, IsHeld};
 ghost use Rattle.payment_states.specs.Candidates.{candidates_of};
+ghost use Rattle.payment_states.specs.Makers.{HasMaker};
 ghost use Rattle.fund_payment.specs.Report.{psbt_of, psbt_text_of, spent_of};
-ghost use Rattle.fund_payment.specs.Shown.{ShowsCoins};
 
-use crate::laws::inputs_show_coins;
 use coin_book::Book;
 use fee_rates::is_program;
 use fund_base::{Candidate, MAX_MONEY, Memory, Sat, are_bytes};
 use fund_files::Held;
 use fund_plan::{Funded, pays_in_text, unsigned};
+use payment_states::candidates_have_makers;
 use psbt_codec::{Psbt, Spent, write_text};
 use request_text::Request;
 use std::alloc::Global;
@@ -31,7 +31,7 @@ fn known_fits(book: &Book, coin: &Candidate)
     are_bytes(coin.script.bytes());
 }
 
-/// What a signer needs to know of the coin, which the book has.
+/// What a signer needs to know of the coin, which the book has. The error is out of memory.
 #[tactic(auto, unfolding(crate::specs::Report::spent_of))]
 fn spent(alloc: Global, book: &Book, coin: &Candidate) -> Result<Spent, Memory>
     requires { coin.now.value ≤ MAX_MONEY }
@@ -52,7 +52,7 @@ fn spent(alloc: Global, book: &Book, coin: &Candidate) -> Result<Spent, Memory>
     Ok(Spent { whole, paid: None })
 }
 
-/// What a signer needs to know of the coins, in order.
+/// What a signer needs to know of the coins, in order. The error is out of memory.
 fn spent_of(alloc: Global, book: &Book, coins: &[Candidate]) -> Result<Vec<Spent>, Memory>
     requires values { All (λ (c : Candidate). c.value ≤ MAX_MONEY) coins.now }
     requires texts { HasTexts book.now }
@@ -67,21 +67,20 @@ fn spent_of(alloc: Global, book: &Book, coins: &[Candidate]) -> Result<Vec<Spent
     Ok(known)
 }
 
-// That each input shows its coin. A call does nothing.
-pub fn shows(held: &Held, request: &Request, funded: &Funded)
-    requires held { IsHeld held.now }
-    requires coins { All (Contains (candidates_of held.now.wallet held.now.book held.now.tip.height)) funded.now.coins }
-    ensures { ShowsCoins funded.now.coins (psbt_of held.now.book request.now held.now.wallet.change funded.now) }
+/// That the book has the transactions which made the coins that may be spent. A call does nothing.
+pub fn coins_have_makers(held: &Held)
+    requires { IsHeld held.now }
+    ensures { All (HasMaker held.now.book) (candidates_of held.now.wallet held.now.book held.now.tip.height) }
 {
-    let _ = request;
-    let _ = funded;
+    // no book has a history with a fault
     held.book.len();
-    inputs_show_coins();
+    candidates_have_makers();
 }
 
-/// The payment to be signed.
+/// The payment to be signed: its unsigned transaction, and for each input what a signer needs to know of its coin. The
+/// error is out of memory.
 #[tactic(auto, unfolding(crate::specs::Report::psbt_of))]
-fn psbt(alloc: Global, held: &Held, request: &Request, funded: &Funded) -> Result<Psbt, Memory>
+pub fn psbt(alloc: Global, held: &Held, request: &Request, funded: &Funded) -> Result<Psbt, Memory>
     requires held { IsHeld held.now }
     requires funded { IsSelection request.now funded.now }
     ensures value { IfOk result (λ p. p ≡ psbt_of held.now.book request.now held.now.wallet.change funded.now) }
@@ -93,7 +92,7 @@ fn psbt(alloc: Global, held: &Held, request: &Request, funded: &Funded) -> Resul
     Ok(Psbt { tx, spent })
 }
 
-/// The payment to be signed, as text.
+/// The payment to be signed, as text. The error is out of memory.
 pub fn psbt_text(
     alloc: Global,
     held: &Held,

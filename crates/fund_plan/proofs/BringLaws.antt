@@ -23,7 +23,7 @@ use Rattle.pick_problem.specs.Problem.{PlainProblem, Rising, value_of as value_a
 use Rattle.pick_problem.specs.declared.item.Item.{Item}
 use Rattle.fund_steps.proofs.RowLaws.{filter_candidates}
 use Rattle.fund_steps.specs.Amounts.{fees_of, value_of, weight_of}
-use Rattle.fund_steps.specs.Listed.{presets_in}
+use Rattle.fund_steps.specs.Listed.{burden_in, presets_in}
 use Rattle.fund_steps.specs.Plan.{IsPlan, PlainPlan}
 use Rattle.fund_steps.specs.Terms.{load_of, rates_of}
 use Rattle.fund_steps.specs.Selection.{is_listed, unlisted}
@@ -86,39 +86,39 @@ gains_are rate (c ∷ cs) useful =
 -- ---- what is to be paid
 
 -- what coins have to bring beside the presets, whose value and fees these are
-abbrev pub short_of : (paid base raised value fees : ℕ) → ℤ
-short_of paid base raised value fees = pos (paid + base + 0 + raised) -ℤ (pos value -ℤ pos fees)
+abbrev pub short_of : (paid base burden raised value fees : ℕ) → ℤ
+short_of paid base burden raised value fees = pos (paid + base + burden + raised) -ℤ (pos value -ℤ pos fees)
 
 -- the base with all coins at hand weighs no less than with the presets alone
-base_more : (n m : ℕ) → (if nat_le n 252 then 1 else 3) ≤ (if nat_le (n + m) 252 then 1 else 3)
+pub base_more : (n m : ℕ) → (if nat_le n 252 then 1 else 3) ≤ (if nat_le (n + m) 252 then 1 else 3)
 base_more n m = grind (arith, nat_tests)
 
 abbrev pub base_fee : PlainPlan → Row → ℕ
 base_fee p row = fee_of p.request.rate (vsize_of (base_of (load_in p row)))
 
 pub target_in : (p : PlainPlan) (row : Row)
-    → target_of (rates_of p.request) (load_in p row) ≡ short_of (paid_to p.request.recipients) (base_fee p row) (raised_of p.request.rate (load_in p row)) (value_of (presets_in p)) (fees_of p.request.rate (presets_in p))
+    → target_of (rates_of p.request) (load_in p row) ≡ short_of (paid_to p.request.recipients) (base_fee p row) (burden_in p) (raised_of p.request.rate (load_in p row)) (value_of (presets_in p)) (fees_of p.request.rate (presets_in p))
 unfolding load_of
 target_in p row =
     let given = presets_in p in
-    raised_as (not (length given == 0)) (paid_to p.request.recipients + base_fee p row + 0) (value_of given) (fees_of p.request.rate given) (none_worth p.request.rate given)
+    raised_as (not (length given == 0)) (paid_to p.request.recipients + base_fee p row + burden_in p) (value_of given) (fees_of p.request.rate given) (none_worth p.request.rate given)
 
-fee_more : (p : PlainPlan) (row : Row) → fee_of p.request.rate (vsize_of (base_of (load_of p.request p.change (presets_in p)))) ≤ base_fee p row
+fee_more : (p : PlainPlan) (row : Row) → fee_of p.request.rate (vsize_of (base_of (load_of p.request p.change (presets_in p) (burden_in p)))) ≤ base_fee p row
 unfolding load_of
 fee_more p row =
     let r = p.request in
-    let alone = base_of (load_of r p.change (presets_in p)) in
+    let alone = base_of (load_of r p.change (presets_in p) (burden_in p)) in
     let more : alone ≤ base_of (load_in p row) = omega (arith, base_more (length (presets_in p)) (sum_by (λ (g : List Candidate). length g) (pool_in p row).groups)) in
     fee_below r.rate (vsize_of alone) r.rate (vsize_of (base_of (load_in p row))) (omega arith) (vsize_below alone (base_of (load_in p row)) more)
 
 -- at plain numbers: with presets the target is no less than that of the presets alone, and without it is at least 1
-some_with : (paid fee more : ℕ) (effective : ℤ) → int_le (pos (paid + fee + 0) -ℤ effective) (pos 0) ≡ false → fee ≤ more → pos 1 ≤ℤ (pos (paid + more + 0) -ℤ effective)
-some_with paid fee more effective above less = grind (arith, ints)
+some_with : (paid fee more burden : ℕ) (effective : ℤ) → int_le (pos (paid + fee + burden) -ℤ effective) (pos 0) ≡ false → fee ≤ more → pos 1 ≤ℤ (pos (paid + more + burden) -ℤ effective)
+some_with paid fee more burden effective above less = grind (arith, ints)
 
-some_by : (b : Bool) (paid fee more : ℕ) (effective : ℤ) → (b && int_le (if b then pos (paid + fee + 0) -ℤ effective else int_max (pos (paid + fee + 0) -ℤ effective) (pos 1)) (pos 0)) ≡ false → fee ≤ more
-    → pos 1 ≤ℤ (if b then pos (paid + more + 0) -ℤ effective else int_max (pos (paid + more + 0) -ℤ effective) (pos 1))
-some_by true paid fee more effective above less = some_with paid fee more effective above less
-some_by false paid fee more effective above less = omega (arith, ints, int_max_is (pos (paid + more + 0) -ℤ effective) (pos 1))
+some_by : (b : Bool) (paid fee more burden : ℕ) (effective : ℤ) → (b && int_le (if b then pos (paid + fee + burden) -ℤ effective else int_max (pos (paid + fee + burden) -ℤ effective) (pos 1)) (pos 0)) ≡ false → fee ≤ more
+    → pos 1 ≤ℤ (if b then pos (paid + more + burden) -ℤ effective else int_max (pos (paid + more + burden) -ℤ effective) (pos 1))
+some_by true paid fee more burden effective above less = some_with paid fee more burden effective above less
+some_by false paid fee more burden effective above less = omega (arith, ints, int_max_is (pos (paid + more + burden) -ℤ effective) (pos 1))
 
 -- where it isn't given, something is needed
 pub some_target : (p : PlainPlan) (row : Row) → is_given p ≡ false → pos 1 ≤ℤ target_of (rates_of p.request) (load_in p row)
@@ -126,4 +126,4 @@ unfolding load_of
 some_target p row e =
     let r = p.request in
     let given = presets_in p in
-    some_by (not (length given == 0)) (paid_to r.recipients) (fee_of r.rate (vsize_of (base_of (load_of r p.change given)))) (base_fee p row) (pos (value_of given) -ℤ pos (fees_of r.rate given)) e (fee_more p row)
+    some_by (not (length given == 0)) (paid_to r.recipients) (fee_of r.rate (vsize_of (base_of (load_of r p.change given (burden_in p))))) (base_fee p row) (burden_in p) (pos (value_of given) -ℤ pos (fees_of r.rate given)) e (fee_more p row)

@@ -1,24 +1,23 @@
 -- A result of a step, with the presets, is a payment.
-use Rattle.std.specs.Prelude.{ℕ, ℤ, pos, ◌≡◌, ◌≢◌, ◌≤◌, ◌≤ℤ◌, ◌+◌, ◌-◌, ◌*◌, ◌+ℤ◌, ◌-ℤ◌, ◌==◌, not, Bool, true, false, List, [], ◌∷◌, ◌++◌, All, Contains, length, max, sum_by, get_or, unsigned_abs, Some, None}
+use Rattle.std.specs.Prelude.{ℕ, ℤ, pos, ◌≡◌, ◌≢◌, ◌≤◌, ◌≤ℤ◌, ◌+◌, ◌-◌, ◌*◌, ◌+ℤ◌, ◌-ℤ◌, ◌==◌, not, Bool, true, false, List, [], ◌∷◌, ◌++◌, All, Contains, length, max, sum_by, get_or, unsigned_abs, Option, Some, None}
 use Rattle.std.specs.Int.Signed.{pos-nat_abs, yes_non_neg}
 use Rattle.std.specs.declared.cmp.Ordering.TheVariants.{Less}
 use Rattle.std.proofs.Common.{refl, sym, ap, subst, ◌∙◌, inl, inr, arith}
-use Rattle.std.proofs.lemmas.Bool.{both_ways, cases_Bool, eqb-true, not-true}
+use Rattle.std.proofs.lemmas.Bool.{cases_Bool, eqb-true}
 use Rattle.std.proofs.lemmas.Int.{ints}
-use Rattle.std.proofs.lemmas.List.Elements.{All-append, All-contains, All-contains_itself, All-filter, All-head, All-weaker, Contains-append_left, filter_passes}
+use Rattle.std.proofs.lemmas.List.Elements.{All-append, All-contains, All-contains_itself, All-filter, All-head, All-tail, All-weaker, Contains-append_left}
 use Rattle.std.proofs.lemmas.List.Sums.{sum_by-append, sum_by-cons}
 use Rattle.std.specs.Ordering.{ordering_reverse}
-use Rattle.std.proofs.lemmas.List.Folds.{Any-from_list_any, list_any-from_Any}
-use Rattle.fund_base.proofs.OutpointLaws.{outpoint_total, same_outpoint-Decides}
+use Rattle.fund_base.proofs.OutpointLaws.{outpoint_total}
 use Rattle.fund_base.specs.Candidates.{IsCandidate}
-use Rattle.fund_base.specs.Outpoints.{outpoint_cmp, same_outpoint}
+use Rattle.fund_base.specs.Outpoints.{outpoint_cmp}
 use Rattle.fund_base.specs.declared.outpoint.OutPoint.{OutPoint}
 use Rattle.fund_base.specs.declared.candidate.Candidate.{Candidate}
 use Rattle.fee_rates.specs.Fee.{input_fee_of}
+use Rattle.fee_rates.specs.declared.terms.Load.{Load}
 use Rattle.fee_rates.specs.Terms.{base_of, big_of, change_fee_of, change_least_of, change_limit_of, hi_of, small_of, target_of, terms_of}
 use Rattle.request_text.specs.PlainRequest.{paid_to}
 use Rattle.output_groups.proofs.Members.{all_from}
-use Rattle.output_groups.proofs.PlaceLaws.{one_coin}
 use Rattle.output_groups.specs.Measures.{IsGroup, gain, is_useful}
 use Rattle.output_groups.specs.declared.rows.Row.{Row}
 use Rattle.pick_problem.specs.Problem.{PlainProblem, Rising, value_of as value_at, weight_of as weight_at}
@@ -31,29 +30,29 @@ use Rattle.search_run.specs.Found.{IsResultOf, PlainFound}
 use Rattle.fund_plan.specs.Answer.{IsAtHandBy, IsPayment}
 use Rattle.fund_plan.specs.Figures.{waste_of}
 use Rattle.fund_steps.specs.Amounts.{AreWithin, fees_of, value_of, weight_of}
-use Rattle.fund_steps.specs.Listed.{presets_in}
-use Rattle.fund_steps.specs.Plan.{IsEligible, IsPlan, PlainPlan, ladder_in}
+use Rattle.fund_steps.specs.Listed.{burden_in, presets_in}
+use Rattle.fund_steps.specs.Plan.{IsPlan, PlainPlan, coins_in, ladder_in}
 use Rattle.fund_steps.specs.Terms.{load_of, rates_of}
-use Rattle.fund_steps.specs.Selection.{AreSorted, in_order, is_listed, unlisted}
-use Rattle.fund_steps.proofs.PresetLaws.{presets_listed}
-use Rattle.fund_steps.proofs.SelectionLaws.{in_order_has, in_order_keeps, in_order_sorted}
+use Rattle.fund_steps.specs.Selection.{AreSorted, is_listed, unlisted}
+use Rattle.fund_steps.proofs.BumpLaws.{candidate_in, candidates_worth, coins_each, in_order_all, presets_apart, presets_are, presets_held, presets_sorted}
+use Rattle.fund_steps.proofs.SelectionLaws.{in_order_keeps, in_order_sorted}
 use Rattle.fund_plan.specs.Chosen.{change_at, chosen_at, coins_at, funded_at, left_of, load_by, row_of}
 use Rattle.fund_plan.specs.Pays.{Pays, payment_from, payment_weight, raised_of}
 use Rattle.fund_plan.specs.Steps.{is_given, load_in, pool_in, problem_at, steps_of}
 use Rattle.fund_plan.proofs.RowLaws.{found_in, items_of}
 use Rattle.fund_plan.proofs.PaysLaws.{pays_with, pays_without}
-use Rattle.fund_plan.proofs.SpendLaws.{AreApart, apart_both, members_apart, members_grouped, members_held, ones, order_sum, some_count, some_sum}
+use Rattle.fund_plan.proofs.SpendLaws.{AreApart, apart_both, members_apart, members_grouped, members_held, order_sum, some_count, some_sum}
 use Rattle.fund_plan.proofs.BringLaws.{base_fee, gains_are, groups_in, items_in, once_in, short_of, some_target, target_in, values_are, weights_are}
 
 -- ---- what pays, at plain numbers
 
-within : (paid base raised value fees bring cf cl worth costs vc fc : ℕ) → bring + costs ≡ worth → vc ≡ value + worth → fc ≡ fees + costs → short_of paid base raised value fees ≤ℤ pos bring
-    → pos bring ≤ℤ ((short_of paid base raised value fees +ℤ pos cf +ℤ pos cl) -ℤ pos 1) → (paid + base + fc + 0 + raised ≤ vc) × (vc + 1 ≤ paid + base + fc + 0 + raised + cf + cl)
-within paid base raised value fees bring cf cl worth costs vc fc is v f low high = (omega (arith, ints), omega (arith, ints))
+within : (paid base burden raised value fees bring cf cl worth costs vc fc : ℕ) → bring + costs ≡ worth → vc ≡ value + worth → fc ≡ fees + costs → short_of paid base burden raised value fees ≤ℤ pos bring
+    → pos bring ≤ℤ ((short_of paid base burden raised value fees +ℤ pos cf +ℤ pos cl) -ℤ pos 1) → (paid + base + fc + burden + raised ≤ vc) × (vc + 1 ≤ paid + base + fc + burden + raised + cf + cl)
+within paid base burden raised value fees bring cf cl worth costs vc fc is v f low high = (omega (arith, ints), omega (arith, ints))
 
-beyond : (paid base raised value fees bring cf cl worth costs vc fc change : ℕ) → bring + costs ≡ worth → vc ≡ value + worth → fc ≡ fees + costs → pos change ≡ ((pos worth -ℤ pos costs) -ℤ short_of paid base raised value fees) -ℤ pos cf
-    → (short_of paid base raised value fees +ℤ pos cf +ℤ pos cl) ≤ℤ pos bring → (vc ≡ paid + change + base + fc + 0 + raised + cf) × (cl ≤ change)
-beyond paid base raised value fees bring cf cl worth costs vc fc change is v f e high = (omega (arith, ints), omega (arith, ints))
+beyond : (paid base burden raised value fees bring cf cl worth costs vc fc change : ℕ) → bring + costs ≡ worth → vc ≡ value + worth → fc ≡ fees + costs → pos change ≡ ((pos worth -ℤ pos costs) -ℤ short_of paid base burden raised value fees) -ℤ pos cf
+    → (short_of paid base burden raised value fees +ℤ pos cf +ℤ pos cl) ≤ℤ pos bring → (vc ≡ paid + change + base + fc + burden + raised + cf) × (cl ≤ change)
+beyond paid base burden raised value fees bring cf cl worth costs vc fc change is v f e high = (omega (arith, ints), omega (arith, ints))
 
 left_some : (bring cf cl worth costs : ℕ) (short : ℤ) → bring + costs ≡ worth → (short +ℤ pos cf +ℤ pos cl) ≤ℤ pos bring → pos 0 ≤ℤ (((pos worth -ℤ pos costs) -ℤ short) -ℤ pos cf)
 left_some bring cf cl worth costs short is high = omega (arith, ints)
@@ -71,9 +70,6 @@ weigh_some rate (c ∷ cs) fit some = omega (arith, (All-head IsCandidate c cs f
 
 -- ---- presets and chosen coins
 
-listed_by : (points : List OutPoint) (q : OutPoint) → Contains points q → is_listed points q ≡ true
-listed_by points q h = list_any-from_Any (λ p. same_outpoint p q) points (h.0, q, h.1, h.2, (same_outpoint-Decides q q).1 refl)
-
 same_less : (a : OutPoint) → outpoint_cmp a a ≡ Less → ⊥
 same_less a up = let e = sym up ∙ outpoint_total.antisymm a a ∙ ap ordering_reverse up in absurd (cc)
 
@@ -86,7 +82,7 @@ all_of p row places = presets_in p ++ chosen_at p row places
 
 pub record IsSpent (p : PlainPlan) (row : Row) (places : List ℕ) : Type 0 where
   pub apart : AreApart (all_of p row places)
-  pub held : All (Contains p.candidates) (all_of p row places)
+  pub held : All (Contains (coins_in p)) (all_of p row places)
   pub chosen_apart : AreApart (chosen_at p row places)
   pub chosen_held : All (Contains p.candidates) (chosen_at p row places)
 
@@ -96,45 +92,49 @@ spent p row places h rising =
     let unlisted_by : Candidate → Bool = λ c. not (is_listed p.request.coins c.coin) in
     let groups = (pool_in p row).groups in
     let once = once_in p row h in
-    let listed = presets_listed p h.eligible in
     let mine : AreApart (chosen_at p row places) = members_apart rest groups 0 places once rising in
     let in_rest : All (Contains rest) (chosen_at p row places) = members_held rest groups 0 places once rising in
     let from_rest : All (Contains p.candidates) rest = All-filter unlisted_by (Contains p.candidates) p.candidates (All-contains_itself p.candidates) in
     let chosen : All (Contains p.candidates) (chosen_at p row places) = All-weaker (Contains rest) (Contains p.candidates) (λ c there. All-contains (Contains p.candidates) rest c from_rest there) (chosen_at p row places) in_rest in
-    let given : All (Contains p.candidates) (presets_in p) = All-weaker (IsEligible p) (Contains p.candidates) (λ c e. e.candidate) (presets_in p) listed.eligible in
+    let among : All (Contains (coins_in p)) (chosen_at p row places) = All-weaker (Contains p.candidates) (Contains (coins_in p)) (candidate_in p.bump p.candidates) (chosen_at p row places) chosen in
     let cross : (a b : Candidate) → Contains (presets_in p) a → Contains (chosen_at p row places) b → a.coin ≢ b.coin =
-    λ a b first second same.
-    let mentioned : is_listed p.request.coins b.coin ≡ true =
-    listed_by p.request.coins b.coin (subst (Contains p.request.coins) same (All-contains (λ (c : Candidate). Contains p.request.coins c.coin) (presets_in p) a listed.only first)) in
-    let passes : unlisted_by b ≡ true = All-contains (λ (c : Candidate). unlisted_by c ≡ true) rest b (filter_passes unlisted_by p.candidates) (All-contains (Contains rest) (chosen_at p row places) b in_rest second) in
-    both_ways (is_listed p.request.coins b.coin) (not-true _ passes) mentioned in
+    λ a b first second. presets_apart p a b h first (All-contains (Contains rest) (chosen_at p row places) b in_rest second) in
     record {
-      apart = apart_both (presets_in p) (chosen_at p row places) (sorted_apart (presets_in p) listed.sorted) mine cross;
-      held = All-append (Contains p.candidates) (presets_in p) (chosen_at p row places) given chosen;
+      apart = apart_both (presets_in p) (chosen_at p row places) (sorted_apart (presets_in p) (presets_sorted p (presets_in p) (presets_are p h))) mine cross;
+      held = All-append (Contains (coins_in p)) (presets_in p) (chosen_at p row places) (presets_held p h) among;
       chosen_apart = mine;
       chosen_held = chosen;
     }
 
--- such coins are within their bounds
+-- candidates that stand apart are within their bounds
 pub fit_of : (p : PlainPlan) (coins : List Candidate) → IsPlan p → AreApart coins → All (Contains p.candidates) coins → AreWithin coins
 fit_of p coins h apart held = record {
   each = All-weaker (Contains p.candidates) IsCandidate (λ c there. All-contains IsCandidate p.candidates c h.candidates.each there) coins held;
   count = omega (arith, some_count coins p.candidates apart held, h.candidates.count);
-  value = omega (arith, some_sum (λ (c : Candidate). c.value) coins p.candidates apart held, h.within);
+  value = omega (arith, some_sum (λ (c : Candidate). c.value) coins p.candidates apart held, h.within, candidates_worth p.bump p.candidates);
 }
 
 pub chosen_fit : (p : PlainPlan) (row : Row) (places : List ℕ) → IsPlan p → Rising (length (pool_in p row).groups) 0 places → AreWithin (chosen_at p row places)
 chosen_fit p row places h rising = let s = spent p row places h rising in fit_of p (chosen_at p row places) h s.chosen_apart s.chosen_held
 
-pub coins_fit : (p : PlainPlan) (row : Row) (places : List ℕ) → IsPlan p → Rising (length (pool_in p row).groups) 0 places → AreWithin (coins_at p row places)
-coins_fit p row places h rising =
+-- coins weigh something each
+weighed_count : (coins : List Candidate) → All IsCandidate coins → 165 * length coins ≤ weight_of coins
+weighed_count [] fit = omega arith
+weighed_count (c ∷ cs) fit =
+    let first = (All-head IsCandidate c cs fit).least_weight in
+    omega (arith, first, weighed_count cs (All-tail IsCandidate c cs fit), sum_by-cons (λ (x : Candidate). x.weight) c cs)
+
+-- so those of a payment are within their bounds
+coins_fit : (p : PlainPlan) (row : Row) (places : List ℕ) → IsPlan p → Rising (length (pool_in p row).groups) 0 places → weight_of (coins_at p row places) ≤ 400_000 → AreWithin (coins_at p row places)
+coins_fit p row places h rising light =
     let s = spent p row places h rising in
     let all = all_of p row places in
-    let whole = fit_of p all h s.apart s.held in
+    let whole : All IsCandidate all = All-weaker (Contains (coins_in p)) IsCandidate (λ c there. All-contains IsCandidate (coins_in p) c (coins_each p h) there) all s.held in
+    let each : All IsCandidate (coins_at p row places) = in_order_keeps IsCandidate all whole in
     record {
-      each = in_order_keeps IsCandidate all whole.each;
-      count = omega (arith, whole.count, ones all, ones (in_order all), order_sum (λ (c : Candidate). 1) all s.apart);
-      value = omega (arith, whole.value, order_sum (λ (c : Candidate). c.value) all s.apart);
+      each = each;
+      count = omega (arith, light, weighed_count (coins_at p row places) each);
+      value = omega (arith, h.within, some_sum (λ (c : Candidate). c.value) all (coins_in p) s.apart s.held, order_sum (λ (c : Candidate). c.value) all s.apart);
     }
 
 -- what they come to together
@@ -190,7 +190,7 @@ pays_plainly p row places h e rising adm =
     let cf = change_fee_of (rates_of r) l in
     let cl = change_least_of (rates_of r) l in
     let balance =
-    within (paid_to r.recipients) (base_fee p row) (raised_of r.rate l) (value_of given) (fees_of r.rate given) v cf cl (value_of chosen) (fees_of r.rate chosen) (value_of coins) (fees_of r.rate coins) by.worth value fees
+    within (paid_to r.recipients) (base_fee p row) (burden_in p) (raised_of r.rate l) (value_of given) (fees_of r.rate given) v cf cl (value_of chosen) (fees_of r.rate chosen) (value_of coins) (fees_of r.rate coins) by.worth value fees
     (subst (λ (t : ℤ). t ≤ℤ pos v) (target_in p row) low)
     (subst (λ (t : ℤ). pos v ≤ℤ ((t +ℤ pos cf +ℤ pos cl) -ℤ pos 1)) (target_in p row) high)
     in
@@ -221,7 +221,7 @@ pays_changed p row places h rising low e light =
     let is : pos amount ≡ ((pos (value_of chosen) -ℤ pos (fees_of r.rate chosen)) -ℤ target) -ℤ pos cf =
     pos-nat_abs (((pos (value_of chosen) -ℤ pos (fees_of r.rate chosen)) -ℤ target) -ℤ pos cf) (yes_non_neg (left_some v cf cl (value_of chosen) (fees_of r.rate chosen) target worth low)) in
     let rest =
-    beyond (paid_to r.recipients) (base_fee p row) (raised_of r.rate l) (value_of given) (fees_of r.rate given) v cf cl (value_of chosen) (fees_of r.rate chosen) (value_of coins) (fees_of r.rate coins) amount worth value fees
+    beyond (paid_to r.recipients) (base_fee p row) (burden_in p) (raised_of r.rate l) (value_of given) (fees_of r.rate given) v cf cl (value_of chosen) (fees_of r.rate chosen) (value_of coins) (fees_of r.rate coins) amount worth value fees
     (is ∙ ap (λ (t : ℤ). ((pos (value_of chosen) -ℤ pos (fees_of r.rate chosen)) -ℤ t) -ℤ pos cf) (target_in p row))
     (subst (λ (t : ℤ). (t +ℤ pos cf +ℤ pos cl) ≤ℤ pos v) (target_in p row) low)
     in
@@ -309,19 +309,17 @@ named p f result =
       admissible = here;
     }
 
--- each of the coins is there when they stand in order
-in_order_all : (p : PlainPlan) (coins : List Candidate) → IsPlan p → All (Contains p.candidates) coins → All (Contains (in_order coins)) coins
-in_order_all p coins h held =
-    all_from (Contains (in_order coins)) coins
-    (λ c there.
-    let at : Candidate → Bool = λ d. same_outpoint d.coin c.coin in
-    let any = list_any-from_Any at coins (there.0, c, there.1, there.2, (same_outpoint-Decides c.coin c.coin).1 refl) in
-    let found = Any-from_list_any at (in_order coins) (in_order_has c.coin coins any) in
-    let one : Contains (in_order coins) found.1 = (found.0, found.2, found.3) in
-    let mine = All-contains (Contains p.candidates) coins c held there in
-    let theirs = All-contains (Contains p.candidates) (in_order coins) found.1 (in_order_keeps (Contains p.candidates) coins held) one in
-    let same : found.1 ≡ c = one_coin p.candidates found.1 c h.candidates.distinct theirs mine ((same_outpoint-Decides found.1.coin c.coin).0 found.4) in
-    subst (Contains (in_order coins)) same one)
+light_by : (l : Load) (coins : List Candidate) (change : Option ℕ) → payment_weight l coins change ≤ 400_000 → weight_of coins ≤ 400_000
+light_by l coins None h = omega (arith, h)
+light_by l coins (Some n) h = omega (arith, h)
+
+-- the coins of a result, with the presets, are within their bounds
+pub found_fit : (p : PlainPlan) (f : PlainFound) → IsPlan p → IsResultOf (steps_of p) f → AreWithin (coins_at p (row_of p f.row) f.places)
+found_fit p f h result =
+    let at = named p f result in
+    let row = row_of p f.row in
+    let pays = pays_at p row f.stage f.places h at.searched at.rising at.admissible in
+    coins_fit p row f.places h at.rising (light_by (load_in p row) (coins_at p row f.places) (change_at p row f.stage f.places) pays.weight)
 
 pub found_pays : (p : PlainPlan) (mark : Mark) (f : PlainFound) → IsPlan p → IsResultOf (steps_of p) f → IsPayment p (funded_at p mark f)
 found_pays p mark f h result =
@@ -332,16 +330,16 @@ found_pays p mark f h result =
     let coins = coins_at p row f.places in
     let change = change_at p row f.stage f.places in
     let none : false ≡ (f.row == 0) = sym at.some_row in
-    let there = in_order_all p all h s.held in
+    let there = in_order_all all s.apart in
     let hand : Candidate → Type 0 = IsAtHandBy p false f.row in
     let given : All hand (presets_in p) = all_from hand (presets_in p) (λ c held. inl held) in
     let others : All hand (chosen_at p row f.places) =
     All-weaker (λ (c : Candidate). (g : List Candidate) × Contains (pool_in p row).groups g × Contains g c) hand (λ c in_group. inr in_group) (chosen_at p row f.places) (members_grouped (pool_in p row).groups 0 f.places at.rising) in
     record {
-      candidates = in_order_keeps (Contains p.candidates) all s.held;
+      candidates = in_order_keeps (Contains (coins_in p)) all s.held;
       presets = all_from (Contains coins) (presets_in p) (λ c held. All-contains (Contains coins) all c there (Contains-append_left (presets_in p) (chosen_at p row f.places) c held));
       at_hand = subst (λ (b : Bool). All (IsAtHandBy p b f.row) coins) none (in_order_keeps hand all (All-append hand (presets_in p) (chosen_at p row f.places) given others));
-      coins = coins_fit p row f.places h at.rising;
+      coins = found_fit p f h result;
       pays = subst (λ (b : Bool). Pays p.request p.change (load_by p b f.row) coins change (payment_from p.request p.change coins change)) none (pays_at p row f.stage f.places h at.searched at.rising at.admissible);
       weight_is = ap (λ (b : Bool). payment_weight (load_by p b f.row) coins change) none;
       waste_is = ap (λ (b : Bool). waste_of p.request (load_by p b f.row) coins change) none;

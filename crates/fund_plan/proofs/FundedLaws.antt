@@ -23,7 +23,7 @@ use Rattle.fund_plan.specs.Figures.{waste_of}
 use Rattle.fund_plan.specs.Pays.{payment_weight}
 use Rattle.fund_plan.specs.Selection.{PlainFunded}
 use Rattle.fund_plan.specs.Steps.{load_in, pool_in, steps_of}
-use Rattle.fund_plan.proofs.FoundLaws.{chosen_fit, coins_fit, named}
+use Rattle.fund_plan.proofs.FoundLaws.{chosen_fit, found_fit, named}
 use Rattle.fund_plan.proofs.OutcomeLaws.{found_selection}
 
 -- What is at hand for the payment of a result: its row, the pool of that row, and what the payment is to carry.
@@ -65,7 +65,7 @@ pub chosen_within : (p : PlainPlan) (f : PlainFound) (pool : PlainPool) (load : 
 chosen_within p f pool load chosen m is = subst AreWithin (sym is) (chosen_fit p (row_of p f.row) f.places m.plan (named p f m.result).rising)
 
 pub coins_within : (p : PlainPlan) (f : PlainFound) (pool : PlainPool) (load : Load) (coins : List Candidate) → IsMade p f pool load → coins ≡ coins_at p (row_of p f.row) f.places → AreWithin coins
-coins_within p f pool load coins m is = subst AreWithin (sym is) (coins_fit p (row_of p f.row) f.places m.plan (named p f m.result).rising)
+coins_within p f pool load coins m is = subst AreWithin (sym is) (found_fit p f m.plan m.result)
 
 pub change_is : (p : PlainPlan) (f : PlainFound) (pool : PlainPool) (load : Load) (rates : Rates) (chosen : List Candidate) (s : Stage) → IsMade p f pool load → rates ≡ rates_of p.request → chosen ≡ chosen_at p (row_of p f.row) f.places → s ≡ f.stage
     → change_with rates load chosen s ≡ change_at p (row_of p f.row) f.stage f.places

@@ -12,7 +12,7 @@ use Rattle.fee_rates.specs.Terms.{base_of, target_of}
 use Rattle.request_text.specs.PlainRequest.{paid_to}
 use Rattle.fund_base.specs.declared.candidate.Candidate.{Candidate}
 use Rattle.fund_steps.specs.Amounts.{fees_of, value_of}
-use Rattle.fund_steps.specs.Listed.{presets_in}
+use Rattle.fund_steps.specs.Listed.{burden_in, presets_in}
 use Rattle.fund_steps.specs.Plan.{IsPlan, PlainPlan}
 use Rattle.fund_steps.specs.Presets.{presets_of}
 use Rattle.fund_steps.specs.Terms.{load_of, rates_of}
@@ -32,7 +32,7 @@ same_funded a b e = cc
 
 pub given_mark : (p : PlainPlan) (f : PlainFunded) → given_of p ≡ answers.Funded f → f.mark ≡ mark.Given
 unfolding given_of
-given_mark p f e = by (presets_of (rates_of p.request) (load_of p.request p.change (presets_in p))) e
+given_mark p f e = by (presets_of (rates_of p.request) (load_of p.request p.change (presets_in p) (burden_in p))) e
   where
     by : (d : Presets) → by_presets p d ≡ answers.Funded f → f.mark ≡ mark.Given
     by Short e = absurd (cc)
@@ -41,7 +41,7 @@ given_mark p f e = by (presets_of (rates_of p.request) (load_of p.request p.chan
 
 pub never_open : (p : PlainPlan) → given_of p ≡ answers.Unfinished → ⊥
 unfolding given_of
-never_open p e = by (presets_of (rates_of p.request) (load_of p.request p.change (presets_in p))) e
+never_open p e = by (presets_of (rates_of p.request) (load_of p.request p.change (presets_in p) (burden_in p))) e
   where
     by : (d : Presets) → by_presets p d ≡ answers.Unfinished → ⊥
     by Short e = cc
@@ -51,12 +51,12 @@ never_open p e = by (presets_of (rates_of p.request) (load_of p.request p.change
 -- where the presets don't bring all that is needed they don't pay alone
 given_short : (p : PlainPlan) → is_given p ≡ false → given_of p ≡ answers.NoSelection
 unfolding given_of load_of
-given_short p e = by (presets_of (rates_of p.request) (load_of p.request p.change (presets_in p))) refl
+given_short p e = by (presets_of (rates_of p.request) (load_of p.request p.change (presets_in p) (burden_in p))) refl
   where
-    no_met : (d : Presets) → presets_of (rates_of p.request) (load_of p.request p.change (presets_in p)) ≡ d → (d ≡ Short → ⊥) → ⊥
-    no_met d is other = let met = met_where (rates_of p.request) (load_of p.request p.change (presets_in p)) (λ s. other (sym is ∙ s)) in let both : true ≡ false = sym met ∙ e in cc
+    no_met : (d : Presets) → presets_of (rates_of p.request) (load_of p.request p.change (presets_in p) (burden_in p)) ≡ d → (d ≡ Short → ⊥) → ⊥
+    no_met d is other = let met = met_where (rates_of p.request) (load_of p.request p.change (presets_in p) (burden_in p)) (λ s. other (sym is ∙ s)) in let both : true ≡ false = sym met ∙ e in cc
 
-    by : (d : Presets) → presets_of (rates_of p.request) (load_of p.request p.change (presets_in p)) ≡ d → by_presets p d ≡ answers.NoSelection
+    by : (d : Presets) → presets_of (rates_of p.request) (load_of p.request p.change (presets_in p) (burden_in p)) ≡ d → by_presets p d ≡ answers.NoSelection
     by Short is = refl
     by Plain is = absurd (no_met Plain is (λ s. cc))
     by (Change amount) is = absurd (no_met (Change amount) is (λ s. cc))
@@ -70,24 +70,24 @@ pub ended_none : (p : PlainPlan) → by_end p (ends.Ended None) ≡ given_of p
 ended_none p = given_by p (is_given p) refl
 
 pub alone_means : (p : PlainPlan) (o : Outcome) → IsPlan p → by_end p (ends.Ended None) ≡ o → AnswersAlone p o
-alone_means p o h e = subst (AnswersAlone p) (sym (ended_none p) ∙ e) (given_means p h.eligible)
+alone_means p o h e = subst (AnswersAlone p) (sym (ended_none p) ∙ e) (given_means p h)
 
 -- they bring all that is due exactly where nothing is searched for, at plain numbers
-brings_all : (paid base value fees : ℕ) → int_le (pos (paid + base + 0) -ℤ (pos value -ℤ pos fees)) (pos 0) ≡ true → paid + base + fees + 0 + 0 ≤ value
-brings_all paid base value fees e = grind (arith, ints, e)
+brings_all : (paid base burden value fees : ℕ) → int_le (pos (paid + base + burden) -ℤ (pos value -ℤ pos fees)) (pos 0) ≡ true → paid + base + fees + burden + 0 ≤ value
+brings_all paid base burden value fees e = grind (arith, ints, e)
 
-all_brought : (paid base value fees : ℕ) → paid + base + fees + 0 + 0 ≤ value → int_le (pos (paid + base + 0) -ℤ (pos value -ℤ pos fees)) (pos 0) ≡ true
-all_brought paid base value fees h = grind (arith, ints, h)
+all_brought : (paid base burden value fees : ℕ) → paid + base + fees + burden + 0 ≤ value → int_le (pos (paid + base + burden) -ℤ (pos value -ℤ pos fees)) (pos 0) ≡ true
+all_brought paid base burden value fees h = grind (arith, ints, h)
 
-brings_by : (b : Bool) (paid base value fees rest : ℕ) → b ≡ true → int_le (if b then pos (paid + base + 0) -ℤ (pos value -ℤ pos fees) else int_max (pos (paid + base + 0) -ℤ (pos value -ℤ pos fees)) (pos 1)) (pos 0) ≡ true
-    → paid + base + fees + 0 + (if b then 0 else rest) ≤ value
-brings_by true paid base value fees rest t e = brings_all paid base value fees e
-brings_by false paid base value fees rest t e = absurd (cc)
+brings_by : (b : Bool) (paid base burden value fees rest : ℕ) → b ≡ true → int_le (if b then pos (paid + base + burden) -ℤ (pos value -ℤ pos fees) else int_max (pos (paid + base + burden) -ℤ (pos value -ℤ pos fees)) (pos 1)) (pos 0) ≡ true
+    → paid + base + fees + burden + (if b then 0 else rest) ≤ value
+brings_by true paid base burden value fees rest t e = brings_all paid base burden value fees e
+brings_by false paid base burden value fees rest t e = absurd (cc)
 
-brought_by : (b : Bool) (paid base value fees rest : ℕ) → b ≡ true → paid + base + fees + 0 + (if b then 0 else rest) ≤ value
-    → int_le (if b then pos (paid + base + 0) -ℤ (pos value -ℤ pos fees) else int_max (pos (paid + base + 0) -ℤ (pos value -ℤ pos fees)) (pos 1)) (pos 0) ≡ true
-brought_by true paid base value fees rest t h = all_brought paid base value fees h
-brought_by false paid base value fees rest t h = absurd (cc)
+brought_by : (b : Bool) (paid base burden value fees rest : ℕ) → b ≡ true → paid + base + fees + burden + (if b then 0 else rest) ≤ value
+    → int_le (if b then pos (paid + base + burden) -ℤ (pos value -ℤ pos fees) else int_max (pos (paid + base + burden) -ℤ (pos value -ℤ pos fees)) (pos 1)) (pos 0) ≡ true
+brought_by true paid base burden value fees rest t h = all_brought paid base burden value fees h
+brought_by false paid base burden value fees rest t h = absurd (cc)
 
 some_given : (coins : List Candidate) → not (length coins == 0) ≡ true → 0 < length coins
 some_given [] e = absurd (cc)
@@ -101,17 +101,17 @@ given_some coins some = by (length coins == 0) refl
     by false is = refl
 
 abbrev base_fee : PlainPlan → ℕ
-base_fee p = fee_of p.request.rate (vsize_of (base_of (load_of p.request p.change (presets_in p))))
+base_fee p = fee_of p.request.rate (vsize_of (base_of (load_of p.request p.change (presets_in p) (burden_in p))))
 
 pub given_brings : (p : PlainPlan) → is_given p ≡ true → BringAll p
 unfolding load_of
 given_brings p e =
     let r = p.request in
     let given = presets_in p in
-    let both = and_parts (not (length given == 0)) (int_le (target_of (rates_of r) (load_of r p.change given)) (pos 0)) e in
+    let both = and_parts (not (length given == 0)) (int_le (target_of (rates_of r) (load_of r p.change given (burden_in p))) (pos 0)) e in
     record {
       some = some_given given both.0;
-      enough = brings_by (not (length given == 0)) (paid_to r.recipients) (base_fee p) (value_of given) (fees_of r.rate given) (1 - (paid_to r.recipients + base_fee p + 0)) both.0 both.1;
+      enough = brings_by (not (length given == 0)) (paid_to r.recipients) (base_fee p) (burden_in p) (value_of given) (fees_of r.rate given) (1 - (paid_to r.recipients + base_fee p + burden_in p)) both.0 both.1;
     }
 
 brings_given : (p : PlainPlan) → BringAll p → is_given p ≡ true
@@ -120,8 +120,8 @@ brings_given p b =
     let r = p.request in
     let given = presets_in p in
     let some = given_some given b.some in
-    and_from (not (length given == 0)) (int_le (target_of (rates_of r) (load_of r p.change given)) (pos 0)) some
-    (brought_by (not (length given == 0)) (paid_to r.recipients) (base_fee p) (value_of given) (fees_of r.rate given) (1 - (paid_to r.recipients + base_fee p + 0)) some b.enough)
+    and_from (not (length given == 0)) (int_le (target_of (rates_of r) (load_of r p.change given (burden_in p))) (pos 0)) some
+    (brought_by (not (length given == 0)) (paid_to r.recipients) (base_fee p) (burden_in p) (value_of given) (fees_of r.rate given) (1 - (paid_to r.recipients + base_fee p + burden_in p)) some b.enough)
 
 pub given_where : (p : PlainPlan) → (is_given p ≡ true ↔ BringAll p)
 given_where p = (given_brings p, brings_given p)

@@ -1,5 +1,7 @@
+pub mod AmongLaws
 pub mod AnswerLaws
 pub mod BringLaws
+pub mod BurdenLaws
 pub mod CanLaws
 pub mod ChosenLaws
 pub mod ClaimLaws

@@ -13,13 +13,13 @@ use Rattle.fund_steps.specs.Plan.{IsRoomy, PlainPlan}
 use Rattle.fund_steps.specs.Selection.{unlisted}
 use Rattle.fund_steps.specs.Terms.{load_of}
 
-pub paid_is : (r : PlainRequest) (w : Watch) (coins : List Candidate) (l : Load) → l ≡ load_of r w coins → l.paid ≡ paid_to r.recipients
+pub paid_is : (r : PlainRequest) (w : Watch) (coins : List Candidate) (d : ℕ) (l : Load) → l ≡ load_of r w coins d → l.paid ≡ paid_to r.recipients
 unfolding load_of
-paid_is r w coins l e = ap (λ (x : Load). x.paid) e
+paid_is r w coins d l e = ap (λ (x : Load). x.paid) e
 
-pub few_coins : (r : PlainRequest) (w : Watch) (coins : List Candidate) (l : Load) → l ≡ load_of r w coins → AreWithin coins → l.coins ≤ 100_000
+pub few_coins : (r : PlainRequest) (w : Watch) (coins : List Candidate) (d : ℕ) (l : Load) → l ≡ load_of r w coins d → AreWithin coins → l.coins ≤ 100_000
 unfolding load_of
-few_coins r w coins l e h = let n = ap (λ (x : Load). x.coins) e in omega (arith, n, h.count)
+few_coins r w coins d l e h = let n = ap (λ (x : Load). x.coins) e in omega (arith, n, h.count)
 
 -- a row that keeps at most 10,000 groups doesn't keep more
 pub never_many : (p : PlainPlan) (row : Row) (group : Bool) (rate : ℕ) (cs : List Candidate) (n : ℕ) → IsRoomy p row → group ≡ p.request.group → rate ≡ p.request.rate → cs ≡ unlisted p.request.coins p.candidates

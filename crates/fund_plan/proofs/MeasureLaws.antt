@@ -22,7 +22,7 @@ use Rattle.search_run.specs.Found.{IsResultOf, PlainFound, coins_at as count_at,
 use Rattle.search_run.specs.Step.{PlainStep}
 use Rattle.fund_steps.specs.Amounts.{fees_of, value_of}
 use Rattle.fund_steps.specs.Basis.{basis_of}
-use Rattle.fund_steps.specs.Listed.{presets_in}
+use Rattle.fund_steps.specs.Listed.{burden_in, presets_in}
 use Rattle.fund_steps.specs.Plan.{IsPlan, PlainPlan}
 use Rattle.fund_steps.specs.Searches.{row_in, step_by}
 use Rattle.fund_steps.specs.Terms.{load_of, rates_of}
@@ -84,9 +84,9 @@ counts_are t groups (j ∷ places) rising =
 -- ---- at plain numbers
 
 -- without change: the cost and the excess of the whole, by those of the selection and the cost of the presets
-plain_sum : (paid base raised value fees later lo bring worth costs long vc fc lc : ℕ) (cost : ℤ) → pos lo ≡ short_of paid base raised value fees → lo ≤ bring → bring + costs ≡ worth → vc ≡ value + worth → fc ≡ fees + costs → lc ≡ later + long → cost ≡ pos costs -ℤ pos long
-    → (pos fc -ℤ pos lc) +ℤ (pos vc -ℤ pos (paid + base + fc + 0 + raised)) ≡ (cost +ℤ pos (bring - lo)) +ℤ (pos fees -ℤ pos later)
-plain_sum paid base raised value fees later lo bring worth costs long vc fc lc cost target enough is v f l c = omega (arith, ints)
+plain_sum : (paid base burden raised value fees later lo bring worth costs long vc fc lc : ℕ) (cost : ℤ) → pos lo ≡ short_of paid base burden raised value fees → lo ≤ bring → bring + costs ≡ worth → vc ≡ value + worth → fc ≡ fees + costs → lc ≡ later + long → cost ≡ pos costs -ℤ pos long
+    → (pos fc -ℤ pos lc) +ℤ (pos vc -ℤ pos (paid + base + fc + burden + raised)) ≡ (cost +ℤ pos (bring - lo)) +ℤ (pos fees -ℤ pos later)
+plain_sum paid base burden raised value fees later lo bring worth costs long vc fc lc cost target enough is v f l c = omega (arith, ints)
 
 -- with change
 changed_sum : (fees later costs long fc lc ends : ℕ) (cost : ℤ) → fc ≡ fees + costs → lc ≡ later + long → cost ≡ pos costs -ℤ pos long → (pos fc -ℤ pos lc) +ℤ pos ends ≡ (cost +ℤ pos ends) +ℤ (pos fees -ℤ pos later)
@@ -120,7 +120,7 @@ module _ (p : PlainPlan) (row : Row) (places : List ℕ) (h : IsPlan p) (searche
       let lo : pos x.lo ≡ target_of (rates_of r) l = pos-nat_abs (target_of (rates_of r) l) (yes_non_neg (omega (arith, ints, some))) in
       let value = values_are r.rate r.long_term 0 (pool_in p row).groups x places (items_in p row) rising in
       let enough : x.lo ≤ value_at x places = adm.reaches in
-      plain_sum (paid_to r.recipients) base_fee (raised_of r.rate l) (value_of given) (fees_of r.rate given) (fees_of r.long_term given) x.lo (value_at x places) (value_of chosen) (fees_of r.rate chosen) (fees_of r.long_term chosen)
+      plain_sum (paid_to r.recipients) base_fee (burden_in p) (raised_of r.rate l) (value_of given) (fees_of r.rate given) (fees_of r.long_term given) x.lo (value_at x places) (value_of chosen) (fees_of r.rate chosen) (fees_of r.long_term chosen)
       (value_of (coins_at p row places)) (fees_of r.rate (coins_at p row places)) (fees_of r.long_term (coins_at p row places)) (cost_at x places)
       (lo ∙ target_in p row) enough (omega (arith, value, gains_are r.rate chosen (useful_in p row places h rising)))
       (together (λ (c : Candidate). c.value) p row places h rising) (fees_all r.rate) (fees_all r.long_term) (cost_here x refl)

@@ -1,8 +1,8 @@
 -- What an outcome of a plan pays.
-use Rattle.std.specs.Prelude.{ℕ, ◌≡◌, ◌<◌, Bool, true, false, List, [], ◌∷◌, All, Contains, length, slice_index_or, Option, Some, None, if◌then◌else◌}
+use Rattle.std.specs.Prelude.{ℕ, ◌≡◌, ◌<◌, Bool, true, false, List, [], ◌∷◌, All, length, slice_index_or, Option, Some, None, if◌then◌else◌}
 use Rattle.std.proofs.Common.{refl, arith}
 use Rattle.std.proofs.lemmas.List.{length-append}
-use Rattle.std.proofs.lemmas.List.Elements.{All-contains, All-contains_itself, All-weaker, Contains-get_or}
+use Rattle.std.proofs.lemmas.List.Elements.{All-contains, All-contains_itself, Contains-get_or}
 use Rattle.closing_log.specs.declared.mark.Mark.{Mark}
 use Rattle.closing_log.specs.declared.mark.Mark.TheVariants as mark
 use Rattle.fund_base.specs.declared.candidate.Candidate.{Candidate}
@@ -12,10 +12,9 @@ use Rattle.search_run.specs.Found.{IsResultOf, PlainFound}
 use Rattle.search_run.specs.Stands.{IsEndOf}
 use Rattle.search_run.specs.declared.ending.End.{End}
 use Rattle.search_run.specs.declared.ending.End.TheVariants as ends
-use Rattle.fund_steps.proofs.PresetLaws.{presets_listed}
-use Rattle.fund_steps.specs.Amounts.{AreWithin}
-use Rattle.fund_steps.specs.Listed.{presets_in}
-use Rattle.fund_steps.specs.Plan.{IsEligible, IsPlan, PlainPlan}
+use Rattle.fund_steps.proofs.BumpLaws.{presets_are, presets_fit, presets_held, presets_sorted}
+use Rattle.fund_steps.specs.Listed.{burden_in, presets_in}
+use Rattle.fund_steps.specs.Plan.{IsPlan, PlainPlan}
 use Rattle.fund_steps.specs.Presets.{presets_of}
 use Rattle.fund_steps.specs.Terms.{load_of, rates_of}
 use Rattle.fund_steps.specs.declared.presets.Presets.{Presets}
@@ -27,18 +26,12 @@ use Rattle.fund_plan.specs.Pays.{payment_from, payment_of}
 use Rattle.fund_plan.specs.Steps.{is_given, pool_in, steps_of}
 use Rattle.fund_plan.specs.declared.outcome.Outcome.{Outcome}
 use Rattle.fund_plan.specs.declared.outcome.Outcome.TheVariants.{Funded, NoSelection}
-use Rattle.fund_plan.proofs.FoundLaws.{fit_of, found_pays, named, sorted_apart, together}
+use Rattle.fund_plan.proofs.FoundLaws.{found_pays, named, together}
 use Rattle.fund_plan.proofs.BringLaws.{groups_in}
 use Rattle.fund_plan.proofs.PaysLaws.{pays_change, pays_plain, pays_some, selection_is}
 use Rattle.fund_plan.proofs.SpendLaws.{ones}
 
 -- ---- the presets alone
-
-presets_held : (p : PlainPlan) → IsPlan p → All (Contains p.candidates) (presets_in p)
-presets_held p h = All-weaker (IsEligible p) (Contains p.candidates) (λ c e. e.candidate) (presets_in p) (presets_listed p h.eligible).eligible
-
-pub presets_fit : (p : PlainPlan) → IsPlan p → AreWithin (presets_in p)
-presets_fit p h = fit_of p (presets_in p) h (sorted_apart (presets_in p) (presets_listed p h.eligible).sorted) (presets_held p h)
 
 given_pays : (p : PlainPlan) (change : Option ℕ) → IsPlan p → PaysAlone p (presets_in p) change (payment_from p.request p.change (presets_in p) change) → IsPayment p (given_from p (presets_in p) change)
 given_pays p change h pays = record {
@@ -61,17 +54,17 @@ given_done p change h pays =
     let given = presets_in p in
     record {
       payments = given_pays p change h pays;
-      selection = selection_is p.request p.change (load_of p.request p.change given) (given_from p given change) (payment_from p.request p.change given change) (presets_fit p h) (pays_some p.request p.change given change (payment_from p.request p.change given change) pays) pays;
+      selection = selection_is p.request p.change (load_of p.request p.change given (burden_in p)) (given_from p given change) (payment_from p.request p.change given change) (presets_fit p h) (pays_some p.request p.change given (burden_in p) change (payment_from p.request p.change given change) pays) pays;
     }
 
-given_by : (p : PlainPlan) (way : Presets) → IsPlan p → presets_of (rates_of p.request) (load_of p.request p.change (presets_in p)) ≡ way → IsDone p (by_presets p way)
+given_by : (p : PlainPlan) (way : Presets) → IsPlan p → presets_of (rates_of p.request) (load_of p.request p.change (presets_in p) (burden_in p)) ≡ way → IsDone p (by_presets p way)
 given_by p Short h e = record { payments = tt; selection = tt }
-given_by p Plain h e = given_done p None h (pays_plain p.request p.change (presets_in p) (presets_listed p h.eligible).sorted e)
-given_by p (Change n) h e = given_done p (Some n) h (pays_change p.request p.change (presets_in p) n (presets_listed p h.eligible).sorted e)
+given_by p Plain h e = given_done p None h (pays_plain p.request p.change (presets_in p) (burden_in p) (presets_sorted p (presets_in p) (presets_are p h)) e)
+given_by p (Change n) h e = given_done p (Some n) h (pays_change p.request p.change (presets_in p) (burden_in p) n (presets_sorted p (presets_in p) (presets_are p h)) e)
 
 presets_done : (p : PlainPlan) → IsPlan p → IsDone p (given_of p)
 unfolding given_of
-presets_done p h = given_by p (presets_of (rates_of p.request) (load_of p.request p.change (presets_in p))) h refl
+presets_done p h = given_by p (presets_of (rates_of p.request) (load_of p.request p.change (presets_in p) (burden_in p))) h refl
 
 -- ---- results
 

@@ -96,11 +96,11 @@ none_worth rate [] e = (refl, refl)
 none_worth rate (c ∷ coins) e = let none = eqb-true (length (c ∷ coins)) 0 (not-false _ e) in absurd (omega (arith, none))
 
 -- what the payment from the coins has to bring
-target_here : (r : PlainRequest) (w : Watch) (coins : List Candidate)
-    → target_of (rates_of r) (load_of r w coins) ≡ needed (paid_to r.recipients) (fee_of r.rate (vsize_of (base_of (load_of r w coins)))) 0 (raised_of r.rate (load_of r w coins)) (value_of coins) (fees_of r.rate coins)
+target_here : (r : PlainRequest) (w : Watch) (coins : List Candidate) (d : ℕ)
+    → target_of (rates_of r) (load_of r w coins d) ≡ needed (paid_to r.recipients) (fee_of r.rate (vsize_of (base_of (load_of r w coins d)))) d (raised_of r.rate (load_of r w coins d)) (value_of coins) (fees_of r.rate coins)
 unfolding load_of
-target_here r w coins =
-    raised_as (not (length coins == 0)) (paid_to r.recipients + fee_of r.rate (vsize_of (base_of (load_of r w coins))) + 0) (value_of coins) (fees_of r.rate coins) (none_worth r.rate coins)
+target_here r w coins d =
+    raised_as (not (length coins == 0)) (paid_to r.recipients + fee_of r.rate (vsize_of (base_of (load_of r w coins d))) + d) (value_of coins) (fees_of r.rate coins) (none_worth r.rate coins)
 
 -- which of three it was
 was_plain : (a b : Bool) (n : ℕ) → cond a Plain (cond b (Change n) Short) ≡ Plain → a ≡ true
@@ -119,10 +119,10 @@ was_short false true n e = absurd (cc)
 was_short false false n e = (refl, refl)
 
 -- the fee of the whole weight is within those of the parts
-plain_covers : (rate base paid more value : ℕ) (coins : List Candidate) → paid + fee_of rate (vsize_of base) + fees_of rate coins + 0 + more ≤ value → paid + fee_of rate (vsize_of (base + weight_of coins)) ≤ value
+pub plain_covers : (rate base paid more value : ℕ) (coins : List Candidate) → paid + fee_of rate (vsize_of base) + fees_of rate coins + 0 + more ≤ value → paid + fee_of rate (vsize_of (base + weight_of coins)) ≤ value
 plain_covers rate base paid more value coins h = omega (arith, weighed_parts (λ (c : Candidate). c.weight) rate base coins)
 
-change_covers : (rate base paid more value size : ℕ) (coins : List Candidate) → value ≡ paid + fee_of rate (vsize_of base) + fees_of rate coins + 0 + more + fee_of rate size → paid + fee_of rate (vsize_of (base + weight_of coins + 4 * size)) ≤ value
+pub change_covers : (rate base paid more value size : ℕ) (coins : List Candidate) → value ≡ paid + fee_of rate (vsize_of base) + fees_of rate coins + 0 + more + fee_of rate size → paid + fee_of rate (vsize_of (base + weight_of coins + 4 * size)) ≤ value
 change_covers rate base paid more value size coins h =
     omega (
       arith,
@@ -156,32 +156,32 @@ change_test small weight a h = and_from (int_le small (pos 0)) (nat_le weight 40
 -- ---- what the coins of a request come to
 
 -- the fee of the base
-abbrev base_fee : PlainRequest → Watch → List Candidate → ℕ
-base_fee r w coins = fee_of r.rate (vsize_of (base_of (load_of r w coins)))
+abbrev base_fee : PlainRequest → Watch → List Candidate → ℕ → ℕ
+base_fee r w coins d = fee_of r.rate (vsize_of (base_of (load_of r w coins d)))
 
 -- inputs less outputs, where they pay without change
-plain_window : (r : PlainRequest) (w : Watch) (coins : List Candidate) → target_of (rates_of r) (load_of r w coins) ≤ℤ pos 0 → pos 0 ≤ℤ hi_of (rates_of r) (load_of r w coins)
-    → (paid_to r.recipients + base_fee r w coins + fees_of r.rate coins + 0 + raised_of r.rate (load_of r w coins) ≤ value_of coins)
-    × (value_of coins + 1 ≤ paid_to r.recipients + base_fee r w coins + fees_of r.rate coins + 0 + raised_of r.rate (load_of r w coins) + change_fee_of (rates_of r) (load_of r w coins) + change_least_of (rates_of r) (load_of r w coins))
-plain_window r w coins low high =
-    let l = load_of r w coins in
+plain_window : (r : PlainRequest) (w : Watch) (coins : List Candidate) (d : ℕ) → target_of (rates_of r) (load_of r w coins d) ≤ℤ pos 0 → pos 0 ≤ℤ hi_of (rates_of r) (load_of r w coins d)
+    → (paid_to r.recipients + base_fee r w coins d + fees_of r.rate coins + d + raised_of r.rate (load_of r w coins d) ≤ value_of coins)
+    × (value_of coins + 1 ≤ paid_to r.recipients + base_fee r w coins d + fees_of r.rate coins + d + raised_of r.rate (load_of r w coins d) + change_fee_of (rates_of r) (load_of r w coins d) + change_least_of (rates_of r) (load_of r w coins d))
+plain_window r w coins d low high =
+    let l = load_of r w coins d in
     let cf = change_fee_of (rates_of r) l in
     let cl = change_least_of (rates_of r) l in
-    window (paid_to r.recipients) (base_fee r w coins) 0 (raised_of r.rate l) (value_of coins) (fees_of r.rate coins) cf cl
-    (subst (λ (t : ℤ). t ≤ℤ pos 0) (target_here r w coins) low)
-    (subst (λ (t : ℤ). pos 0 ≤ℤ ((t +ℤ pos cf +ℤ pos cl) -ℤ pos 1)) (target_here r w coins) high)
+    window (paid_to r.recipients) (base_fee r w coins d) d (raised_of r.rate l) (value_of coins) (fees_of r.rate coins) cf cl
+    (subst (λ (t : ℤ). t ≤ℤ pos 0) (target_here r w coins d) low)
+    (subst (λ (t : ℤ). pos 0 ≤ℤ ((t +ℤ pos cf +ℤ pos cl) -ℤ pos 1)) (target_here r w coins d) high)
 
 -- inputs less outputs, where they pay with change
-change_rest : (r : PlainRequest) (w : Watch) (coins : List Candidate) (amount : ℕ) → amount ≡ unsigned_abs ((pos 0 -ℤ target_of (rates_of r) (load_of r w coins)) -ℤ pos (change_fee_of (rates_of r) (load_of r w coins))) → small_of (rates_of r) (load_of r w coins) ≤ℤ pos 0
-    → (value_of coins ≡ paid_to r.recipients + amount + base_fee r w coins + fees_of r.rate coins + 0 + raised_of r.rate (load_of r w coins) + change_fee_of (rates_of r) (load_of r w coins))
-    × (change_least_of (rates_of r) (load_of r w coins) ≤ amount)
-change_rest r w coins amount is small =
-    let l = load_of r w coins in
+change_rest : (r : PlainRequest) (w : Watch) (coins : List Candidate) (d amount : ℕ) → amount ≡ unsigned_abs ((pos 0 -ℤ target_of (rates_of r) (load_of r w coins d)) -ℤ pos (change_fee_of (rates_of r) (load_of r w coins d))) → small_of (rates_of r) (load_of r w coins d) ≤ℤ pos 0
+    → (value_of coins ≡ paid_to r.recipients + amount + base_fee r w coins d + fees_of r.rate coins + d + raised_of r.rate (load_of r w coins d) + change_fee_of (rates_of r) (load_of r w coins d))
+    × (change_least_of (rates_of r) (load_of r w coins d) ≤ amount)
+change_rest r w coins d amount is small =
+    let l = load_of r w coins d in
     let cf = change_fee_of (rates_of r) l in
     let cl = change_least_of (rates_of r) l in
-    left (paid_to r.recipients) (base_fee r w coins) 0 (raised_of r.rate l) (value_of coins) (fees_of r.rate coins) cf cl amount
-    (is ∙ ap (λ (t : ℤ). unsigned_abs ((pos 0 -ℤ t) -ℤ pos cf)) (target_here r w coins))
-    (subst (λ (t : ℤ). (t +ℤ pos cf +ℤ pos cl) ≤ℤ pos 0) (target_here r w coins) small)
+    left (paid_to r.recipients) (base_fee r w coins d) d (raised_of r.rate l) (value_of coins) (fees_of r.rate coins) cf cl amount
+    (is ∙ ap (λ (t : ℤ). unsigned_abs ((pos 0 -ℤ t) -ℤ pos cf)) (target_here r w coins d))
+    (subst (λ (t : ℤ). (t +ℤ pos cf +ℤ pos cl) ≤ℤ pos 0) (target_here r w coins d) small)
 
 -- coins that balance without change pay
 pub pays_without : (r : PlainRequest) (w : Watch) (l : Load) (coins : List Candidate) → AreSorted coins → Balances r l coins None (value_of coins) (paid_to r.recipients) → payment_weight l coins None ≤ 400_000
@@ -225,70 +225,45 @@ pays_with r w l coins amount sorted balance worth weight =
     }
 
 -- without change they pay
-pub pays_plain : (r : PlainRequest) (w : Watch) (coins : List Candidate) → AreSorted coins → presets_of (rates_of r) (load_of r w coins) ≡ Plain → Pays r w (load_of r w coins) coins None (payment_from r w coins None)
-unfolding presets_of load_of payment_from
-pays_plain r w coins sorted e =
-    let l = load_of r w coins in
+pub pays_plain : (r : PlainRequest) (w : Watch) (coins : List Candidate) (d : ℕ) → AreSorted coins → presets_of (rates_of r) (load_of r w coins d) ≡ Plain → Pays r w (load_of r w coins d) coins None (payment_from r w coins None)
+unfolding presets_of load_of
+pays_plain r w coins d sorted e =
+    let l = load_of r w coins d in
     let f = plain_facts (target_of (rates_of r) l) (hi_of (rates_of r) l) (base_of l + weight_of coins) (was_plain _ _ _ e) in
-    let within = plain_window r w coins f.0 f.1 in
-    let total = sum_plain r.recipients (map recipient_output r.recipients ++ []) refl in
-    record {
-      inputs = refl;
-      sorted = sorted;
-      outputs = refl;
-      version = refl;
-      locktime = refl;
-      bare = refl;
-      fee = rw total within;
-      change_worth = tt;
-      weight = f.2;
-      fee_covers = rw total (plain_covers r.rate (base_of l) (paid_to r.recipients) (raised_of r.rate l) (value_of coins) coins within.0);
-    }
+    pays_without r w l coins sorted (plain_window r w coins d f.0 f.1) f.2
 
 -- with change they pay
-pub pays_change : (r : PlainRequest) (w : Watch) (coins : List Candidate) (amount : ℕ) → AreSorted coins → presets_of (rates_of r) (load_of r w coins) ≡ Change amount
-    → Pays r w (load_of r w coins) coins (Some amount) (payment_from r w coins (Some amount))
-unfolding presets_of load_of payment_from
-pays_change r w coins amount sorted e =
-    let l = load_of r w coins in
+pub pays_change : (r : PlainRequest) (w : Watch) (coins : List Candidate) (d amount : ℕ) → AreSorted coins → presets_of (rates_of r) (load_of r w coins d) ≡ Change amount
+    → Pays r w (load_of r w coins d) coins (Some amount) (payment_from r w coins (Some amount))
+unfolding presets_of load_of
+pays_change r w coins d amount sorted e =
+    let l = load_of r w coins d in
     let b = was_change _ _ _ _ e in
     let f = change_facts (small_of (rates_of r) l) (base_of l + weight_of coins + 4 * output_size_of w.script) b.0 in
-    let rest = change_rest r w coins amount b.1 f.0 in
-    let total = sum_change r.recipients (map recipient_output r.recipients ++ record { value = amount; script = w.script } ∷ []) (record { value = amount; script = w.script }) refl in
-    record {
-      inputs = refl;
-      sorted = sorted;
-      outputs = refl;
-      version = refl;
-      locktime = refl;
-      bare = refl;
-      fee = rw total rest.0;
-      change_worth = rest.1;
-      weight = f.1;
-      fee_covers = rw total (change_covers r.rate (base_of l) (paid_to r.recipients + amount) (raised_of r.rate l) (value_of coins) (output_size_of w.script) coins rest.0);
-    }
+    let rest = change_rest r w coins d amount b.1 f.0 in
+    pays_with r w l coins amount sorted rest.0 rest.1 f.1
 
 -- otherwise nothing pays
-pub pays_none : (r : PlainRequest) (w : Watch) (coins : List Candidate) → presets_of (rates_of r) (load_of r w coins) ≡ Short → (amount : Option ℕ) (t : Transaction) → Pays r w (load_of r w coins) coins amount t → ⊥
+pub pays_none : (r : PlainRequest) (w : Watch) (coins : List Candidate) (d : ℕ) → presets_of (rates_of r) (load_of r w coins d) ≡ Short → (amount : Option ℕ) (t : Transaction) → Pays r w (load_of r w coins d) coins amount t → ⊥
 unfolding presets_of load_of
-pays_none r w coins e None t p =
-    let l = load_of r w coins in
+pays_none r w coins d e None t p =
+    let l = load_of r w coins d in
     let f = was_short _ _ _ e in
     let cf = change_fee_of (rates_of r) l in
     let cl = change_least_of (rates_of r) l in
     let fee = rw (sum_plain r.recipients t.outputs p.outputs) at p.fee in
-    let back = window_back (paid_to r.recipients) (base_fee r w coins) 0 (raised_of r.rate l) (value_of coins) (fees_of r.rate coins) cf cl fee.0 fee.1 in
-    let low = subst (λ (t : ℤ). t ≤ℤ pos 0) (sym (target_here r w coins)) back.0 in
-    let high = subst (λ (t : ℤ). pos 0 ≤ℤ ((t +ℤ pos cf +ℤ pos cl) -ℤ pos 1)) (sym (target_here r w coins)) back.1 in
+    let back = window_back (paid_to r.recipients) (base_fee r w coins d) d (raised_of r.rate l) (value_of coins) (fees_of r.rate coins) cf cl fee.0 fee.1 in
+    let low = subst (λ (t : ℤ). t ≤ℤ pos 0) (sym (target_here r w coins d)) back.0 in
+    let high = subst (λ (t : ℤ). pos 0 ≤ℤ ((t +ℤ pos cf +ℤ pos cl) -ℤ pos 1)) (sym (target_here r w coins d)) back.1 in
     both_ways _ f.0 (plain_test (target_of (rates_of r) l) (hi_of (rates_of r) l) (base_of l + weight_of coins) low high p.weight)
-pays_none r w coins e (Some amount) t p =
-    let l = load_of r w coins in
+pays_none r w coins d e (Some amount) t p =
+    let l = load_of r w coins d in
     let f = was_short _ _ _ e in
     let fee = rw (sum_change r.recipients t.outputs (record { value = amount; script = w.script }) p.outputs) at p.fee in
     let cf = change_fee_of (rates_of r) l in
     let cl = change_least_of (rates_of r) l in
-    let back = left_back (paid_to r.recipients) (base_fee r w coins) 0 (raised_of r.rate l) (value_of coins) (fees_of r.rate coins) cf cl amount fee p.change_worth in
-    let small = subst (λ (t : ℤ). (t +ℤ pos cf +ℤ pos cl) ≤ℤ pos 0) (sym (target_here r w coins)) back in
+    let back = left_back (paid_to r.recipients) (base_fee r w coins d) d (raised_of r.rate l) (value_of coins) (fees_of r.rate coins) cf cl amount fee p.change_worth in
+    let small = subst (λ (t : ℤ). (t +ℤ pos cf +ℤ pos cl) ≤ℤ pos 0) (sym (target_here r w coins d)) back in
     both_ways _ f.1 (change_test (small_of (rates_of r) l) (base_of l + weight_of coins + 4 * output_size_of w.script) small p.weight)
 
 -- ---- what pays is a selection
@@ -302,20 +277,20 @@ pub pays_within : (r : PlainRequest) (w : Watch) (l : Load) (coins : List Candid
 pays_within r w l coins amount t p = let sum = ap (sum_by (λ (o : TxOut). o.value)) p.outputs ∙ outputs_sum r w amount in omega (arith, sum, p.fee_covers)
 
 -- nothing pays from no coins
-none_pay : (r : PlainRequest) (w : Watch) (amount : Option ℕ) (t : Transaction) → Pays r w (load_of r w []) [] amount t → ⊥
+none_pay : (r : PlainRequest) (w : Watch) (d : ℕ) (amount : Option ℕ) (t : Transaction) → Pays r w (load_of r w [] d) [] amount t → ⊥
 unfolding load_of
-none_pay r w None t p =
+none_pay r w d None t p =
     let sum = sum_plain r.recipients t.outputs p.outputs in
     let due = p.fee.0 in
     absurd (omega (arith, due, sum))
-none_pay r w (Some amount) t p =
+none_pay r w d (Some amount) t p =
     let sum = sum_change r.recipients t.outputs (record { value = amount; script = w.script }) p.outputs in
     let due = p.fee in
     absurd (omega (arith, due, sum, p.change_worth))
 
-pub pays_some : (r : PlainRequest) (w : Watch) (coins : List Candidate) (amount : Option ℕ) (t : Transaction) → Pays r w (load_of r w coins) coins amount t → 0 < length coins
-pays_some r w [] amount t p = absurd (none_pay r w amount t p)
-pays_some r w (c ∷ coins) amount t p = omega arith
+pub pays_some : (r : PlainRequest) (w : Watch) (coins : List Candidate) (d : ℕ) (amount : Option ℕ) (t : Transaction) → Pays r w (load_of r w coins d) coins amount t → 0 < length coins
+pays_some r w [] d amount t p = absurd (none_pay r w d amount t p)
+pays_some r w (c ∷ coins) d amount t p = omega arith
 
 pub amount_most : (r : PlainRequest) (amount : Option ℕ) → outputs_of r amount ≤ 2_100_000_000_000_000 → IfSome amount (λ n. n ≤ 2_100_000_000_000_000)
 amount_most r None h = tt

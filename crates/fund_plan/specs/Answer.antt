@@ -1,4 +1,4 @@
--- What the listed coins alone come to, and what a payment means.
+-- What the presets alone come to, and what a payment means.
 use Rattle.std.specs.Prelude.{ℕ, ◌≡◌, ◌≤◌, ◌<◌, ◌⊎◌, ◌==◌, Bool, true, false, List, length, All, Contains, Option, IfSome}
 use Rattle.closing_log.specs.declared.log.Stage.TheVariants as stage
 use Rattle.closing_log.specs.declared.mark.Mark.TheVariants as mark
@@ -6,8 +6,8 @@ use Rattle.fund_base.specs.declared.candidate.Candidate.{Candidate}
 use Rattle.tx_codec.specs.Transaction.{Transaction}
 use Rattle.request_text.specs.PlainRequest.{PlainRequest}
 use Rattle.fund_steps.specs.Amounts.{AreWithin, value_of}
-use Rattle.fund_steps.specs.Listed.{AreListed, presets_in}
-use Rattle.fund_steps.specs.Plan.{PlainPlan}
+use Rattle.fund_steps.specs.Listed.{ArePresets, burden_in, presets_in}
+use Rattle.fund_steps.specs.Plan.{PlainPlan, coins_in}
 use Rattle.fund_plan.specs.Steps.{pool_in}
 use Rattle.fund_steps.specs.Terms.{load_of}
 use Rattle.fund_plan.specs.Chosen.{load_for, row_of}
@@ -27,11 +27,11 @@ IsAtHandBy p false n c = Contains (presets_in p) c ⊎ ((g : List Candidate) × 
 abbrev pub IsAtHand : PlainPlan → ℕ → Candidate → Type 0
 IsAtHand p n c = IsAtHandBy p (n == 0) n c
 
--- A payment of a plan: its coins are candidates, the presets among them, and the others are of groups of the pool of the
--- row that it names. The transaction that is made of them pays, by what that row has to carry; and weight and waste are
--- those of the whole payment.
+-- A payment of a plan: its coins are candidates and those of a replaced payment, the presets among them, and the others are
+-- of groups of the pool of the row that it names. The transaction that is made of them pays, by what that row has to carry;
+-- and weight and waste are those of the whole payment.
 pub record IsPayment (p : PlainPlan) (f : PlainFunded) : Type 0 where
-  pub candidates : All (Contains p.candidates) f.coins
+  pub candidates : All (Contains (coins_in p)) f.coins
   pub presets : All (Contains f.coins) (presets_in p)
   pub at_hand : All (IsAtHand p f.row) f.coins
   pub coins : AreWithin f.coins
@@ -45,11 +45,11 @@ ArePayments p (Funded f) = IsPayment p f
 ArePayments p NoSelection = Unit {0}
 ArePayments p Unfinished = Unit {0}
 
--- ---- the listed coins alone
+-- ---- the presets alone
 
 -- a transaction pays from these coins alone, with this change or with none
 abbrev pub PaysAlone : PlainPlan → List Candidate → Option ℕ → Transaction → Type 0
-PaysAlone p coins amount t = Pays p.request p.change (load_of p.request p.change coins) coins amount t
+PaysAlone p coins amount t = Pays p.request p.change (load_of p.request p.change coins (burden_in p)) coins amount t
 
 -- the payment from coins that are given, with this change or with none
 abbrev pub given_from : PlainPlan → List Candidate → Option ℕ → PlainFunded
@@ -59,16 +59,15 @@ given_from p coins change = record {
   stage = stage.Presets;
   coins = coins;
   change = change;
-  waste = waste_of p.request (load_of p.request p.change coins) coins change;
-  weight = payment_weight (load_of p.request p.change coins) coins change;
+  waste = waste_of p.request (load_of p.request p.change coins (burden_in p)) coins change;
+  weight = payment_weight (load_of p.request p.change coins (burden_in p)) coins change;
 }
 
--- What an outcome means where coins are listed and none is chosen. Funded: the coins are the listed ones, and the
--- transaction that is made of them pays. No selection: no transaction from exactly the listed coins pays, whatever the
--- change.
+-- What an outcome means where no coin is chosen beside the presets. Funded: the coins are the presets, and the transaction
+-- that is made of them pays. No selection: no transaction from exactly the presets pays, whatever the change.
 abbrev pub AnswersAlone : PlainPlan → Outcome → Type 0
-AnswersAlone p (Funded f) = AreListed p f.coins × PaysAlone p f.coins f.change (payment_of p.request p.change f) × (f ≡ given_from p f.coins f.change)
-AnswersAlone p NoSelection = (coins : List Candidate) × AreListed p coins × ((amount : Option ℕ) (t : Transaction) → PaysAlone p coins amount t → ⊥)
+AnswersAlone p (Funded f) = ArePresets p f.coins × PaysAlone p f.coins f.change (payment_of p.request p.change f) × (f ≡ given_from p f.coins f.change)
+AnswersAlone p NoSelection = (coins : List Candidate) × ArePresets p coins × ((amount : Option ℕ) (t : Transaction) → PaysAlone p coins amount t → ⊥)
 AnswersAlone p Unfinished = ⊥
 
 -- ---- what can be written

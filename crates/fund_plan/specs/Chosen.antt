@@ -14,7 +14,7 @@ use Rattle.request_text.specs.PlainRequest.{PlainRequest}
 use Rattle.search_run.specs.Found.{PlainFound}
 use Rattle.search_run.specs.Step.{is_drawn}
 use Rattle.fund_steps.specs.Amounts.{fees_of, value_of}
-use Rattle.fund_steps.specs.Listed.{presets_in}
+use Rattle.fund_steps.specs.Listed.{burden_in, presets_in}
 use Rattle.fund_steps.specs.Plan.{PlainPlan, ladder_in}
 use Rattle.fund_steps.specs.Selection.{in_order}
 use Rattle.fund_plan.specs.Steps.{load_in, pool_in}
@@ -89,7 +89,7 @@ funded_at p mark f = funded_in p (row_of p f.row) mark f
 
 -- what the payment of this row is to carry: in row 0 there are the presets alone
 abbrev pub load_by : PlainPlan → Bool → ℕ → Load
-load_by p true n = load_of p.request p.change (presets_in p)
+load_by p true n = load_of p.request p.change (presets_in p) (burden_in p)
 load_by p false n = load_in p (row_of p n)
 
 abbrev pub load_for : PlainPlan → ℕ → Load

@@ -17,7 +17,7 @@ use Rattle.search_run.specs.Searched.{AreSectionsOf}
 use Rattle.search_run.specs.Step.{PlainStep}
 use Rattle.fund_steps.specs.Amounts.{value_of}
 use Rattle.fund_steps.specs.Basis.{basis_of}
-use Rattle.fund_steps.specs.Listed.{presets_in}
+use Rattle.fund_steps.specs.Listed.{burden_in, presets_in}
 use Rattle.fund_steps.specs.Plan.{PlainPlan}
 use Rattle.fund_steps.specs.Reached.{NothingDoes}
 use Rattle.fund_steps.specs.Searches.{rows_in}
@@ -89,7 +89,7 @@ pub record IsTakenShort (p : PlainPlan) (n : ℕ) (f : PlainFunded) : Type 0 whe
   pub taken : IsTaken (at_hand p.request.seed (stand_after p n) (stand_after p n).left) found
   pub used_up : HasTried p n
 
--- the listed coins alone pay, and the log has no search
+-- the presets alone pay, and the log has no search
 pub record IsGivenAlone (p : PlainPlan) (f : PlainFunded) (log : PlainLog) : Type 0 where
   pub alone : AnswersAlone p (answers.Funded f)
   pub none : log ≡ record { closed = []; tail = None; ended = true }
@@ -107,7 +107,7 @@ Claims p n f = ClaimsBy f.mark p n f
 -- the presets bring what is due without change, and there is one
 pub record BringAll (p : PlainPlan) : Type 0 where
   pub some : 0 < length (presets_in p)
-  pub enough : due_of p.request.rate (load_of p.request p.change (presets_in p)) (presets_in p) (paid_to p.request.recipients) ≤ value_of (presets_in p)
+  pub enough : due_of p.request.rate (load_of p.request p.change (presets_in p) (burden_in p)) (presets_in p) (paid_to p.request.recipients) ≤ value_of (presets_in p)
 
 -- No search and no draw of the plan has a result, and the log has a section for each search, in their order, and no other,
 -- which is accepted with no answer. No transaction from exactly the presets pays; and unless they bring all that is due, no

@@ -8,7 +8,7 @@ use Rattle.search_run.specs.Kept.{log_of}
 use Rattle.search_run.specs.Run.{Stand, beginning, end_of, go_on}
 use Rattle.search_run.specs.declared.ending.End.{End}
 use Rattle.search_run.specs.declared.ending.End.TheVariants as ends
-use Rattle.fund_steps.specs.Listed.{presets_in}
+use Rattle.fund_steps.specs.Listed.{burden_in, presets_in}
 use Rattle.fund_steps.specs.Plan.{PlainPlan}
 use Rattle.fund_steps.specs.Presets.{presets_of}
 use Rattle.fund_plan.specs.Steps.{is_given, steps_of}
@@ -29,7 +29,7 @@ by_presets p Plain = Funded (given_from p (presets_in p) None)
 by_presets p (Change amount) = Funded (given_from p (presets_in p) (Some amount))
 
 unfoldable pub given_of : PlainPlan → Outcome
-given_of p = by_presets p (presets_of (rates_of p.request) (load_of p.request p.change (presets_in p)))
+given_of p = by_presets p (presets_of (rates_of p.request) (load_of p.request p.change (presets_in p) (burden_in p)))
 
 -- ---- a run
 

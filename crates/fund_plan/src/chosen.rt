@@ -1,17 +1,15 @@
 //! The coins of a result: those of its places, and those that are given.
 
 ghost use Rattle.std.specs.Prelude.{◌≡◌, ◌≤◌, ◌++◌, All, IfOk, OnOk, length, sum_by, List};
-ghost use Rattle.std.specs.BTreeMap.{insert_entry};
-ghost use Rattle.fund_base.specs.Outpoints.{outpoint_cmp};
 ghost use Rattle.fund_base.specs.declared.candidate.Candidate.{Candidate};
 ghost use Rattle.pick_problem.specs.Problem.{Rising};
 ghost use Rattle.fund_steps.specs.Selection.{in_order};
 ghost use Rattle.fund_plan.specs.Chosen.{members};
 
-use fund_base::{Candidate, Memory, OutPoint};
+use fund_base::{Candidate, Memory};
+use fund_steps::in_order;
 use output_groups::Group;
 use std::alloc::Global;
-use std::collections::BTreeMap;
 
 /// Appends copies of coins.
 fn add(alloc: Global, coins: &mut Vec<Candidate>, more: &[Candidate]) -> Result<(), Memory>
@@ -33,26 +31,6 @@ pub fn members(alloc: Global, groups: &[Group], places: &[u32]) -> Result<Vec<Ca
     for place in places {
         add(alloc, &mut coins, groups[*place as usize].as_slice())?;
     }
-    Ok(coins)
-}
-
-/// Puts the coin at its outpoint.
-fn put(coins: &mut BTreeMap<OutPoint, Candidate>, coin: Candidate) -> Result<(), Memory>
-    ensures { OnOk result (coins.new.entries ≡ insert_entry outpoint_cmp coins.old.entries coin.coin coin) }
-{
-    coins.insert(coin.coin, coin)?;
-    Ok(())
-}
-
-/// The coins in the order of their outpoints.
-fn in_order(alloc: Global, coins: Vec<Candidate>) -> Result<Vec<Candidate>, Memory>
-    ensures { IfOk result (λ v. v.items ≡ in_order coins.items) }
-{
-    let mut ordered = BTreeMap::new(alloc);
-    for coin in coins {
-        put(&mut ordered, coin)?;
-    }
-    let coins = ordered.into_values().collect(alloc)?;
     Ok(coins)
 }
 

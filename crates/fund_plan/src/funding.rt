@@ -63,7 +63,7 @@ impl Choice {
 }
 
 /// What the payments of a plan are made from. It is seen as the plan: the request, the script that its change is paid to,
-/// and the candidates.
+/// the candidates, and what it is given where it replaces a payment.
 #[derive(Drop)]
 pub struct Funding {
     alloc: Global,

@@ -9,47 +9,50 @@ ghost use Rattle.tx_codec.specs.Weight.{weight_of};
 ghost use Rattle.tx_codec.specs.declared.tx.TxIn.{TxIn};
 ghost use Rattle.tx_codec.specs.declared.tx.TxOut.{TxOut};
 ghost use Rattle.fee_rates.specs.Fee.{fee_of, vsize_of};
+ghost use Rattle.fee_rates.specs.Terms.{base_of};
 ghost use Rattle.pick_problem.specs.Problem.{weight_of as places_weight};
 ghost use Rattle.request_text.specs.PlainRequest.{PlainRequest};
 ghost use Rattle.search_run.specs.Found.{IsResultOf, PlainFound};
 ghost use Rattle.search_run.specs.Kept.{log_of};
 ghost use Rattle.search_run.specs.Step.{AreSteps, PlainStep};
 ghost use Rattle.wallet_text.specs.declared.wallet.Watch.{Watch};
-ghost use Rattle.fund_steps.specs.Amounts.{value_of};
-ghost use Rattle.fund_steps.specs.Listed.{presets_in};
-ghost use Rattle.fund_steps.specs.Plan.{IsEligible, IsPlan, PlainPlan};
+ghost use Rattle.fund_steps.specs.Amounts.{value_of, weight_of as coins_weight};
+ghost use Rattle.fund_steps.specs.Listed.{MaySpend, burden_in, presets_in};
+ghost use Rattle.fund_steps.specs.Plan.{IsEligible, IsPlan, PlainBump, PlainPlan};
+ghost use Rattle.fund_steps.specs.Terms.{load_of};
 ghost use Rattle.fund_plan.specs.Answer.{AnswersAlone, IsPayment};
 ghost use Rattle.fund_plan.specs.Chosen.{funded_at, load_for, row_of};
 ghost use Rattle.fund_plan.specs.Claims.{BringAll, Claims, HasTried, IsProvedNone, IsUsedUp};
 ghost use Rattle.fund_plan.specs.Figures.{AddUp, cost_of, figures_of};
 ghost use Rattle.fund_plan.specs.Outcome.{IsAnswerOf, beginning_of, given_of, is_partial, log_at, outcome_at, stand_after, tries_at};
-ghost use Rattle.fund_plan.specs.Pays.{IsWorthIt, payment_of, payment_weight};
+ghost use Rattle.fund_plan.specs.Pays.{IsWorthIt, outputs_of, payment_of, payment_weight};
 ghost use Rattle.fund_plan.specs.Selection.{PlainFunded};
 ghost use Rattle.fund_plan.specs.State.{GoesOnFrom, IsCutShort, PlanState, end_in, moved, told};
 ghost use Rattle.fund_plan.specs.Steps.{is_given, problem_at, steps_of};
 ghost use Rattle.fund_plan.specs.Weighed.{AreWithinDeclared, HasOutpoint, IsWeighed, room_of, signed_weight};
 ghost use Rattle.fund_plan.specs.declared.outcome.Outcome.{Outcome};
 
-/// The law of one outcome of listed coins: what they come to alone is settled by what it means, the coins, the change,
+/// The law of one outcome of presets: what they come to alone is settled by what it means, the coins, the change,
 /// and whether there is a payment. A call does nothing.
 pub fn answers_once()
     ensures { (p : PlainPlan) (a b : Outcome) → IsPlan p → AnswersAlone p a → AnswersAlone p b → a ≡ b }
 {}
 
-/// The law of what is computed of listed coins alone: an outcome means what it should exactly where it is the one that
+/// The law of what is computed of the presets alone: an outcome means what it should exactly where it is the one that
 /// the terms come to. A call does nothing.
 pub fn reckons_the_outcome()
     ensures { (p : PlainPlan) (o : Outcome) → IsPlan p → (AnswersAlone p o ↔ (o ≡ given_of p)) }
 {}
 
 /// The law of results: each result of a step, with the presets, is a payment. It pays every recipient and at least the
-/// fee of its declared weight, by what its row has to carry, and its coins are candidates. A call does nothing.
+/// fee of its declared weight, by what its row has to carry, and its coins are ones that can be spent. A call does
+/// nothing.
 pub fn results_pay()
     ensures { (p : PlainPlan) (mark : Mark) (f : PlainFound) → IsPlan p → IsResultOf (steps_of p) f → IsPayment p (funded_at p mark f) }
 {}
 
 /// The law of measures: what a search and a draw measure is the payment's own. Its waste is that of the result and the
-/// cost of the listed coins. Its weight is that of a payment from these alone, and of the places. Its coins are these
+/// cost of the presets. Its weight is that of a payment from these alone, and of the places. Its coins are these
 /// and those that are counted. So the least waste or weight of a selection is the least of a payment. A call does
 /// nothing.
 pub fn results_measure_their_payments()
@@ -61,16 +64,28 @@ pub fn results_measure_their_payments()
         length (funded_at p mark f).coins ≡ length (presets_in p) + f.coins }
 {}
 
-/// The law of plans without a search: nothing is searched for exactly where the listed coins bring all that is due
-/// without change. A call does nothing.
+/// The law of plans without a search: nothing is searched for exactly where the presets bring all that is due without
+/// change. A call does nothing.
 pub fn given_where_all_is_brought()
     ensures { (p : PlainPlan) → (is_given p ≡ true ↔ BringAll p) }
 {}
 
-/// The law of eligible coins: each coin of a payment is a candidate, and safe unless the request takes unsafe ones. A
-/// call does nothing.
+/// The law of eligible coins: each coin of a payment is a candidate, and safe unless the request takes unsafe ones; or it
+/// is one that the replaced payment spends. Where no payment is replaced it is such a candidate. A call does nothing.
 pub fn payments_spend_eligible_coins()
-    ensures { (p : PlainPlan) (f : PlainFunded) → IsPlan p → IsPayment p f → All (IsEligible p) f.coins }
+    ensures may { (p : PlainPlan) (f : PlainFunded) → IsPlan p → IsPayment p f → All (MaySpend p) f.coins }
+    ensures plain { (p : PlainPlan) (f : PlainFunded) → p.bump ≡ None → IsPlan p → IsPayment p f → All (IsEligible p) f.coins }
+{}
+
+/// The law of replacements: beside the fee of its declared weight a payment pays its plan's burden. It weighs no less than
+/// the base and the inputs of the presets alone. And it spends each coin that the replaced payment spends (BIP 125,
+/// 'Implementation Details', rules 3 and 4). A call does nothing.
+pub fn payments_pay_the_burden()
+    ensures fee { (p : PlainPlan) (f : PlainFunded) → IsPayment p f →
+        outputs_of p.request f.change + burden_in p + fee_of p.request.rate (vsize_of f.weight) ≤ value_of f.coins }
+    ensures weight { (p : PlainPlan) (f : PlainFunded) → IsPlan p → IsPayment p f →
+        base_of (load_of p.request p.change (presets_in p) (burden_in p)) + coins_weight (presets_in p) ≤ f.weight }
+    ensures coins { (p : PlainPlan) (b : PlainBump) (f : PlainFunded) → p.bump ≡ Some b → IsPlan p → IsPayment p f → All (Contains f.coins) b.presets }
 {}
 
 /// The law of figures: a payment's money goes to the outputs and the fee, and the fee is no less than that of the rate.
@@ -160,13 +175,13 @@ pub fn steps_have_their_problems()
 /// The law of marks: what a payment claims by its mark is so. Exhausted, its coins are the best choice of the problem
 /// of its row and stage, no column before has a result, and the log has each search up to and with its column,
 /// accepted. Drawn, it claims the same of what is drawn. Partial, its coins are an admissible choice, the one that is
-/// taken of what is at hand, and the tries are used up. Given, the listed coins alone pay. A call does nothing.
+/// taken of what is at hand, and the tries are used up. Given, the presets alone pay. A call does nothing.
 pub fn payments_keep_their_claims()
     ensures { (p : PlainPlan) (n : ℕ) (f : PlainFunded) → IsPlan p → AreSteps (steps_of p) → outcome_at p n ≡ Outcome.Funded f → Claims p n f }
 {}
 
 /// The law of no selection: where a plan comes to that, no step has a result, and no choice from any row's pool does.
-/// The log has each search, accepted with no answer, and the listed coins alone don't pay. A call does nothing.
+/// The log has each search, accepted with no answer, and the presets alone don't pay. A call does nothing.
 pub fn none_is_proved()
     ensures { (p : PlainPlan) (n : ℕ) → IsPlan p → AreSteps (steps_of p) → outcome_at p n ≡ Outcome.NoSelection → IsProvedNone p (log_at p n) }
 {}

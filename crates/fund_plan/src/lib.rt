@@ -24,10 +24,10 @@ pub use keeping::{
 pub use laws::{
     answers_once, change_is_worth_making, ended_plans_have_the_answer, figures_add_up,
     given_where_all_is_brought, new_plans_come_to, none_is_proved, payments_keep_their_claims,
-    payments_signal_as_asked, payments_spend_eligible_coins, pays_in_text, plans_go_on,
-    plans_have_one_answer, reckons_the_outcome, results_measure_their_payments, results_pay,
-    signed_pays_the_rate, steps_have_their_problems, unfinished_plans_used_their_tries,
-    weighs_as_declared,
+    payments_pay_the_burden, payments_signal_as_asked, payments_spend_eligible_coins, pays_in_text,
+    plans_go_on, plans_have_one_answer, reckons_the_outcome, results_measure_their_payments,
+    results_pay, signed_pays_the_rate, steps_have_their_problems,
+    unfinished_plans_used_their_tries, weighs_as_declared,
 };
 pub use outcome::{Funded, Outcome, Place};
 pub use payment::unsigned;

@@ -3,7 +3,7 @@
 ghost use Rattle.std.specs.Prelude.{◌≡◌, ◌-◌, ◌↔◌, ◌≤◌, min, All, Err, IfErr, IfOk, OnErr, OnOk, None};
 ghost use Rattle.fund_base.specs.Candidates.{AreCandidates};
 ghost use Rattle.wallet_text.specs.WalletRules.{IsWatch};
-ghost use Rattle.fund_steps.specs.Plan.{HasEligible, IsFault, IsPlan, IsRoomy, IsWithin, ladder_in};
+ghost use Rattle.fund_steps.specs.Plan.{HasEligible, IsBumpFor, IsFault, IsPlan, IsRoomy, IsWithin, ladder_in};
 ghost use Rattle.fund_plan.specs.Answer.{ArePayments, HasSelection};
 ghost use Rattle.search_keep.specs.declared.fault.SavedFault.TheVariants as saved_fault;
 ghost use Rattle.search_run.specs.Kept.{log_of};
@@ -22,7 +22,7 @@ use crate::funding::Funding;
 use crate::outcome::{Outcome, Place};
 use closing_log::{LogText, Mark};
 use fund_base::{Candidate, Memory};
-use fund_steps::{Funds, PlanFault, Prepared};
+use fund_steps::{BumpInput, Funds, PlanFault, Prepared};
 use request_text::Request;
 use search_keep::{Saved, SavedFault};
 use search_run::{End, Found, SearchRun};
@@ -33,9 +33,9 @@ use wallet_text::Watch;
 /// The greatest number of tries that all runs of a plan make together.
 const MOST_TRIES: u64 = 10_000_000;
 
-/// How a request is funded: what it was made from is a request, the script that its change is paid to, and the
-/// candidates, which are the coins that may be spent. It keeps the rules that [`Plan::keeps_rules`] states. It searches
-/// row by row, and stands where its tries led.
+/// How a request is funded: what it was made from is a request, the script that its change is paid to, the candidates,
+/// which are the coins that may be spent, and what it is given where it replaces a payment. It keeps the rules that
+/// [`Plan::keeps_rules`] states. It searches row by row, and stands where its tries led.
 #[derive(Drop)]
 pub struct Plan {
     funding: Funding,
@@ -89,32 +89,35 @@ fn is_partial(end: &End) -> bool
 }
 
 impl Plan {
-    /// The plan of a request that replaces no payment, whatever its method. The change script keeps the rules of a
-    /// wallet's, and the candidates are at most 100,000, each outpoint once. No try is made yet.
+    /// The plan of a request, whatever its method. The change script keeps the rules of a wallet's, and the candidates are
+    /// at most 100,000, each outpoint once. A bump is given exactly where the request replaces a payment. Its coins and
+    /// the candidates are together at most 100,000, each outpoint once, and its burden is at most 1,000,000,000,000,000,000
+    /// satoshi. No try is made yet.
     ///
-    /// [`PlanFault::Total`] comes exactly where the candidates are worth more than 21,000,000 bitcoin together. Otherwise
-    /// [`PlanFault::NotEligible`] comes exactly where the request lists an outpoint at which there is no candidate that is
-    /// safe, or that may be unsafe because the request says `include_unsafe`; it shows the first such outpoint. Otherwise
-    /// [`PlanFault::TooMany`] comes exactly where a row of the request's ladder keeps more than 10,000 groups of the
-    /// candidates that it doesn't list; it shows the first such row.
+    /// [`PlanFault::Total`] comes exactly where the candidates and the coins of the bump are worth more than 21,000,000
+    /// bitcoin together. Otherwise [`PlanFault::NotEligible`] comes exactly where the request lists an outpoint at which
+    /// there is no candidate that is safe, or that may be unsafe because the request says `include_unsafe`; it shows the
+    /// first such outpoint. Otherwise [`PlanFault::TooMany`] comes exactly where a row of the request's ladder keeps more
+    /// than 10,000 groups of the candidates that it doesn't list; it shows the first such row.
     pub fn new(
         alloc: Global,
         request: &Request,
         change: &Watch,
         candidates: Vec<Candidate>,
+        bump: Option<BumpInput>,
     ) -> Result<Plan, PlanFault>
-        requires bump { request.now.bump ≡ None }
+        requires bump { IsBumpFor request.now candidates.items bump }
         requires change { IsWatch change.now }
         requires candidates { AreCandidates candidates.items }
-        ensures plan { IfOk result (λ s. s.plan ≡ record { request = request.now; change = change.now; candidates = candidates.items }) }
+        ensures plan { IfOk result (λ s. s.plan ≡ record { request = request.now; change = change.now; candidates = candidates.items; bump = bump }) }
         ensures stand { IfOk result (λ s. s.stand ≡ beginning_of s.plan) }
         ensures partial { IfOk result (λ s. s.partial ≡ None) }
         ensures within { IfOk result (λ s. IsWithin s.plan) }
         ensures eligible { IfOk result (λ s. All (HasEligible s.plan) s.plan.request.coins) }
         ensures roomy { IfOk result (λ s. All (IsRoomy s.plan) (ladder_in s.plan)) }
-        ensures fault { IfErr result (IsFault (record { request = request.now; change = change.now; candidates = candidates.items })) }
+        ensures fault { IfErr result (IsFault (record { request = request.now; change = change.now; candidates = candidates.items; bump = bump })) }
     {
-        let Prepared { funds, steps } = Funds::new(alloc, request, change, candidates)?;
+        let Prepared { funds, steps } = Funds::new(alloc, request, change, candidates, bump)?;
         let run = SearchRun::new(alloc, request.seed, steps);
         let funding = Funding::new(alloc, request, funds);
         Ok(Plan {
@@ -124,9 +127,10 @@ impl Plan {
         })
     }
 
-    /// That the plan keeps its rules: those of the request, of the change script and of the candidates; that the
-    /// candidates are worth at most 21,000,000 bitcoin together; that at each listed outpoint there is a candidate that
-    /// the request may list; and that each row of the ladder keeps at most 10,000 groups of the others. A call does nothing.
+    /// That the plan keeps its rules: those of the request, of the change script, of the candidates and of a bump; that the
+    /// candidates and the coins of a bump are worth at most 21,000,000 bitcoin together; that at each listed outpoint there
+    /// is a candidate that the request may list; and that each row of the ladder keeps at most 10,000 groups of the others.
+    /// A call does nothing.
     pub fn keeps_rules(&self)
         ensures { IsPlan self.now.plan }
     {

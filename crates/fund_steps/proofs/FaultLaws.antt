@@ -6,9 +6,9 @@ use Rattle.std.proofs.lemmas.List.Elements.{All-head, All-tail}
 use Rattle.fund_base.specs.declared.outpoint.OutPoint.{OutPoint}
 use Rattle.fund_steps.proofs.PresetLaws.{all_eligible, is_missing}
 use Rattle.fund_steps.specs.Amounts.{value_of}
-use Rattle.fund_steps.specs.Listed.{presets_in}
+use Rattle.fund_steps.specs.Listed.{listed_in}
 use Rattle.fund_steps.specs.Faults.{by_missing, crowded_among, fault_of, kept_in}
-use Rattle.fund_steps.specs.Plan.{HasEligible, HasNone, IsFault, IsFirstMissing, IsPlan, IsRoomy, IsWithin, KeepsGroups, PlainPlan, ladder_in}
+use Rattle.fund_steps.specs.Plan.{HasEligible, HasNone, IsFault, IsFirstMissing, IsPlan, IsRoomy, IsWithin, KeepsGroups, PlainPlan, coins_in, ladder_in}
 use Rattle.fund_steps.specs.Selection.{first_missing, unlisted}
 use Rattle.fund_steps.specs.declared.fault.PlanFault.{PlanFault}
 use Rattle.fund_steps.specs.declared.fault.PlanFault.TheVariants.{Total, NotEligible, TooMany, Memory}
@@ -39,13 +39,13 @@ in_middle : (front rest : List OutPoint) (q : OutPoint) (p : OutPoint → Type 0
 in_middle [] rest q p h = All-head p q rest h
 in_middle (x ∷ front) rest q p h = in_middle front rest q p (All-tail p x (front ++ q ∷ rest) h)
 
-missing_found : (p : PlainPlan) (q : OutPoint) (r : Option OutPoint) → first_missing (presets_in p) p.request.coins ≡ r → IsFirstMissing p q → r ≡ Some q
+missing_found : (p : PlainPlan) (q : OutPoint) (r : Option OutPoint) → first_missing (listed_in p) p.request.coins ≡ r → IsFirstMissing p q → r ≡ Some q
 missing_found p q None e h = absurd (not_both p q (in_middle h.front h.rest q (HasEligible p) (subst (λ (l : List OutPoint). All (HasEligible p) l) h.parts (all_eligible p e))) h.missing)
 missing_found p q (Some s) e h =
     let other = is_missing p s e in
     ap (λ (x : OutPoint). Some x) (same_missing p other.front h.front s q other.rest h.rest (sym other.parts ∙ h.parts) other.before h.before other.missing h.missing)
 
-none_missing : (p : PlainPlan) (r : Option OutPoint) → first_missing (presets_in p) p.request.coins ≡ r → All (HasEligible p) p.request.coins → r ≡ None
+none_missing : (p : PlainPlan) (r : Option OutPoint) → first_missing (listed_in p) p.request.coins ≡ r → All (HasEligible p) p.request.coins → r ≡ None
 none_missing p None e h = refl
 none_missing p (Some s) e h =
     let other = is_missing p s e in
@@ -82,19 +82,19 @@ first_crowded p (x ∷ front) row rest number n before own keeps many =
 
 -- ---- the fault
 
-within_fault : (p : PlainPlan) → IsWithin p → fault_of p ≡ by_missing p (first_missing (presets_in p) p.request.coins)
+within_fault : (p : PlainPlan) → IsWithin p → fault_of p ≡ by_missing p (first_missing (listed_in p) p.request.coins)
 within_fault p within =
-    cond-false (nat_lt 2_100_000_000_000_000 (value_of p.candidates)) (Some (Total (value_of p.candidates))) (by_missing p (first_missing (presets_in p) p.request.coins)) (le-ltb 2_100_000_000_000_000 (value_of p.candidates) within)
+    cond-false (nat_lt 2_100_000_000_000_000 (value_of (coins_in p))) (Some (Total (value_of (coins_in p)))) (by_missing p (first_missing (listed_in p) p.request.coins)) (le-ltb 2_100_000_000_000_000 (value_of (coins_in p)) within)
 
 eligible_fault : (p : PlainPlan) → IsWithin p → All (HasEligible p) p.request.coins → fault_of p ≡ crowded_among p (ladder_in p)
-eligible_fault p within eligible = within_fault p within ∙ ap (by_missing p) (none_missing p (first_missing (presets_in p) p.request.coins) refl eligible)
+eligible_fault p within eligible = within_fault p within ∙ ap (by_missing p) (none_missing p (first_missing (listed_in p) p.request.coins) refl eligible)
 
 pub fault_found : (p : PlainPlan) (fault : PlanFault) → IsFault p fault → fault ≢ Memory → fault_of p ≡ Some fault
 fault_found p (Total sum) h real =
-    let over : 2_100_000_000_000_000 < value_of p.candidates = subst (λ (n : ℕ). 2_100_000_000_000_000 < n) h.0 h.1 in
-    cond-true (nat_lt 2_100_000_000_000_000 (value_of p.candidates)) (Some (Total (value_of p.candidates))) (by_missing p (first_missing (presets_in p) p.request.coins)) (lt-ltb 2_100_000_000_000_000 (value_of p.candidates) over)
+    let over : 2_100_000_000_000_000 < value_of (coins_in p) = subst (λ (n : ℕ). 2_100_000_000_000_000 < n) h.0 h.1 in
+    cond-true (nat_lt 2_100_000_000_000_000 (value_of (coins_in p))) (Some (Total (value_of (coins_in p)))) (by_missing p (first_missing (listed_in p) p.request.coins)) (lt-ltb 2_100_000_000_000_000 (value_of (coins_in p)) over)
     ∙ ap (λ (n : ℕ). Some (Total n)) (sym h.0)
-fault_found p (NotEligible point) h real = within_fault p h.0 ∙ ap (by_missing p) (missing_found p point (first_missing (presets_in p) p.request.coins) refl h.1)
+fault_found p (NotEligible point) h real = within_fault p h.0 ∙ ap (by_missing p) (missing_found p point (first_missing (listed_in p) p.request.coins) refl h.1)
 fault_found p (TooMany number n) h real =
     let first = h.2 in
     eligible_fault p h.0 h.1

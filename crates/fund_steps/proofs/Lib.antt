@@ -1,3 +1,4 @@
+pub mod BumpLaws
 pub mod FaultLaws
 pub mod MakingLaws
 pub mod OrderLaws

@@ -24,7 +24,7 @@ use Rattle.pick_problem.specs.declared.item.Item.{Item}
 use Rattle.search_run.specs.Step.{FitsStage, IsStep, PlainStep}
 use Rattle.fund_steps.specs.Basis.{Basis, basis_of, given_in, load_alone}
 use Rattle.fund_steps.specs.Kept.{IsKept}
-use Rattle.fund_steps.specs.Listed.{presets_in}
+use Rattle.fund_steps.specs.Listed.{burden_in, presets_in}
 use Rattle.fund_steps.specs.Making.{AreSearchable, AreSearched, steps_by, steps_for, steps_with}
 use Rattle.fund_steps.specs.Plan.{PlainPlan}
 use Rattle.fund_steps.specs.Presets.{presets_of}
@@ -120,12 +120,8 @@ rows_more f old now new rows i d lt was is =
 
 -- ---- what is made is what is defined
 
-pub alone_is : (p : PlainPlan) → load_of p.request p.change (presets_in p) ≡ load_alone (basis_of p)
-unfolding load_of
-alone_is p = refl
-
-pub load_is_alone : (p : PlainPlan) (presets : List Candidate) (load : Load) → load ≡ load_of p.request p.change presets → presets ≡ presets_in p → load ≡ load_alone (basis_of p)
-load_is_alone p presets load is same = is ∙ ap (load_of p.request p.change) same ∙ alone_is p
+pub load_is_alone : (p : PlainPlan) (presets : List Candidate) (load : Load) → load ≡ load_of p.request p.change presets (burden_in p) → presets ≡ presets_in p → load ≡ load_alone (basis_of p)
+load_is_alone p presets load is same = is ∙ ap (λ (cs : List Candidate). load_of p.request p.change cs (burden_in p)) same
 
 pub kept_alone : (p : PlainPlan) (presets rest : List Candidate) (rates : Rates) (load : Load) → IsKept p presets rest rates load → presets_of rates load ≡ given_in (basis_of p)
 kept_alone p presets rest rates load h =

@@ -11,12 +11,9 @@ use Rattle.fund_base.proofs.Lists.{in_tail, cons_cases}
 use Rattle.fund_base.specs.Outpoints.{outpoint_cmp}
 use Rattle.fund_base.specs.declared.candidate.Candidate.{Candidate}
 use Rattle.fund_base.specs.declared.outpoint.OutPoint.{OutPoint}
-use Rattle.fund_steps.specs.Amounts.{AreWithin}
-use Rattle.fund_steps.specs.Listed.{AreListed, is_preset, presets_in}
+use Rattle.fund_steps.specs.Listed.{AreListed}
 use Rattle.fund_steps.specs.Plan.{IsEligible, IsPlan, PlainPlan}
 use Rattle.fund_steps.specs.Selection.{AreSorted}
-use Rattle.fund_steps.proofs.SelectionLaws.{taken_within}
-use Rattle.fund_steps.proofs.PresetLaws.{presets_listed}
 
 -- ---- two lists in order with the same coins are one
 
@@ -30,7 +27,7 @@ sorted_rest c cs h = λ i j d lt in'. h (suc i) (suc j) d (omega arith) (omega a
 first_less : (c : Candidate) (cs : List Candidate) (e : Candidate) → AreSorted (c ∷ cs) → Contains cs e → outpoint_cmp c.coin e.coin ≡ Less
 first_less c cs e h (k, lt, is) = subst (λ (x : Candidate). outpoint_cmp c.coin x.coin ≡ Less) is (h 0 (suc k) e (omega arith) (omega (arith, lt)))
 
-abbrev Within : List Candidate → List Candidate → Type 0
+abbrev pub Within : List Candidate → List Candidate → Type 0
 Within xs ys = (c : Candidate) → Contains xs c → Contains ys c
 
 first_same : (x y : Candidate) (xs ys : List Candidate) → AreSorted (x ∷ xs) → AreSorted (y ∷ ys) → (y ≡ x) ⊎ Contains ys x → (x ≡ y) ⊎ Contains xs y → x ≡ y
@@ -45,7 +42,7 @@ rest_within x y xs ys same sx h c there = by_case (cons_cases y ys c (h c (in_ta
     by_case (inl e) = let less = subst (λ (z : Candidate). outpoint_cmp x.coin z.coin ≡ Less) (sym (same ∙ e)) (first_less x xs c sx there) in absurd (one_way x.coin x.coin less less)
     by_case (inr h') = h'
 
-one_list : (xs ys : List Candidate) → AreSorted xs → AreSorted ys → Within xs ys → Within ys xs → xs ≡ ys
+pub one_list : (xs ys : List Candidate) → AreSorted xs → AreSorted ys → Within xs ys → Within ys xs → xs ≡ ys
 one_list [] [] sx sy there back = refl
 one_list [] (y ∷ ys) sx sy there back = let h = back y (0, omega arith, refl) in absurd (omega (arith, h.1))
 one_list (x ∷ xs) [] sx sy there back = let h = there x (0, omega arith, refl) in absurd (omega (arith, h.1))
@@ -57,7 +54,7 @@ one_list (x ∷ xs) (y ∷ ys) sx sy there back =
 -- ---- the coins that are listed are told by the plan
 
 -- candidates of one outpoint are one
-one_candidate : (cs : List Candidate) (a b : Candidate) → AllPairs (λ (x y : Candidate). x.coin ≢ y.coin) cs → Contains cs a → Contains cs b → a.coin ≡ b.coin → a ≡ b
+pub one_candidate : (cs : List Candidate) (a b : Candidate) → AllPairs (λ (x y : Candidate). x.coin ≢ y.coin) cs → Contains cs a → Contains cs b → a.coin ≡ b.coin → a ≡ b
 one_candidate cs a b h (i, lt, is) (j, lt', is') same =
     let point : Candidate → OutPoint = λ c. c.coin in
     let b_there : get_or cs j a ≡ b = get_or_default cs j a b lt' ∙ is' in
@@ -80,7 +77,3 @@ listed_within p xs ys h lx ly c there =
 
 pub one_listed : (p : PlainPlan) (xs ys : List Candidate) → IsPlan p → AreListed p xs → AreListed p ys → xs ≡ ys
 one_listed p xs ys h lx ly = one_list xs ys lx.sorted ly.sorted (listed_within p xs ys h lx ly) (listed_within p ys xs h ly lx)
-
--- so they are within their bounds
-pub listed_fit : (p : PlainPlan) (coins : List Candidate) → IsPlan p → AreListed p coins → AreWithin coins
-listed_fit p coins h listed = subst AreWithin (one_listed p (presets_in p) coins h (presets_listed p h.eligible) listed) (taken_within (is_preset p.request) p.candidates h.candidates h.within)

@@ -210,7 +210,7 @@ filter_length p (c ∷ coins) =
     let again = filter_length p coins in
     cond_both (p c) (c ∷ filter p coins) (filter p coins) (λ (x : List Candidate). length x ≤ length (c ∷ coins)) (λ _. omega arith) (λ _. omega arith)
 
--- what coins within their bounds, of which some are taken
+-- candidates that some are taken of are within their bounds
 pub taken_within : (p : Candidate → Bool) (coins : List Candidate) → AreCandidates coins → value_of coins ≤ 2_100_000_000_000_000 → AreWithin (in_order (filter p coins))
 taken_within p coins h within =
     let f : Candidate → ℕ = λ c. c.value in
@@ -219,6 +219,16 @@ taken_within p coins h within =
       each = in_order_keeps IsCandidate (filter p coins) (All-filter p IsCandidate coins h.each);
       count = omega (arith, in_order_length (filter p coins), filter_length p coins);
       value = omega (arith, in_order_sum f (filter p coins), filter_sum f p coins);
+    }
+
+-- the same of candidates that are put in order
+pub ordered_within : (coins : List Candidate) → AreCandidates coins → value_of coins ≤ 2_100_000_000_000_000 → AreWithin (in_order coins)
+ordered_within coins h within =
+    let few = h.count in
+    record {
+      each = in_order_keeps IsCandidate coins h.each;
+      count = omega (arith, in_order_length coins);
+      value = omega (arith, in_order_sum (λ (c : Candidate). c.value) coins);
     }
 
 -- ---- one coin more
@@ -245,6 +255,10 @@ order_more p coins c old new passes put was =
     ∙ sym (fold_push ins [] (filter p coins) c)
     ∙ ap (λ (l : List Candidate). fold ins [] (filter p coins ++ l)) (ap (λ (b : Bool). cond b (c ∷ []) []) (sym passes))
     ∙ ap (fold ins []) (sym (filter-append p coins (c ∷ [])))
+
+pub order_next : (coins : List Candidate) (c : Candidate) (old new : Entries) → new ≡ ins old c → old ≡ by_outpoint coins → new ≡ by_outpoint (coins ++ c ∷ [])
+unfolding by_outpoint
+order_next coins c old new put was = put ∙ ap (λ (es : Entries). ins es c) was ∙ sym (fold_push ins [] coins c)
 
 pub order_same : (p : Candidate → Bool) (coins : List Candidate) (c : Candidate) (old : Entries) → p c ≡ false → old ≡ by_outpoint (filter p coins) → old ≡ by_outpoint (filter p (coins ++ c ∷ []))
 unfolding by_outpoint

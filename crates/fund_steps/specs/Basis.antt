@@ -4,7 +4,7 @@ use Rattle.fund_base.specs.declared.candidate.Candidate.{Candidate}
 use Rattle.fee_rates.specs.declared.terms.Load.{Load}
 use Rattle.request_text.specs.PlainRequest.{PlainRequest}
 use Rattle.wallet_text.specs.declared.wallet.Watch.{Watch}
-use Rattle.fund_steps.specs.Listed.{presets_in}
+use Rattle.fund_steps.specs.Listed.{burden_in, presets_in}
 use Rattle.fund_steps.specs.Plan.{PlainPlan}
 use Rattle.fund_steps.specs.Presets.{presets_of}
 use Rattle.fund_steps.specs.Selection.{unlisted}
@@ -20,13 +20,13 @@ pub record Basis : Type 0 where
   pub rest : List Candidate
   pub burden : ℕ
 
--- that of a plan: its listed coins, and the candidates that aren't listed
+-- that of a plan: its presets, the candidates that aren't listed, and its burden
 abbrev pub basis_of : PlainPlan → Basis
-basis_of p = record { request = p.request; change = p.change; presets = presets_in p; rest = unlisted p.request.coins p.candidates; burden = 0 }
+basis_of p = record { request = p.request; change = p.change; presets = presets_in p; rest = unlisted p.request.coins p.candidates; burden = burden_in p }
 
 -- what a payment from the presets alone is to carry
 abbrev pub load_alone : Basis → Load
-load_alone b = record (load_of b.request b.change b.presets) { burden = b.burden }
+load_alone b = load_of b.request b.change b.presets b.burden
 
 -- whether the presets alone pay, and how
 abbrev pub given_in : Basis → Presets

@@ -4,8 +4,8 @@ use Rattle.fund_base.specs.declared.outpoint.OutPoint.{OutPoint}
 use Rattle.output_groups.specs.Counting.{kept_count}
 use Rattle.output_groups.specs.declared.rows.Row.{Row}
 use Rattle.fund_steps.specs.Amounts.{value_of}
-use Rattle.fund_steps.specs.Listed.{presets_in}
-use Rattle.fund_steps.specs.Plan.{PlainPlan, ladder_in}
+use Rattle.fund_steps.specs.Listed.{listed_in}
+use Rattle.fund_steps.specs.Plan.{PlainPlan, coins_in, ladder_in}
 use Rattle.fund_steps.specs.Selection.{first_missing, unlisted}
 use Rattle.fund_steps.specs.declared.fault.PlanFault.{PlanFault}
 use Rattle.fund_steps.specs.declared.fault.PlanFault.TheVariants.{Total, NotEligible, TooMany}
@@ -24,9 +24,9 @@ abbrev pub by_missing : PlainPlan → Option OutPoint → Option PlanFault
 by_missing p (Some point) = Some (NotEligible point)
 by_missing p None = crowded_among p (ladder_in p)
 
--- Why no plan is made, if none is: its candidates are worth more than 21,000,000 bitcoin; or else a listed coin isn't
--- eligible; or else a row of the ladder keeps too many groups.
+-- Why no plan is made, if none is: its candidates and the coins of a replaced payment are worth more than 21,000,000
+-- bitcoin; or else a listed coin isn't eligible; or else a row of the ladder keeps too many groups.
 abbrev pub fault_of : PlainPlan → Option PlanFault
 fault_of p =
-    if nat_lt 2_100_000_000_000_000 (value_of p.candidates) then Some (Total (value_of p.candidates))
-    else by_missing p (first_missing (presets_in p) p.request.coins)
+    if nat_lt 2_100_000_000_000_000 (value_of (coins_in p)) then Some (Total (value_of (coins_in p)))
+    else by_missing p (first_missing (listed_in p) p.request.coins)

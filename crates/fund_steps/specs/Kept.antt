@@ -5,19 +5,19 @@ use Rattle.fee_rates.specs.Terms.{AreRates, IsLoad}
 use Rattle.fee_rates.specs.declared.terms.Rates.{Rates}
 use Rattle.fee_rates.specs.declared.terms.Load.{Load}
 use Rattle.fund_steps.specs.Amounts.{AreWithin}
-use Rattle.fund_steps.specs.Listed.{presets_in}
+use Rattle.fund_steps.specs.Listed.{burden_in, presets_in}
 use Rattle.fund_steps.specs.Plan.{IsPlan, PlainPlan}
 use Rattle.fund_steps.specs.Selection.{unlisted}
 use Rattle.fund_steps.specs.Terms.{load_of, rates_of}
 
--- The plan keeps its rules, and these are its listed coins, the candidates that aren't listed, the rates of its request, and
--- what a payment from the listed coins alone is to carry, all within their bounds.
+-- The plan keeps its rules, and these are its presets, the candidates that aren't listed, the rates of its request, and what
+-- a payment from the presets alone is to carry, all within their bounds.
 pub record IsKept (p : PlainPlan) (presets rest : List Candidate) (rates : Rates) (load : Load) : Type 0 where
   pub plan : IsPlan p
   pub presets_are : presets ≡ presets_in p
   pub rest_is : rest ≡ unlisted p.request.coins p.candidates
   pub rates_are : rates ≡ rates_of p.request
-  pub load_is : load ≡ load_of p.request p.change presets
+  pub load_is : load ≡ load_of p.request p.change presets (burden_in p)
   pub presets_fit : AreWithin presets
   pub rates_fit : AreRates rates
   pub load_fits : IsLoad load

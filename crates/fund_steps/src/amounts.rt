@@ -1,13 +1,16 @@
 //! What coins come to together.
 
-ghost use Rattle.std.specs.Prelude.{◌≡◌, ◌≤◌, ◌<◌, ◌^◌, ◌≤ℤ◌, ◌-ℤ◌, pos, neg_ℤ};
+ghost use Rattle.std.specs.Prelude.{◌≡◌, ◌≤◌, ◌<◌, ◌++◌, ◌^◌, ◌≤ℤ◌, ◌-ℤ◌, pos, neg_ℤ, IfSome};
+ghost use Rattle.fund_base.specs.Candidates.{AreCandidates};
 ghost use Rattle.fund_steps.specs.Amounts.{AreWithin, fees_of, value_of, weight_of};
+ghost use Rattle.fund_steps.specs.Plan.{coins_with};
 
+use crate::bump::BumpInput;
 use fee_rates::{MAX_RATE, input_fee};
 use fund_base::{Candidate, MAX_MONEY};
 
 /// What the candidates are worth together, in satoshi.
-pub fn total(candidates: &[Candidate]) -> u128
+fn total(candidates: &[Candidate]) -> u128
     requires { value_of candidates.now < 2 ^ 128 }
     ensures { result ≡ value_of candidates.now }
 {
@@ -15,6 +18,28 @@ pub fn total(candidates: &[Candidate]) -> u128
         .iter()
         .map(|candidate| u128::from(candidate.value))
         .sum()
+}
+
+/// What the coins of a replaced payment and the candidates are worth together, in satoshi.
+fn total_of_both(presets: &[Candidate], candidates: &[Candidate]) -> u128
+    requires presets { AreCandidates presets.now }
+    requires candidates { AreCandidates candidates.now }
+    ensures { result ≡ value_of (presets.now ++ candidates.now) }
+{
+    total(presets) + total(candidates)
+}
+
+/// What the coins that a payment can spend are worth together, in satoshi.
+#[tactic(auto, using(crate::proofs::SumLaws::value_within))]
+pub fn worth(candidates: &[Candidate], bump: &Option<BumpInput>) -> u128
+    requires candidates { AreCandidates candidates.now }
+    requires bump { IfSome bump.now (λ b. AreCandidates b.presets) }
+    ensures { result ≡ value_of (coins_with bump.now candidates.now) }
+{
+    match bump {
+        Some(bump) => total_of_both(&bump.presets, candidates),
+        None => total(candidates),
+    }
 }
 
 /// What the coins are worth together, in satoshi.

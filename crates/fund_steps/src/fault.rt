@@ -7,7 +7,8 @@ use fund_base::{Memory, OutPoint};
 /// Why no plan is made for a request.
 #[derive(Clone, Copy, Debug, PartialEq, Eq)]
 pub enum PlanFault {
-    /// The candidates are together worth this much, in satoshi, which is more than 21,000,000 bitcoin.
+    /// The candidates and the coins of a replaced payment are together worth this much, in satoshi, which is more than
+    /// 21,000,000 bitcoin.
     Total(u128),
     /// The request lists this outpoint, and no candidate is there that is safe, or may be unsafe by the request. It is
     /// the first such.
@@ -15,7 +16,7 @@ pub enum PlanFault {
     /// The row of this number keeps this many groups, which are more than 10,000, of the coins that the request doesn't
     /// list. It is the first such row of the ladder.
     TooMany(u8, u64),
-    /// There was not enough memory. The candidates are worth at most 21,000,000 bitcoin then.
+    /// There was not enough memory. These coins are worth at most 21,000,000 bitcoin then.
     Memory,
 }
 

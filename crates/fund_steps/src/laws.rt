@@ -19,8 +19,8 @@ pub fn faults_are_found()
     ensures none { (p : PlainPlan) → IsPlan p → fault_of p ≡ None }
 {}
 
-/// Steps stand in whole columns. There are none with `manual`, and none where coins are listed that bring all that is
-/// needed. Coins that pay alone do bring it.
+/// Steps stand in whole columns. There are none with `manual`, and none where the coins that each payment spends bring all
+/// that is needed. Coins that pay alone do bring it.
 pub fn steps_stand_in_columns()
     ensures whole { (b : Basis) → AreWhole (steps_of b) }
     ensures manual { (b : Basis) → b.request.method ≡ Manual → steps_of b ≡ [] }

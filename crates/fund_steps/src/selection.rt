@@ -6,9 +6,10 @@ ghost use Rattle.indexmap.specs.IndexSet.{contains};
 ghost use Rattle.fund_base.specs.Outpoints.{outpoint_cmp, same_outpoint};
 ghost use Rattle.fund_base.specs.declared.candidate.Candidate.{Candidate};
 ghost use Rattle.fund_base.specs.declared.outpoint.OutPoint.{OutPoint};
-ghost use Rattle.fund_steps.specs.Listed.{is_preset};
+ghost use Rattle.fund_steps.specs.Listed.{burden_by, is_preset, presets_by};
 ghost use Rattle.fund_steps.specs.Selection.{by_outpoint, first_missing, in_order, is_listed, unlisted};
 
+use crate::bump::BumpInput;
 use fund_base::{Candidate, Memory, OutPoint};
 use indexmap::IndexSet;
 use request_text::Request;
@@ -56,6 +57,50 @@ fn put(coins: &mut BTreeMap<OutPoint, Candidate>, coin: Candidate) -> Result<(),
 {
     coins.insert(coin.coin, coin)?;
     Ok(())
+}
+
+/// The coins in the order of their outpoints. Of two of one outpoint the later one is taken. The error is out of memory.
+pub fn in_order(alloc: Global, coins: Vec<Candidate>) -> Result<Vec<Candidate>, Memory>
+    ensures { IfOk result (λ v. v.items ≡ in_order coins.items) }
+{
+    let mut ordered = BTreeMap::new(alloc);
+    for coin in coins {
+        put(&mut ordered, coin)?;
+    }
+    let coins = ordered.into_values().collect(alloc)?;
+    Ok(coins)
+}
+
+/// The coins that each payment spends, and what it pays beside its fee.
+#[derive(Drop)]
+pub struct Given {
+    /// The coins, in the order of their outpoints.
+    pub presets: Vec<Candidate>,
+    /// In satoshi.
+    pub burden: u64,
+}
+
+/// The coins of a replaced payment and what a replacement pays beside its fee, and where none is replaced the listed coins
+/// and nothing.
+pub fn presets_and_burden(
+    alloc: Global,
+    listed: Vec<Candidate>,
+    bump: Option<BumpInput>,
+) -> Result<Given, Memory>
+    ensures presets { IfOk result (λ g. g.presets.items ≡ presets_by bump listed.items) }
+    ensures burden { IfOk result (λ g. g.burden ≡ burden_by bump) }
+{
+    match bump {
+        Some(bump) => {
+            let BumpInput { presets, burden } = bump;
+            let presets = in_order(alloc, presets)?;
+            Ok(Given { presets, burden })
+        }
+        None => Ok(Given {
+            presets: listed,
+            burden: 0,
+        }),
+    }
 }
 
 /// Whether a candidate is at one of these outpoints, and safe or taken as it is.

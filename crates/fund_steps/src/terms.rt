@@ -68,12 +68,14 @@ fn count(recipients: &[Recipient]) -> u64
     (recipients.len() as u64).min(MOST_COUNTED)
 }
 
-/// The payment of a request from coins, beside which none is chosen, as its fee is reckoned.
+/// The payment of a request from coins, beside which none is chosen, as its fee is reckoned. The burden is what it pays
+/// beside that fee, in satoshi.
 #[tactic(auto, using(crate::proofs::SumLaws::weights_within), unfolding(crate::specs::Terms::load_of))]
-pub fn load(request: &Request, change: &Watch, coins: &[Candidate]) -> Load
+pub fn load(request: &Request, change: &Watch, coins: &[Candidate], burden: u64) -> Load
     requires change { IsWatch change.now }
     requires coins { AreWithin coins.now }
-    ensures value { result ≡ load_of request.now change.now coins.now }
+    requires burden { burden ≤ 1_000_000_000_000_000_000 }
+    ensures value { result ≡ load_of request.now change.now coins.now burden }
     ensures fit { IsLoad result }
     ensures worth { result.preset_effective ≤ℤ pos MAX_MONEY }
     // bounds, for those who make steps
@@ -90,7 +92,7 @@ pub fn load(request: &Request, change: &Watch, coins: &[Candidate]) -> Load
         preset_effective: effective(request.rate, coins),
         preset_weight: weight(coins),
         has_presets: !coins.is_empty(),
-        burden: 0,
+        burden,
         change_size: output_size(&change.script),
         change_weight: change.weight,
         change_dust: dust(&change.script),

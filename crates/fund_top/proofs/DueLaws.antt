@@ -19,7 +19,7 @@ use Rattle.command_desk.specs.Due as desks
 use Rattle.command_coins.proofs.ListingLaws as listings
 use Rattle.command_coins.specs.Due.{listing_in}
 use Rattle.command_fund.proofs.DueLaws as payments
-use Rattle.command_fund.specs.Cause.{Cause, Files, BumpNotYet, Plan}
+use Rattle.command_fund.specs.Cause.{Cause, Files, Bump, Plan}
 use Rattle.command_fund.specs.Due.{by_answer, plan_of}
 use Rattle.command_fund.specs.Inputs.{AreInputs}
 use Rattle.command_fund.specs.Names.{Payment}
@@ -34,12 +34,12 @@ use Rattle.fund_top.specs.Words.{Command, Coins, Fund, Resume, Check, Work, Desk
 
 listing_refused : (files : List ℕ → List ℕ) (jobs : List ℕ → Option KeptJob) (s : Sources) (cause : Cause) → IsListingMeant (files s.wallet) (files s.blocks) cause → ComesTo files jobs (Coins s) (Refused cause)
 listing_refused files jobs s (Files cause) h = sym (ap listing_outcome (listings.refused_due files s cause h))
-listing_refused files jobs s BumpNotYet h = absurd h
+listing_refused files jobs s (Bump fault) h = absurd h
 listing_refused files jobs s (Plan fault) h = absurd h
 
 desk_refused : (files : List ℕ → List ℕ) (jobs : List ℕ → Option KeptJob) (s : Sources) (script : List ℕ) (cause : Cause) → IsListingMeant (files s.wallet) (files s.blocks) cause → ComesTo files jobs (Desk s script) (Refused cause)
 desk_refused files jobs s script (Files cause) h = sym (ap (λ (held : Result Held FileCause). desk_outcome (desks.by_chain files (files script) held)) (chain_due (files s.wallet) (files s.blocks) cause h))
-desk_refused files jobs s script BumpNotYet h = absurd h
+desk_refused files jobs s script (Bump fault) h = absurd h
 desk_refused files jobs s script (Plan fault) h = absurd h
 
 pub refusal_due : (files : List ℕ → List ℕ) (jobs : List ℕ → Option KeptJob) (c : Command) (cause : Cause) → IsMeant files c cause → ComesTo files jobs c (Refused cause)

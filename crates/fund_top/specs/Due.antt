@@ -10,7 +10,7 @@ use Rattle.command_check.specs.Due as checks
 use Rattle.command_check.specs.declared.stop.Evidence.{Evidence}
 use Rattle.command_coins.specs.Due as listings
 use Rattle.command_desk.specs.Due as desks
-use Rattle.command_fund.specs.Cause.{Cause, Files, BumpNotYet, Plan}
+use Rattle.command_fund.specs.Cause.{Cause, Files, Bump, Plan}
 use Rattle.command_fund.specs.Due as payments
 use Rattle.command_fund.specs.Meant as payment_causes
 use Rattle.command_resume.specs.Due as resumes
@@ -107,7 +107,7 @@ IsRefusal (Ran due) = desks.IsRefusal due
 -- what the cause of a listing's refusal, or of a desk's, means by itself: its files are the wallet and the blocks alone
 abbrev pub IsListingMeant : (wallet blocks : List ℕ) → Cause → Type 0
 IsListingMeant wallet blocks (Files cause) = IsChainMeant wallet blocks cause
-IsListingMeant wallet blocks BumpNotYet = ⊥
+IsListingMeant wallet blocks (Bump fault) = ⊥
 IsListingMeant wallet blocks (Plan fault) = ⊥
 
 -- what a cause means by itself

@@ -84,7 +84,8 @@ fn act<H: Shelf, O: Sink, K: Keeper>(
 ///   is printed before the file is read that the next line names.
 ///
 /// What is refused gets its fault line. Whatever the files and the keeper hold, a payment spends only coins that may be spent,
-/// and pays each recipient exactly and at least the fee. One that is marked exhausted is the best of all that are admissible in
+/// and pays each recipient exactly and at least the fee. Where its request names a payment, it replaces that one by the rules of
+/// BIP 125 ('Implementation Details', 1 to 5). One that is marked exhausted is the best of all that are admissible in
 /// its row and stage, and its log is accepted. No selection means that there is none. Unfinished comes only where the tries are
 /// used up, and going on with a job that unfinished runs of the same files left gives the answer of a run without a stop.
 ///
@@ -103,12 +104,13 @@ pub fn run<H: Shelf, O: Sink, K: Keeper>(
     ensures unkept { result ≡ Status.Usage → (K.view keeper.new) ≡ (K.view keeper.old) }
 
     // Done, with a payment: its coins may be spent, the transaction pays each recipient exactly and at least the fee, the log is
-    // written, and the report is printed. An exhausted payment is the best of its row and stage, and its log is accepted. The
-    // same holds where a job was gone on with, whatever the keeper returned.
+    // written, and the report is printed. Where the request names a payment, this one replaces it by BIP 125. An exhausted
+    // payment is the best of its row and stage, and its log is accepted. The same holds where a job was gone on with, whatever
+    // the keeper returned.
     ensures done { result ≡ Status.Done → WhereFunding (command_of words.now.items) (λ s p. EndsFunded H.tells O.tells s p (H.view shelf.old) (H.view shelf.new) (O.view out.old) (O.view out.new)) }
     ensures resumed { result ≡ Status.Done → WhereResuming (command_of words.now.items) (λ s p job. EndsResumed H.tells O.tells K.tells s p job (H.view shelf.old) (H.view shelf.new) (O.view out.old) (O.view out.new) (K.view keeper.old)) }
 
-    // No selection: no search and no draw has a result, which the log proves, and the listed coins alone don't pay.
+    // No selection: no search and no draw has a result, which the log proves, and the presets alone don't pay.
     ensures none { result ≡ Status.NoSelection → IfSome (command_of words.now.items) (λ c. EndsNotFunded H.tells O.tells K.tells c (H.view shelf.old) (H.view shelf.new) (O.view out.old) (O.view out.new) (K.view keeper.old)) }
 
     // Unfinished: each try was made of the request's, and of those that the job had left, the next step is a try, and nothing is

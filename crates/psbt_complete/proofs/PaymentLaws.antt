@@ -1,11 +1,10 @@
 -- The PSBT of a payment is made whole.
-use Rattle.std.proofs.Common.{◌≡◌, ℕ, Bool, List, [], ◌∷◌, map, Option, Some, None, refl, ap, All, Contains}
+use Rattle.std.proofs.Common.{Bool, List, [], ◌∷◌, map, Option, Some, None, refl, ap, All}
 use Rattle.std.specs.List.{AllZip, zip}
 use Rattle.std.specs.Option.{option_or}
 use Rattle.std.proofs.lemmas.Bool.{cond_both}
-use Rattle.std.proofs.lemmas.List.Elements.{All-contains, All-head, All-tail, All-weaker}
+use Rattle.std.proofs.lemmas.List.Elements.{All-head, All-tail}
 use Rattle.coin_book.specs.Coins.{parent_of}
-use Rattle.coin_book.specs.Faults.{fault_of}
 use Rattle.coin_book.specs.History.{History}
 use Rattle.fee_rates.specs.Output.{is_program_of}
 use Rattle.fund_base.specs.declared.candidate.Candidate.{Candidate}
@@ -13,16 +12,11 @@ use Rattle.fund_files.specs.Chain.{HasTexts}
 use Rattle.fund_payment.specs.Report.{psbt_of, spent_of}
 use Rattle.fund_plan.specs.Pays.{payment_from, unsigned_input}
 use Rattle.fund_plan.specs.Selection.{PlainFunded}
-use Rattle.payment_states.proofs.MakerSteps.{all_made}
-use Rattle.payment_states.specs.BookOf.{IsBookOf}
-use Rattle.payment_states.specs.Candidates.{candidates_of}
 use Rattle.payment_states.specs.Makers.{HasMaker}
 use Rattle.psbt_codec.specs.PartialTransaction.{PartialTransaction}
 use Rattle.psbt_codec.specs.declared.psbt.Spent.{Spent}
 use Rattle.request_text.specs.PlainRequest.{PlainRequest}
 use Rattle.tx_codec.specs.Transaction.{Transaction}
-use Rattle.wallet_text.specs.PlainWallet.{PlainWallet}
-use Rattle.wallet_text.specs.WalletRules.{IsWallet}
 use Rattle.wallet_text.specs.declared.wallet.Watch.{Watch}
 use Rattle.psbt_complete.proofs.InputLaws.{book_parent}
 use Rattle.psbt_complete.specs.Completed.{IsCompleted, IsCompletedInput}
@@ -50,9 +44,8 @@ inputs_can h b (c ∷ coins) texts m =
     let rest = inputs_can h b coins texts (All-tail (HasMaker h) c coins m) in
     (first.0 ∷ rest.0, (first.1, rest.1))
 
-pub payment_whole : (w : PlainWallet) (h : History) (tip : ℕ) (r : PlainRequest) (change : Watch) (f : PlainFunded) → IsWallet w → IsBookOf w h → fault_of h ≡ None → HasTexts h → All (Contains (candidates_of w h tip)) f.coins → (q : PartialTransaction) × IsCompleted h (psbt_of h r change f) q
+pub payment_whole : (h : History) (r : PlainRequest) (change : Watch) (f : PlainFunded) → HasTexts h → All (HasMaker h) f.coins → (q : PartialTransaction) × IsCompleted h (psbt_of h r change f) q
 unfolding psbt_of payment_from Whole
-payment_whole w h tip r change f rules book sound texts from =
-    let made : All (HasMaker h) f.coins = All-weaker (Contains (candidates_of w h tip)) (HasMaker h) (λ c there. All-contains (HasMaker h) (candidates_of w h tip) c (all_made w h tip rules book sound) there) f.coins from in
+payment_whole h r change f texts made =
     let inputs = inputs_can h r.replaceable f.coins texts made in
     (record { tx = (psbt_of h r change f).tx; spent = inputs.0 }, record { tx = refl; inputs = inputs.1 })

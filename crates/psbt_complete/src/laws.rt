@@ -1,18 +1,14 @@
 //! Laws of PSBTs that are made whole. A call of any of them does nothing.
 
-ghost use Rattle.std.specs.Prelude.{◌≡◌, ℕ, All, Contains, None};
-ghost use Rattle.coin_book.specs.Faults.{fault_of};
+ghost use Rattle.std.specs.Prelude.{◌≡◌, All};
 ghost use Rattle.coin_book.specs.History.{History};
 ghost use Rattle.fund_files.specs.Chain.{HasTexts};
 ghost use Rattle.fund_payment.specs.Report.{psbt_of};
 ghost use Rattle.fund_plan.specs.Selection.{PlainFunded};
-ghost use Rattle.payment_states.specs.BookOf.{IsBookOf};
-ghost use Rattle.payment_states.specs.Candidates.{candidates_of};
+ghost use Rattle.payment_states.specs.Makers.{HasMaker};
 ghost use Rattle.psbt_codec.specs.PartialTransaction.{PartialTransaction};
 ghost use Rattle.psbt_codec.specs.Psbt.{IsPsbt};
 ghost use Rattle.request_text.specs.PlainRequest.{PlainRequest};
-ghost use Rattle.wallet_text.specs.PlainWallet.{PlainWallet};
-ghost use Rattle.wallet_text.specs.WalletRules.{IsWallet};
 ghost use Rattle.wallet_text.specs.declared.wallet.Watch.{Watch};
 ghost use Rattle.psbt_complete.specs.Completed.{IsCompleted, known_of};
 ghost use Rattle.psbt_complete.specs.Faults.{IsFirstFault};
@@ -36,8 +32,8 @@ pub fn completed_stay()
     ensures same { (h g : History) (p q r : PartialTransaction) → IsCompleted h p q → IsCompleted g q r → r ≡ q }
 {}
 
-/// The law of payments: the PSBT of a payment from coins that may be spent is made whole from the book of these coins. So it is
-/// never refused.
+/// The law of payments: the PSBT of a payment is made whole from a history that has the transactions which made its coins. So
+/// it is never refused.
 pub fn payments_are_made_whole()
-    ensures { (w : PlainWallet) (h : History) (tip : ℕ) (r : PlainRequest) (change : Watch) (f : PlainFunded) → IsWallet w → IsBookOf w h → fault_of h ≡ None → HasTexts h → All (Contains (candidates_of w h tip)) f.coins → (q : PartialTransaction) × IsCompleted h (psbt_of h r change f) q }
+    ensures { (h : History) (r : PlainRequest) (change : Watch) (f : PlainFunded) → HasTexts h → All (HasMaker h) f.coins → (q : PartialTransaction) × IsCompleted h (psbt_of h r change f) q }
 {}

@@ -12,7 +12,7 @@ use Rattle.fund_plan.specs.Chosen.{load_for, no_row, row_of}
 use Rattle.fund_plan.specs.Pays.{Balances, due_of, outputs_of, payment_weight}
 use Rattle.fund_plan.specs.Steps.{load_in}
 use Rattle.fund_steps.specs.Amounts.{value_of}
-use Rattle.fund_steps.specs.Listed.{presets_in}
+use Rattle.fund_steps.specs.Listed.{burden_in, presets_in}
 use Rattle.fund_steps.specs.Plan.{IsPlan, IsRoomy, PlainPlan, ladder_in}
 use Rattle.fund_steps.specs.Terms.{load_of, rates_of}
 use Rattle.output_groups.specs.declared.rows.Row.{Row}
@@ -24,8 +24,8 @@ use Rattle.report_check.proofs.PaidLaws.{load_row, one_text, row_found, row_is}
 
 -- ---- what is to be carried
 
-pub given_load : (p : PlainPlan) (n : ℕ) (l : Load) → n ≡ 0 → l ≡ load_of p.request p.change (presets_in p) → IsLoad l → IsLoadAt p n (Some l)
-given_load p n l e is fits = (inl e, is ∙ sym (ap (load_for p) e), fits, paid_is p.request p.change (presets_in p) l is)
+pub given_load : (p : PlainPlan) (n : ℕ) (l : Load) → n ≡ 0 → l ≡ load_of p.request p.change (presets_in p) (burden_in p) → IsLoad l → IsLoadAt p n (Some l)
+given_load p n l e is fits = (inl e, is ∙ sym (ap (load_for p) e), fits, paid_is p.request p.change (presets_in p) (burden_in p) l is)
 
 pub row_load : (p : PlainPlan) (n : ℕ) (row : Row) (l : Load) → row_at p n ≡ Some row → l ≡ load_in p row → IsLoad l → l.paid ≡ paid_to p.request.recipients → IsLoadAt p n (Some l)
 row_load p n row l e is fits paid = let at = row_found p n row e in (inr (row, at), is ∙ load_row p n row at, fits, paid)

@@ -13,6 +13,7 @@ use Rattle.closing_log.specs.declared.mark.Mark.TheVariants as mark
 use Rattle.fee_rates.specs.Fee.{vsize_of}
 use Rattle.fund_base.proofs.Lists.{in_tail}
 use Rattle.fund_base.specs.declared.candidate.Candidate.{Candidate}
+use Rattle.fund_plan.proofs.BringLaws.{once_in}
 use Rattle.fund_plan.proofs.FoundLaws.{found_pays}
 use Rattle.fund_plan.proofs.PaysLaws.{pays_within}
 use Rattle.fund_plan.proofs.RowLaws.{found_in, row_fair}
@@ -32,8 +33,8 @@ use Rattle.fund_steps.specs.Amounts.{value_of}
 use Rattle.fund_steps.proofs.WholeLaws.{given_none}
 use Rattle.fund_steps.specs.Basis.{basis_of}
 use Rattle.fund_steps.specs.Plan.{IsPlan, PlainPlan}
-use Rattle.fund_steps.specs.Selection.{unlisted}
-use Rattle.output_groups.proofs.Members.{all_from, head_in}
+use Rattle.fund_steps.specs.Selection.{is_listed, unlisted}
+use Rattle.output_groups.proofs.Members.{all_from, from_filter, head_in}
 use Rattle.output_groups.proofs.PoolLaws.{pool_meets}
 use Rattle.output_groups.proofs.SortLaws.{is_pool}
 use Rattle.output_groups.specs.Ladder.{Meets}
@@ -59,17 +60,18 @@ use Rattle.report_check.proofs.ToldLaws.{asked_by}
 -- ---- the payment
 
 -- a coin that is at hand for a row may be spent in it
-spend_by : (p : PlainPlan) (n : ℕ) (c : Candidate) (b : Bool) → IsNamedRow p n → (n == 0) ≡ b → Contains p.candidates c → IsAtHandBy p b n c → MayBeSpent p n c
-spend_by p n c true named e held at = inl at
-spend_by p n c false named e held (inl preset) = inl preset
-spend_by p n c false (inl zero) e held (inr (g, in_pool, in_group)) = absurd (both_ways (n == 0) e ((Decides-eqb n 0).1 zero))
-spend_by p n c false (inr (row, at)) e held (inr (g, in_pool, in_group)) =
+spend_by : (p : PlainPlan) (n : ℕ) (c : Candidate) (b : Bool) → IsPlan p → IsNamedRow p n → (n == 0) ≡ b → IsAtHandBy p b n c → MayBeSpent p n c
+spend_by p n c true plan named e at = inl at
+spend_by p n c false plan named e (inl preset) = inl preset
+spend_by p n c false plan (inl zero) e (inr (g, in_pool, in_group)) = absurd (both_ways (n == 0) e ((Decides-eqb n 0).1 zero))
+spend_by p n c false plan (inr (row, at)) e (inr (g, in_pool, in_group)) =
     let r = p.request in
     let rest = unlisted r.coins p.candidates in
     let own : row_of p n ≡ row = ap (λ (o : Option Row). unwrap_or o no_row) (row_is p n row at) in
     let all = pool_meets r.group (row_of p n) r.rate r.long_term rest (pool_in p (row_of p n)) (row_fair p n) (is_pool r.group (row_of p n) r.rate r.long_term rest) in
     let met = All-contains (Meets (row_of p n)) g c (All-contains (λ (x : List Candidate). All (Meets (row_of p n)) x) (pool_in p (row_of p n)).groups g all in_pool) in_group in
-    inr (held, (row, at, subst (λ (x : Row). Meets x c) own met))
+    let among = All-contains (Contains rest) g c (All-contains (λ (x : List Candidate). All (Contains rest) x) (pool_in p (row_of p n)).groups g (once_in p (row_of p n) plan).held in_pool) in_group in
+    inr ((from_filter (λ (d : Candidate). not (is_listed r.coins d.coin)) p.candidates c among).0, (row, at, subst (λ (x : Row). Meets x c) own met))
 
 record At (p : PlainPlan) (f : PlainFunded) (t : Transaction) (coins : List Candidate) (n : ℕ) (change : Option ℕ) : Type 0 where
   pays : Pays p.request p.change (load_for p n) coins change t
@@ -79,13 +81,13 @@ record At (p : PlainPlan) (f : PlainFunded) (t : Transaction) (coins : List Cand
   fee : value_of coins ≡ outputs_of p.request change + f.fee
   waste : f.waste ≡ waste_of p.request (load_for p n) coins change
 
-pub paid_of : (p : PlainPlan) (f : PlainFunded) (g : plans.PlainFunded) → IsNamedRow p g.row → IsPayment p g → IsOfPayment p f g → IsPaid p (Funded f)
-paid_of p f g named payment h =
+pub paid_of : (p : PlainPlan) (f : PlainFunded) (g : plans.PlainFunded) → IsPlan p → IsNamedRow p g.row → IsPayment p g → IsOfPayment p f g → IsPaid p (Funded f)
+paid_of p f g plan named payment h =
     let t = h.psbt.tx in
     let within = pays_within p.request p.change (load_for p g.row) g.coins g.change (payment_of p.request p.change g) payment.pays in
     let at : At p f t g.coins g.row g.change = record {
       pays = subst (Pays p.request p.change (load_for p g.row) g.coins g.change) (sym h.transaction) payment.pays;
-      spendable = all_from (MayBeSpent p g.row) g.coins (λ c there. spend_by p g.row c (g.row == 0) named refl (All-contains (Contains p.candidates) g.coins c payment.candidates there) (All-contains (IsAtHand p g.row) g.coins c payment.at_hand there));
+      spendable = all_from (MayBeSpent p g.row) g.coins (λ c there. spend_by p g.row c (g.row == 0) plan named refl (All-contains (IsAtHand p g.row) g.coins c payment.at_hand there));
       named = named;
       weight = h.weight ∙ payment.weight_is;
       fee = let sum = h.fee in omega (arith, sum, within);
@@ -172,7 +174,7 @@ found_accepted p f found bytes log plan steps first h text sections tries =
     let result : IsResultOf (steps_of p) found = answer_ends seed (steps_of p) (Some found) steps first in
     let source = found_in p found result in
     let number : source.row.number ≡ found.row = sym (ap (λ (x : PlainFound). x.row) source.is) in
-    let paid : IsPaid p (Funded f) = paid_of p f g (inr (source.row, (source.in_ladder, number))) (found_pays p (mark_of found.stage) found plan result) h in
+    let paid : IsPaid p (Funded f) = paid_of p f g plan (inr (source.row, (source.in_ladder, number))) (found_pays p (mark_of found.stage) found plan result) h in
     let due : AreFor (searches upto) log.closed = named_all (searches upto) log.closed sections in
     let proved : AreProved (steps_of p) log.closed = are_proved (steps_of p) upto first.rest log.closed parts sections in
     let upto_first : IsFirstTaken seed upto found = record {
@@ -240,7 +242,7 @@ none_accepted p tries bytes log steps none is text sections count =
       },
     )
 
--- ---- the listed coins alone
+-- ---- the presets alone
 
 pub given_accepted : (p : PlainPlan) (f : PlainFunded) (g : plans.PlainFunded) (bytes : List ℕ) (log : PlainLog) → IsPlan p → is_given p ≡ true → by_end p (ends.Ended None) ≡ outcomes.Funded g → IsOfPayment p f g → IsEndedText bytes log →
     log.closed ≡ [] → HasTries (Funded f) log.closed → IsAccepted p (Funded f) bytes
@@ -250,7 +252,7 @@ given_accepted p f g bytes log plan given is h text empty tries =
     let alone = alone_means p (outcomes.Funded g) plan is in
     let row : g.row ≡ 0 = ap (λ (x : plans.PlainFunded). x.row) alone.2 in
     let marked : f.mark ≡ mark.Given = h.names.mark ∙ given_mark p g (sym (ended_none p) ∙ is) in
-    let paid : IsPaid p (Funded f) = paid_of p f g (inl row) payment h in
+    let paid : IsPaid p (Funded f) = paid_of p f g plan (inl row) payment h in
     let told : IsToldAnswer p.request.seed log.closed (steps_of p) None = subst (λ (xs : List PlainStep). IsToldAnswer p.request.seed log.closed xs None) (sym none) tt in
     let named : IsNamedAnswer p (Funded f) log.closed = (None, told, subst (NamesOutcome (Funded f)) (sym is) h.names) in (
       paid,

@@ -1,5 +1,6 @@
 pub mod AnsweredLaws
 pub mod BackedLaws
+pub mod BurdenLaws
 pub mod CheckedLaws
 pub mod EvenLaws
 pub mod FewLaws

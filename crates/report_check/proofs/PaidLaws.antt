@@ -1,5 +1,5 @@
 -- A report pays as it says exactly where the coins of its inputs do so, part by part.
-use Rattle.std.specs.Prelude.{ℕ, ◌≡◌, ◌≢◌, ◌==◌, ◌<◌, ◌⊎◌, ◌↔◌, not, cond, Bool, true, false, List, [], ◌∷◌, map, find, length, unwrap_or, All, Contains, IsTrue, Option, Some, None, Ok, Result}
+use Rattle.std.specs.Prelude.{ℕ, ◌≡◌, ◌≢◌, ◌==◌, ◌<◌, ◌⊎◌, ◌↔◌, not, cond, Bool, true, false, List, [], ◌∷◌, map, find, length, unwrap_or, All, Contains, IsSome, IsTrue, Option, Some, None, Ok, Result}
 use Rattle.std.specs.List.{AllZip}
 use Rattle.std.proofs.Common.{refl, sym, ap, subst, inl, inr, ◌∙◌, arith}
 use Rattle.std.proofs.lemmas.Bool.Decides.{Decides-eqb}
@@ -11,7 +11,8 @@ use Rattle.fund_base.proofs.OutpointLaws.{same_outpoint-Decides}
 use Rattle.fund_base.specs.Outpoints.{same_outpoint}
 use Rattle.fund_base.specs.declared.candidate.Candidate.{Candidate}
 use Rattle.fund_base.specs.declared.outpoint.OutPoint.{OutPoint}
-use Rattle.fund_plan.proofs.FoundLaws.{fit_of, sorted_apart}
+use Rattle.fund_plan.proofs.AmongLaws.{coins_apart}
+use Rattle.fund_plan.proofs.FoundLaws.{sorted_apart}
 use Rattle.fund_plan.proofs.PaysLaws.{pays_with, pays_without}
 use Rattle.fund_plan.proofs.RowLaws.{numbered}
 use Rattle.fund_plan.specs.Chosen.{load_by, load_for, no_row, row_among, row_of}
@@ -20,8 +21,8 @@ use Rattle.fund_plan.specs.Steps.{load_in}
 use Rattle.fund_report.specs.PlainFunded.{PlainFunded}
 use Rattle.fund_steps.proofs.PresetLaws.{presets_listed}
 use Rattle.fund_steps.specs.Amounts.{AreWithin, value_of}
-use Rattle.fund_steps.specs.Listed.{presets_in}
-use Rattle.fund_steps.specs.Plan.{IsEligible, IsPlan, PlainPlan, ladder_in}
+use Rattle.fund_steps.specs.Listed.{listed_in, presets_by, presets_in}
+use Rattle.fund_steps.specs.Plan.{IsEligible, IsPlan, PlainBump, PlainPlan, coins_in, ladder_in}
 use Rattle.fund_steps.specs.Selection.{AreSorted, is_listed, unlisted}
 use Rattle.output_groups.proofs.Members.{all_from, from_filter, head_in, in_filter}
 use Rattle.output_groups.proofs.PlaceLaws.{one_coin}
@@ -47,7 +48,7 @@ use Rattle.report_check.specs.declared.fault.CheckFault.{CheckFault}
 use Rattle.report_check.specs.declared.fault.CheckFault.TheVariants.{Report as ReportFault, Psbt, Coin, Pays, LogForm, Section, Log, Answer, Memory}
 use Rattle.report_check.specs.Paying.{AreTaken, HasCoinOf, HasEach, IsEven, IsSaid, Says, row_at}
 use Rattle.report_check.specs.Payment.{AreSpendable, HasSpendable, IsFirstForeign, IsNamedRow, IsPsbtText, IsRowAt, MayBeSpent, PaysBy}
-use Rattle.report_check.proofs.PaymentLaws.{all_held, same_transaction, spendable_held, sum_of}
+use Rattle.report_check.proofs.PaymentLaws.{all_held, same_transaction, spendable_held, spent_within, sum_of}
 
 -- ---- a text has one transaction
 
@@ -113,15 +114,31 @@ listed_or : (b : Bool) → (b ≡ true) ⊎ (not b ≡ true)
 listed_or true = inl refl
 listed_or false = inr refl
 
--- a listed candidate is a preset
-listed_preset : (p : PlainPlan) (c : Candidate) → IsPlan p → Contains p.candidates c → is_listed p.request.coins c.coin ≡ true → Contains (presets_in p) c
-listed_preset p c h there listed =
+-- a listed candidate is among the listed coins
+listed_there : (p : PlainPlan) (c : Candidate) → IsPlan p → Contains p.candidates c → is_listed p.request.coins c.coin ≡ true → Contains (listed_in p) c
+listed_there p c h there listed =
     let f = any_found (λ (q : OutPoint). same_outpoint q c.coin) p.request.coins listed in
     let point : f.0 ≡ c.coin = (same_outpoint-Decides f.0 c.coin).0 f.2 in
     let all = presets_listed p h.eligible in
-    let d = All-contains (λ (q : OutPoint). (e : Candidate) × Contains (presets_in p) e × (e.coin ≡ q)) p.request.coins f.0 all.all f.1 in
-    let held : Contains p.candidates d.0 = (All-contains (IsEligible p) (presets_in p) d.0 all.eligible d.1).candidate in
-    subst (Contains (presets_in p)) (one_coin p.candidates d.0 c h.candidates.distinct held there (d.2 ∙ point)) d.1
+    let d = All-contains (λ (q : OutPoint). (e : Candidate) × Contains (listed_in p) e × (e.coin ≡ q)) p.request.coins f.0 all.all f.1 in
+    let held : Contains p.candidates d.0 = (All-contains (IsEligible p) (listed_in p) d.0 all.eligible d.1).candidate in
+    subst (Contains (listed_in p)) (one_coin p.candidates d.0 c h.candidates.distinct held there (d.2 ∙ point)) d.1
+
+-- where a payment is replaced none is listed
+none_listed : (p : PlainPlan) (b : PlainBump) (c : Candidate) → IsPlan p → p.bump ≡ Some b → is_listed p.request.coins c.coin ≡ true → ⊥
+none_listed p b c h is listed =
+    let none : length p.request.coins ≡ 0 = h.request.alone (h.bump.asked.0 (subst (λ (o : Option PlainBump). IsSome o) (sym is) refl)) in
+    let f = any_found (λ (q : OutPoint). same_outpoint q c.coin) p.request.coins listed in
+    let lt = f.1.1 in
+    omega (arith, none, lt)
+
+-- so it is a preset
+listed_preset : (p : PlainPlan) (c : Candidate) → IsPlan p → Contains p.candidates c → is_listed p.request.coins c.coin ≡ true → Contains (presets_in p) c
+listed_preset p c h there listed = by p.bump refl
+  where
+    by : (bump : Option PlainBump) → p.bump ≡ bump → Contains (presets_by bump (listed_in p)) c
+    by None is = listed_there p c h there listed
+    by (Some b) is = absurd (none_listed p b c h is listed)
 
 pub may_take : (p : PlainPlan) (n : ℕ) (c : Candidate) → IsPlan p → MayBeSpent p n c → MayTake (presets_in p) (unlisted p.request.coins p.candidates) (row_at p n) c
 may_take p n c h (inl preset) = inl preset
@@ -161,14 +178,14 @@ taken_are p n b (i ∷ is) (c ∷ cs) [] h taken e may = absurd (cc)
 taken_are p n b (i ∷ is) (c ∷ cs) (d ∷ ds) h taken e may =
     let here : i ≡ unsigned_input b d = cc in
     let later : is ≡ map (unsigned_input b) ds = cc in
-    let first : Contains p.candidates c = spendable_held p n c h (may_spend p n c taken.0.0) in
-    let second : Contains p.candidates d = spendable_held p n d h (All-head (MayBeSpent p n) d ds may) in
-    let same : c ≡ d = one_coin p.candidates c d h.candidates.distinct first second (taken.0.1 ∙ ap (λ (j : TxIn). j.prev) here) in
+    let first : Contains (coins_in p) c = spendable_held p n c h (may_spend p n c taken.0.0) in
+    let second : Contains (coins_in p) d = spendable_held p n d h (All-head (MayBeSpent p n) d ds may) in
+    let same : c ≡ d = one_coin (coins_in p) c d (coins_apart p h) first second (taken.0.1 ∙ ap (λ (j : TxIn). j.prev) here) in
     ap (λ (x : Candidate). x ∷ cs) same ∙ ap (λ (xs : List Candidate). d ∷ xs) (taken_are p n b is cs ds h taken.1 later (All-tail (MayBeSpent p n) d ds may))
 
 -- sorted coins that were looked up are within their bounds
 pub taken_fit : (p : PlainPlan) (n : ℕ) (inputs : List TxIn) (coins : List Candidate) → IsPlan p → AreTaken p n inputs coins → AreSorted coins → AreWithin coins
-taken_fit p n inputs coins h taken sorted = fit_of p coins h (sorted_apart coins sorted) (all_held p n coins h (spent_all p n inputs coins taken))
+taken_fit p n inputs coins h taken sorted = spent_within p coins h (sorted_apart coins sorted) (all_held p n coins h (spent_all p n inputs coins taken))
 
 -- ---- what is first refused
 
@@ -191,9 +208,9 @@ preset_there p n coins h may given =
     all_from (Contains coins) (presets_in p)
     (λ c there.
     let d = All-contains (HasCoinOf coins) (presets_in p) c given there in
-    let first : Contains p.candidates d.0 = spendable_held p n d.0 h (All-contains (MayBeSpent p n) coins d.0 may d.1) in
-    let second : Contains p.candidates c = spendable_held p n c h (inl there) in
-    subst (Contains coins) (one_coin p.candidates d.0 c h.candidates.distinct first second d.2) d.1)
+    let first : Contains (coins_in p) d.0 = spendable_held p n d.0 h (All-contains (MayBeSpent p n) coins d.0 may d.1) in
+    let second : Contains (coins_in p) c = spendable_held p n c h (inl there) in
+    subst (Contains coins) (one_coin (coins_in p) d.0 c (coins_apart p h) first second d.2) d.1)
 
 pays_by : (p : PlainPlan) (l : Load) (coins : List Candidate) (amount : Option ℕ) → AreSorted coins → IsEven p.request l coins amount → PaysIn p.request p.change l coins amount (payment_from p.request p.change coins amount)
 pays_by p l coins None sorted h = pays_without p.request p.change l coins sorted h.balance h.weight
@@ -220,21 +237,26 @@ is_payment : (p : PlainPlan) (l : Load) (coins : List Candidate) (amount : Optio
 unfolding payment_from
 is_payment p l coins amount t h = same_transaction t (payment_from p.request p.change coins amount) h.version h.inputs h.outputs h.locktime h.bare
 
+-- its coins balance with its change
+pub pays_even : (p : PlainPlan) (f : PlainFunded) (t : PartialTransaction) (k : PaysBy p f t) → IsEven p.request (load_for p f.row) k.coins f.change
+pays_even p f t k =
+    let sum = sum_of p.request p.change (load_for p f.row) k.coins f.change t.tx k.pays in
+    record {
+      balance = subst (λ (n : ℕ). Balances p.request (load_for p f.row) k.coins f.change (value_of k.coins) n) sum k.pays.fee;
+      worth = k.pays.change_worth;
+      weight = k.pays.weight;
+    }
+
 pub pays_said : (p : PlainPlan) (f : PlainFunded) (t : PartialTransaction) (coins : List Candidate) → IsPlan p → AreTaken p f.row t.tx.inputs coins → PaysBy p f t → IsSaid p f t coins
 pays_said p f t coins h taken k =
     let same : coins ≡ k.coins = taken_are p f.row p.request.replaceable t.tx.inputs coins k.coins h taken k.pays.inputs k.spendable in
-    let sum = sum_of p.request p.change (load_for p f.row) k.coins f.change t.tx k.pays in
     subst (IsSaid p f t) (sym same)
     (record {
       sorted = k.pays.sorted;
       given = All-weaker (Contains k.coins) (HasCoinOf k.coins) (λ c there. (c, there, refl)) (presets_in p) k.presets;
       row = k.row;
       says = record {
-        even = record {
-          balance = subst (λ (n : ℕ). Balances p.request (load_for p f.row) k.coins f.change (value_of k.coins) n) sum k.pays.fee;
-          worth = k.pays.change_worth;
-          weight = k.pays.weight;
-        };
+        even = pays_even p f t k;
         figures = record { weight = k.weight; vsize = k.vsize; fee = k.fee; waste = k.waste };
         lines = k.lines;
         shows = k.shows;

@@ -1,10 +1,12 @@
 -- A report that pays as it says, with the coins of a payment, is of that payment.
-use Rattle.std.specs.Prelude.{ℕ, ◌≡◌, ◌≢◌, ◌+◌, Bool, List, [], ◌∷◌, map, sum_by, All, AllPairs, Contains, Option, Some, None}
+use Rattle.std.specs.Prelude.{ℕ, ◌≡◌, ◌≢◌, ◌+◌, ◌≤◌, Bool, List, [], ◌∷◌, length, map, sum_by, All, AllPairs, Contains, IfSome, Option, Some, None}
 use Rattle.std.specs.List.{AllZip}
 use Rattle.std.proofs.Common.{refl, sym, ap, subst, inl, inr, ◌∙◌, arith}
+use Rattle.std.proofs.lemmas.List.{length-append}
 use Rattle.std.proofs.lemmas.List.Elements.{All-contains, All-head, All-tail}
 use Rattle.fee_rates.specs.Fee.{vsize_of}
 use Rattle.fee_rates.specs.declared.terms.Load.{Load}
+use Rattle.fund_base.specs.Candidates.{AreCandidates}
 use Rattle.fund_base.specs.declared.candidate.Candidate.{Candidate}
 use Rattle.fund_plan.proofs.PaysLaws.{outputs_sum}
 use Rattle.fund_plan.specs.Answer.{IsPayment}
@@ -14,10 +16,12 @@ use Rattle.fund_plan.specs.Pays.{Pays, outputs_of, payment_of, payment_weight}
 use Rattle.fund_plan.specs.Selection as plans
 use Rattle.fund_report.specs.PlainFunded.{PlainFunded}
 use Rattle.fund_report.specs.declared.report.InLine.{InLine}
-use Rattle.fund_steps.proofs.PresetLaws.{presets_listed}
-use Rattle.fund_steps.specs.Amounts.{value_of}
+use Rattle.fund_plan.proofs.AmongLaws.{among_fit, coins_apart}
+use Rattle.fund_plan.proofs.SpendLaws.{AreApart, some_count}
+use Rattle.fund_steps.proofs.BumpLaws.{candidate_in, presets_held}
+use Rattle.fund_steps.specs.Amounts.{AreWithin, value_of}
 use Rattle.fund_steps.specs.Listed.{presets_in}
-use Rattle.fund_steps.specs.Plan.{IsEligible, IsPlan, PlainPlan}
+use Rattle.fund_steps.specs.Plan.{IsBump, IsPlan, PlainBump, PlainPlan, coins_in, coins_with}
 use Rattle.output_groups.proofs.Members.{all_from}
 use Rattle.output_groups.proofs.PlaceLaws.{one_coin}
 use Rattle.psbt_codec.specs.PartialTransaction.{PartialTransaction}
@@ -32,15 +36,26 @@ use Rattle.report_check.specs.Vouched.{IsOfPayment}
 
 -- ---- the coins
 
-pub spendable_held : (p : PlainPlan) (n : ℕ) (c : Candidate) → IsPlan p → MayBeSpent p n c → Contains p.candidates c
+-- those that a plan can spend are at most 100,000
+few_with : (bump : Option PlainBump) (candidates : List Candidate) → AreCandidates candidates → IfSome bump (IsBump candidates) → length (coins_with bump candidates) ≤ 100_000
+few_with None candidates h fits = h.count
+few_with (Some b) candidates h fits = let n = length-append b.presets candidates in let most = fits.together in omega (arith, n, most)
+
+-- so some of them, each once, are within their bounds
+pub spent_within : (p : PlainPlan) (coins : List Candidate) → IsPlan p → AreApart coins → All (Contains (coins_in p)) coins → AreWithin coins
+spent_within p coins h apart held =
+    let few = few_with p.bump p.candidates h.candidates h.bump.fits in
+    among_fit p coins h (omega (arith, some_count coins (coins_in p) apart held, few)) apart held
+
+pub spendable_held : (p : PlainPlan) (n : ℕ) (c : Candidate) → IsPlan p → MayBeSpent p n c → Contains (coins_in p) c
 spendable_held p n c h may =
     elim may [
-      | inl preset ↦ (All-contains (IsEligible p) (presets_in p) c (presets_listed p h.eligible).eligible preset).candidate
-      | inr other ↦ other.0
+      | inl preset ↦ All-contains (Contains (coins_in p)) (presets_in p) c (presets_held p h) preset
+      | inr other ↦ candidate_in p.bump p.candidates c other.0
     ]
 
-pub all_held : (p : PlainPlan) (n : ℕ) (coins : List Candidate) → IsPlan p → All (MayBeSpent p n) coins → All (Contains p.candidates) coins
-all_held p n coins h may = all_from (Contains p.candidates) coins (λ c there. spendable_held p n c h (All-contains (MayBeSpent p n) coins c may there))
+pub all_held : (p : PlainPlan) (n : ℕ) (coins : List Candidate) → IsPlan p → All (MayBeSpent p n) coins → All (Contains (coins_in p)) coins
+all_held p n coins h may = all_from (Contains (coins_in p)) coins (λ c there. spendable_held p n c h (All-contains (MayBeSpent p n) coins c may there))
 
 same_coins : (cs xs ys : List Candidate) → AllPairs (λ (a b : Candidate). a.coin ≢ b.coin) cs → All (Contains cs) xs → All (Contains cs) ys → map line_of xs ≡ map line_of ys → xs ≡ ys
 same_coins cs [] [] apart h k e = refl
@@ -102,7 +117,7 @@ record Says (p : PlainPlan) (f : PlainFunded) (t : PartialTransaction) (n : ℕ)
 
 pub of_payment : (p : PlainPlan) (f : PlainFunded) (g : plans.PlainFunded) (t : PartialTransaction) → IsPlan p → IsPayment p g → NamesPayment f g → IsPsbtText f.text t → PaysBy p f t → IsOfPayment p f g
 of_payment p f g t h payment names text paid =
-    let coins : paid.coins ≡ g.coins = same_coins p.candidates paid.coins g.coins h.candidates.distinct (all_held p f.row paid.coins h paid.spendable) payment.candidates (sym paid.lines ∙ names.coins) in
+    let coins : paid.coins ≡ g.coins = same_coins (coins_in p) paid.coins g.coins (coins_apart p h) (all_held p f.row paid.coins h paid.spendable) payment.candidates (sym paid.lines ∙ names.coins) in
     let says : Says p f t f.row paid.coins f.change = record { pays = paid.pays; weight = paid.weight; vsize = paid.vsize; fee = paid.fee; waste = paid.waste; shows = paid.shows } in
     let at_row : Says p f t g.row paid.coins f.change = subst (λ (n : ℕ). Says p f t n paid.coins f.change) names.row says in
     let with_coins : Says p f t g.row g.coins f.change = subst (λ (cs : List Candidate). Says p f t g.row cs f.change) coins at_row in

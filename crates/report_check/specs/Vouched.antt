@@ -73,13 +73,13 @@ pub record IsDrawn (p : PlainPlan) (f : PlainFunded) : Type 0 where
   pub coins : f.coins ≡ map line_of (coins_at p (row_of p f.row) found.places)
   pub measure : f.waste ≡ found.waste +ℤ cost_of p.request (presets_in p)
 
--- The coins are those that the request lists, and they alone pay.
+-- The coins are the presets, and they alone pay.
 pub record IsGiven (p : PlainPlan) (f : PlainFunded) : Type 0 where
   pub answer : IsTheAnswer p f
   pub alone : AnswersAlone p (outcomes.Funded answer.payment)
 
--- No search and no draw of the plan has a result, and the coins that the request lists don't pay alone. Unless they bring all
--- that is due, no choice from any row's pool does for what the method looks for.
+-- No search and no draw of the plan has a result, and the presets don't pay alone. Unless they bring all that is due, no
+-- choice from any row's pool does for what the method looks for.
 pub record IsNone (p : PlainPlan) : Type 0 where
   pub answer : IsAnswerOf p outcomes.NoSelection
   pub none : AllByRecursion (HasNone p.request.seed) (steps_of p)

@@ -4,7 +4,7 @@ ghost use Rattle.std.specs.Prelude.{◌≡◌, ◌≢◌, ◌≤◌, IfErr, IfOk
 ghost use Rattle.fund_base.specs.Candidates.{AreCandidates};
 ghost use Rattle.fund_plan.specs.Steps.{steps_of};
 ghost use Rattle.fund_report.specs.declared.report.Report.TheVariants as reports;
-ghost use Rattle.fund_steps.specs.Plan.{IsFault as IsPlanFault, IsPlan};
+ghost use Rattle.fund_steps.specs.Plan.{IsBumpFor, IsFault as IsPlanFault, IsPlan};
 ghost use Rattle.search_run.specs.Answer.{AreWhole};
 ghost use Rattle.search_run.specs.Step.{AreSteps};
 ghost use Rattle.wallet_text.specs.WalletRules.{IsWatch};
@@ -22,15 +22,15 @@ use closing_log::Section;
 use fund_base::Candidate;
 use fund_plan::Funding;
 use fund_report::{FundedReport, Report};
-use fund_steps::{Funds, PlanFault, Prepared};
+use fund_steps::{BumpInput, Funds, PlanFault, Prepared};
 use request_text::Request;
 use search_run::Step;
 use std::alloc::Global;
 use std::marker::Model;
 use wallet_text::Watch;
 
-/// What reports are judged against: a request, the script that its change is paid to, and the candidates, which are the
-/// coins that may be spent. It is seen as the plan that is made from these.
+/// What reports are judged against: a request, the script that its change is paid to, the candidates, which are the coins that
+/// may be spent, and what a plan is given where it replaces a payment. It is seen as the plan that is made from these.
 #[derive(Drop)]
 pub struct Examiner {
     alloc: Global,
@@ -52,21 +52,23 @@ impl Model for Examiner {
 }
 
 impl Examiner {
-    /// What reports on a request that replaces no payment are judged against. The change script keeps the rules of a
-    /// wallet's, and the candidates are at most 100,000, each outpoint once. It refuses as a plan of these is refused.
+    /// What reports on a request are judged against. The change script keeps the rules of a wallet's, and the candidates are
+    /// at most 100,000, each outpoint once. A bump is given exactly where the request replaces a payment, as a plan asks. It
+    /// refuses as a plan of these is refused.
     pub fn new(
         alloc: Global,
         request: Request,
         change: Watch,
         candidates: Vec<Candidate>,
+        bump: Option<BumpInput>,
     ) -> Result<Examiner, PlanFault>
-        requires bump { request.bump ≡ None }
+        requires bump { IsBumpFor request candidates.items bump }
         requires change { IsWatch change }
         requires candidates { AreCandidates candidates.items }
-        ensures made { IfOk result (λ e. e ≡ record { request = request; change = change; candidates = candidates.items }) }
-        ensures fault { IfErr result (IsPlanFault (record { request = request; change = change; candidates = candidates.items })) }
+        ensures made { IfOk result (λ e. e ≡ record { request = request; change = change; candidates = candidates.items; bump = bump }) }
+        ensures fault { IfErr result (IsPlanFault (record { request = request; change = change; candidates = candidates.items; bump = bump })) }
     {
-        let Prepared { funds, steps } = Funds::new(alloc, &request, &change, candidates)?;
+        let Prepared { funds, steps } = Funds::new(alloc, &request, &change, candidates, bump)?;
         let funding = Funding::new(alloc, &request, funds);
         Ok(Examiner {
             alloc,

@@ -16,8 +16,9 @@ pub enum CheckFault {
     Report(u64),
     /// The text of its PSBT has this fault. It never holds [`PsbtFault::Memory`].
     Psbt(PsbtFault),
-    /// An input spends the coin at this outpoint, which is neither one that the request lists nor a candidate that
-    /// meets the named row of the request's ladder. It is the first such input.
+    /// An input spends the coin at this outpoint, which is neither a preset nor a candidate that meets the named row of the
+    /// request's ladder. Presets are the coins that the request lists, or those of the payment that it replaces. It is the
+    /// first such input.
     Coin(OutPoint),
     /// The PSBT doesn't pay what is asked, or not as the report says.
     Pays,

@@ -1,4 +1,4 @@
-//! How the coins of a payment stand to one another, and to those that a request lists.
+//! How the coins of a payment stand to one another, and to the presets, which each payment spends.
 
 ghost use Rattle.std.specs.Prelude.{◌↔◌, IsTrue};
 ghost use Rattle.fund_steps.specs.Selection.{AreSorted};

@@ -1,8 +1,11 @@
 //! Laws of reports that are accepted. A call of any of them does nothing.
 
-ghost use Rattle.std.specs.Prelude.{◌≡◌, ◌≢◌, ◌++◌, [], ℕ, List, None, true};
+ghost use Rattle.std.specs.Prelude.{◌≡◌, ◌≢◌, ◌≤◌, ◌+◌, ◌++◌, [], ℕ, List, All, Contains, None, Some, true};
 ghost use Rattle.std.specs.List.{AllByRecursion};
 ghost use Rattle.closing_log.specs.Log.{PlainLog};
+ghost use Rattle.fee_rates.specs.Fee.{fee_of};
+ghost use Rattle.fee_rates.specs.Terms.{base_of};
+ghost use Rattle.fund_base.specs.declared.candidate.Candidate.{Candidate};
 ghost use Rattle.fund_plan.specs.Chosen.{funded_at, mark_of};
 ghost use Rattle.fund_plan.specs.Outcome.{by_end};
 ghost use Rattle.fund_plan.specs.Selection as plans;
@@ -12,14 +15,18 @@ ghost use Rattle.fund_report.specs.PlainFunded.{PlainFunded};
 ghost use Rattle.fund_report.specs.ReportText.{IsReportText};
 ghost use Rattle.fund_report.specs.declared.report.Report.{Report};
 ghost use Rattle.fund_report.specs.declared.report.Report.TheVariants as reports;
-ghost use Rattle.fund_steps.specs.Plan.{IsPlan, PlainPlan};
+ghost use Rattle.fund_steps.specs.Amounts.{weight_of};
+ghost use Rattle.fund_steps.specs.Listed.{burden_in, presets_in};
+ghost use Rattle.fund_steps.specs.Plan.{IsPlan, PlainBump, PlainPlan};
+ghost use Rattle.fund_steps.specs.Terms.{load_of};
 ghost use Rattle.search_run.specs.Answer.{HasNone, IsFirstTaken};
 ghost use Rattle.search_run.specs.Found.{PlainFound};
 ghost use Rattle.search_run.specs.Searched.{AreSectionsOf};
 ghost use Rattle.search_run.specs.Step.{AreSteps};
 ghost use Rattle.search_run.specs.declared.ending.End.TheVariants as ends;
+ghost use Rattle.report_check.specs.Payment.{line_of};
 ghost use Rattle.report_check.specs.Proved.{HasTries, HasTriesLine, IsEndedText};
-ghost use Rattle.report_check.specs.Verdict.{BreaksFirst, IsAccepted, IsBacked, IsFault};
+ghost use Rattle.report_check.specs.Verdict.{BreaksFirst, IsAccepted, IsBacked, IsFault, IsPaid};
 ghost use Rattle.report_check.specs.Vouched.{IsOfPayment, Vouches};
 ghost use Rattle.report_check.specs.declared.fault.CheckFault.{CheckFault};
 
@@ -28,11 +35,11 @@ ghost use Rattle.report_check.specs.declared.fault.CheckFault.{CheckFault};
 /// A payment that isn't partial is the plan's answer, of all that there is to find: mark, row, stage, coins, change and
 /// figures are its own, and the PSBT is of its transaction. Exhausted, its coins are the best selection of the problem of
 /// its row and stage; drawn, they are what is drawn. Both are taken first of all results, and the waste is theirs with the
-/// cost of the listed coins. Given, the listed coins alone pay. Partial, the PSBT pays as the report says, from listed
-/// coins and from candidates that meet its row.
+/// cost of the presets. Given, the presets alone pay. Partial, the PSBT pays as the report says, from presets and from
+/// candidates that meet its row. Presets are the coins that the request lists, or those of the payment that it replaces.
 ///
-/// None: no search and no draw of the plan has a result, and the listed coins alone don't pay. Unless they bring all that
-/// is due, no choice from any row's pool does for what the method looks for.
+/// None: no search and no draw of the plan has a result, and the presets alone don't pay. Unless they bring all that is due,
+/// no choice from any row's pool does for what the method looks for.
 pub fn accepted_reports_name_the_answer()
     ensures { (p : PlainPlan) (r : Report) (bytes : List ℕ) → IsPlan p → AreSteps (steps_of p) → IsAccepted p r bytes → Vouches p r }
 {}
@@ -60,4 +67,13 @@ pub fn honest_reports_are_accepted()
     ensures found { (p : PlainPlan) (f : PlainFunded) (found : PlainFound) (bytes : List ℕ) (log : PlainLog) → IsPlan p → AreSteps (steps_of p) → (first : IsFirstTaken p.request.seed (steps_of p) found) → IsOfPayment p f (funded_at p (mark_of found.stage) found) → IsEndedText bytes log → AreSectionsOf (first.front ++ first.column) log.closed → HasTries (reports.Funded f) log.closed → IsAccepted p (reports.Funded f) bytes }
     ensures given { (p : PlainPlan) (f : PlainFunded) (g : plans.PlainFunded) (bytes : List ℕ) (log : PlainLog) → IsPlan p → is_given p ≡ true → by_end p (ends.Ended None) ≡ outcomes.Funded g → IsOfPayment p f g → IsEndedText bytes log → log.closed ≡ [] → HasTries (reports.Funded f) log.closed → IsAccepted p (reports.Funded f) bytes }
     ensures none { (p : PlainPlan) (tries : ℕ) (bytes : List ℕ) (log : PlainLog) → AreSteps (steps_of p) → AllByRecursion (HasNone p.request.seed) (steps_of p) → by_end p (ends.Ended None) ≡ outcomes.NoSelection → IsEndedText bytes log → AreSectionsOf (steps_of p) log.closed → HasTries (reports.NoSelection tries) log.closed → IsAccepted p (reports.NoSelection tries) bytes }
+{}
+
+/// The law of reports of replacements: one that pays as it says, whatever its mark, pays its plan's burden beside the fee of
+/// its rate, by its own figures. Its weight is no less than the base and the inputs of the presets alone. And a line of it has
+/// each coin that the replaced payment spends (BIP 125, 'Implementation Details', rules 3 and 4).
+pub fn paid_reports_pay_the_burden()
+    ensures fee { (p : PlainPlan) (f : PlainFunded) → IsPaid p (reports.Funded f) → burden_in p + fee_of p.request.rate f.vsize ≤ f.fee }
+    ensures weight { (p : PlainPlan) (f : PlainFunded) → IsPlan p → IsPaid p (reports.Funded f) → base_of (load_of p.request p.change (presets_in p) (burden_in p)) + weight_of (presets_in p) ≤ f.weight }
+    ensures coins { (p : PlainPlan) (b : PlainBump) (f : PlainFunded) → p.bump ≡ Some b → IsPlan p → IsPaid p (reports.Funded f) → All (λ (c : Candidate). Contains f.coins (line_of c)) b.presets }
 {}

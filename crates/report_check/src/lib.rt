@@ -28,5 +28,5 @@ pub use examiner::Examiner;
 pub use fault::CheckFault;
 pub use laws::{
     accepted_reports_name_the_answer, honest_reports_are_accepted, logs_break_one_rule_first,
-    reports_have_one_verdict, tries_have_their_line,
+    paid_reports_pay_the_burden, reports_have_one_verdict, tries_have_their_line,
 };

@@ -4,13 +4,11 @@
 //! is the byte HH, and `-` alone is the empty file. What it must print was worked out apart from this program.
 #![tactic(auto)]
 
-mod escape;
-
 use command_check::check;
 use command_end::Sources;
 use command_fund::Payment;
-use escape::unescaped;
 use fund_base::{MemShelf, Memory, StdSink, SureSink, put_all};
+use row_bytes::unescaped;
 use std::alloc::Global;
 use std::io;
 use std::io::{BufRead, BufReader, ErrorKind};

@@ -80,7 +80,7 @@ fn plan_text(
     requires bump { request.now.bump ≡ None }
     requires candidates { AreCandidates candidates.items }
 {
-    let mut plan = match Plan::new(alloc, request, &wallet.change, candidates) {
+    let mut plan = match Plan::new(alloc, request, &wallet.change, candidates, None) {
         Ok(plan) => plan,
         Err(fault) => return fault_text(alloc, fault),
     };

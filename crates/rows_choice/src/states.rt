@@ -1,25 +1,14 @@
 //! What has become of a wallet's payments, and what it may spend.
 
-ghost use Rattle.std.specs.Prelude.{◌<◌, IfOk};
+ghost use Rattle.std.specs.Prelude.{◌<◌};
 ghost use Rattle.payment_states.specs.BookOf.{IsBookOf};
 
-use coin_book::{Book, BookFault};
+use coin_book::Book;
 use fund_base::{Candidate, Memory, Txid};
 use payment_states::{State, States, all_states, candidates};
+use row_books::book_of;
 use std::alloc::Global;
 use wallet_text::{Wallet, read_wallet};
-
-/// The book of a wallet without blocks.
-fn book_of(alloc: Global, wallet: &Wallet) -> Result<Book, BookFault>
-    ensures { IfOk result (λ b. IsBookOf wallet.now b) }
-{
-    let mut book = Book::new(alloc, wallet)?;
-    for place in 0..wallet.pending.len() {
-        let tx = &wallet.pending[place];
-        book.add_pending(tx)?;
-    }
-    Ok(book)
-}
 
 /// The first four digits of a txid as it is shown.
 fn digits(alloc: Global, txid: &Txid) -> Result<String, Memory> {

@@ -18,7 +18,7 @@ pub returns-in_err-pair-clause-stop : goal.returns-in_err-pair-clause-stop
 returns-in_err-pair-clause-stop g c =
     let p = err_from_is_err_and c.from_residual-in_err-pair.result c.from_residual-in_err-pair.ensures.1 in
     rw (p.1, p.2) (evidence_stops _ (plain_sources c.args.sources.now) (plain_payment c.args.payment.now) c.args.report.now c.in_ok-examiner.examiner (g.H.Shelf.view c.args.shelf.now) (g.H.Shelf.view c.examiner.new.shelf) (g.H.Shelf.view c.read_pair.new.shelf)
-    c.in_ok-examiner.ensures.plan c.examiner.ensures.frame c.in_err-pair.field-0.0 c.in_err-pair.ensures.stop)
+    c.in_ok-examiner.ensures.plan.of c.examiner.ensures.frame c.in_err-pair.field-0.0 c.in_err-pair.ensures.stop)
 
 pub returns-in_err-pair-clause-frame : goal.returns-in_err-pair-clause-frame
 returns-in_err-pair-clause-frame g c = only_reads_on _ (g.H.Shelf.view c.args.shelf.now) (g.H.Shelf.view c.examiner.new.shelf) (g.H.Shelf.view c.read_pair.new.shelf) c.examiner.ensures.frame c.read_pair.ensures.frame
@@ -28,7 +28,7 @@ returns-in_err-pair-clause-asked g c = λ t.
     both_asked (plain_sources c.args.sources.now) (plain_payment c.args.payment.now) c.args.report.now (g.H.Shelf.view c.args.shelf.now) (g.H.Shelf.view c.examiner.new.shelf) (g.H.Shelf.view c.read_pair.new.shelf) (c.examiner.ensures.asked t) (c.read_pair.ensures.asked t)
 
 pub returns-in_err-pair-clause-unread : goal.returns-in_err-pair-clause-unread
-returns-in_err-pair-clause-unread g c = λ t none. absurd (no_plan _ (g.H.Shelf.view c.args.shelf.now).files (plain_sources c.args.sources.now) (plain_payment c.args.payment.now) c.in_ok-examiner.examiner c.in_ok-examiner.ensures.plan t none)
+returns-in_err-pair-clause-unread g c = λ t none. absurd (no_plan _ (g.H.Shelf.view c.args.shelf.now).files (plain_sources c.args.sources.now) (plain_payment c.args.payment.now) c.in_ok-examiner.examiner c.in_ok-examiner.ensures.plan.of t none)
 
 pub returns-clause-accepted : goal.returns-clause-accepted
 returns-clause-accepted g c =
@@ -41,14 +41,14 @@ returns-clause-frame g c = only_reads_on _ (g.H.Shelf.view c.args.shelf.now) (g.
 pub returns-clause-stop : goal.returns-clause-stop
 returns-clause-stop g c =
     if_judging_stops _ (plain_sources c.args.sources.now) (plain_payment c.args.payment.now) c.args.report.now c.in_ok-examiner.examiner (g.H.Shelf.view c.args.shelf.now) (g.H.Shelf.view c.examiner.new.shelf) (g.H.Shelf.view c.read_pair.new.shelf) c.in_ok-pair.pair.report
-    c.in_ok-pair.pair.log.items c.judge.result c.in_ok-examiner.ensures.plan c.examiner.ensures.frame c.in_ok-pair.ensures.read c.judge.ensures.stop
+    c.in_ok-pair.pair.log.items c.judge.result c.in_ok-examiner.ensures.plan.of c.examiner.ensures.frame c.in_ok-pair.ensures.read c.judge.ensures.stop
 
 pub returns-clause-asked : goal.returns-clause-asked
 returns-clause-asked g c = λ t.
     both_asked (plain_sources c.args.sources.now) (plain_payment c.args.payment.now) c.args.report.now (g.H.Shelf.view c.args.shelf.now) (g.H.Shelf.view c.examiner.new.shelf) (g.H.Shelf.view c.read_pair.new.shelf) (c.examiner.ensures.asked t) (c.read_pair.ensures.asked t)
 
 pub returns-clause-unread : goal.returns-clause-unread
-returns-clause-unread g c = λ t none. absurd (no_plan _ (g.H.Shelf.view c.args.shelf.now).files (plain_sources c.args.sources.now) (plain_payment c.args.payment.now) c.in_ok-examiner.examiner c.in_ok-examiner.ensures.plan t none)
+returns-clause-unread g c = λ t none. absurd (no_plan _ (g.H.Shelf.view c.args.shelf.now).files (plain_sources c.args.sources.now) (plain_payment c.args.payment.now) c.in_ok-examiner.examiner c.in_ok-examiner.ensures.plan.of t none)
 
 -- no log
 
@@ -64,12 +64,12 @@ returns-clause-no_log g c = λ t none.
 
 pub returns-in_err-pair-clause-none_behind : goal.returns-in_err-pair-clause-none_behind
 returns-in_err-pair-clause-none_behind g c =
-    let h = c.in_ok-examiner.ensures.plan in
+    let h = c.in_ok-examiner.ensures.plan.of in
     inputs_behind _ (plain_sources c.args.sources.now) (plain_payment c.args.payment.now) h.wallet h.blocks h.asked (g.H.Shelf.view c.args.shelf.now) (g.H.Shelf.view c.read_pair.new.shelf) h.inputs
 
 pub returns-clause-none_behind : goal.returns-clause-none_behind
 returns-clause-none_behind g c =
-    let h = c.in_ok-examiner.ensures.plan in
+    let h = c.in_ok-examiner.ensures.plan.of in
     inputs_behind _ (plain_sources c.args.sources.now) (plain_payment c.args.payment.now) h.wallet h.blocks h.asked (g.H.Shelf.view c.args.shelf.now) (g.H.Shelf.view c.read_pair.new.shelf) h.inputs
 
 -- ---- failed reads

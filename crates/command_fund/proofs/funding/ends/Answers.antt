@@ -13,7 +13,7 @@ paid_texts-requires c =
     record {
       held = c.requires.held;
       funded = paid_fits c.args.held.now c.args.request.now r.plan r.outcome c.in-Funded.funded c.requires.run c.in-Funded.is;
-      coins = paid_from c.args.held.now c.args.request.now r.plan r.outcome c.in-Funded.funded c.requires.run c.in-Funded.is;
+      makers = paid_from c.args.held.now c.args.request.now r.plan r.outcome c.in-Funded.funded c.requires.held c.len.ensures.sound c.requires.run c.in-Funded.is;
     }
 
 pub returns-in_ok-report-in-Unfinished : goal.returns-in_ok-report-in-Unfinished
@@ -33,4 +33,4 @@ returns-in_ok-texts-in-Funded c =
     let r = c.args.run in
     let e = c.in_ok-texts-in-Funded.ensures in
     let t = c.in_ok-texts-in-Funded.texts in
-    concluded_paid c.args.held.now c.args.request.now r.plan r.outcome c.in-Funded.funded r.plan.stand.past.tries t.report.items t.log.items c.requires.run c.in-Funded.is refl e.report e.fits e.shows e.log
+    concluded_paid c.args.held.now c.args.request.now r.plan r.outcome c.in-Funded.funded r.plan.stand.past.tries t.report.items t.log.items c.requires.held c.len.ensures.sound c.requires.taken c.requires.run c.in-Funded.is refl e.report e.fits e.shows e.log

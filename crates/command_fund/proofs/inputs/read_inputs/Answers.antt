@@ -1,13 +1,12 @@
-use Rattle.std.proofs.Common.{◌≡◌, ◌∙◌, Result, Err, ap, sym}
+use Rattle.std.proofs.Common.{◌≡◌, ◌∙◌, Result, Err, ap}
 use Rattle.std.proofs.lemmas.Result.{err_from_is_err_and}
 use Rattle.fund_files.proofs.FrameLaws.{only_reads_on}
 use Rattle.fund_files.specs.declared.refusal.File.TheVariants.{Wallet, Blocks, Request}
 use Rattle.fund_files.specs.declared.stop.Stop.{Stop as FileStop}
 use Rattle.command_end.specs.Names.{plain_sources}
-use Rattle.command_fund.specs.Cause.{cause_of}
 use Rattle.command_fund.specs.Names.{plain_payment}
 use Rattle.command_fund.specs.Stops.{lifted}
-use Rattle.command_fund.proofs.InputLaws.{all_asked, asked_is, asked_stops, chain_asked, chain_stops, none_behind, taken_stops}
+use Rattle.command_fund.proofs.InputLaws.{all_asked, asked_is, asked_stops, bump_stops, chain_asked, chain_stops, none_behind}
 use Rattle.command_fund.proofs.inputs.read_inputs.Goals as goal
 
 same_stop : {T : Type 0} (a b : FileStop) → ◌≡◌ {A = Result T FileStop} (Err a) (Err b) → a ≡ b
@@ -27,19 +26,21 @@ returns-in_err-request-clause-stop g c =
 pub returns-in_err-request-clause-frame : goal.returns-in_err-request-clause-frame
 returns-in_err-request-clause-frame g c = only_reads_on _ (g.H.Shelf.view c.args.shelf.now) (g.H.Shelf.view c.read_chain.new.shelf) (g.H.Shelf.view c.read_asked.new.shelf) c.read_chain.ensures.frame c.read_asked.ensures.frame
 
-pub returns-in-Some-clause-frame : goal.returns-in-Some-clause-frame
-returns-in-Some-clause-frame g c = only_reads_on _ (g.H.Shelf.view c.args.shelf.now) (g.H.Shelf.view c.read_chain.new.shelf) (g.H.Shelf.view c.read_asked.new.shelf) c.read_chain.ensures.frame c.read_asked.ensures.frame
+pub returns-in_err-terms-clause-frame : goal.returns-in_err-terms-clause-frame
+returns-in_err-terms-clause-frame g c = only_reads_on _ (g.H.Shelf.view c.args.shelf.now) (g.H.Shelf.view c.read_chain.new.shelf) (g.H.Shelf.view c.read_asked.new.shelf) c.read_chain.ensures.frame c.read_asked.ensures.frame
 
-pub returns-in-Some-clause-stop : goal.returns-in-Some-clause-stop
-returns-in-Some-clause-stop g c = taken_stops _ (plain_sources c.args.sources.now) (plain_payment c.args.payment.now) c.in_ok-held.held c.in_ok-request.request (cause_of c.in-Some.refusal) (g.H.Shelf.view c.args.shelf.now) (g.H.Shelf.view c.read_chain.new.shelf)
-    c.in_ok-held.ensures.held c.read_chain.ensures.frame c.in_ok-request.ensures.asked (sym c.in-Some.ensures)
+pub returns-in_err-terms-clause-stop : goal.returns-in_err-terms-clause-stop
+returns-in_err-terms-clause-stop g c =
+    let p = err_from_is_err_and c.from_residual-in_err-terms.result c.from_residual-in_err-terms.ensures.1 in
+    rw (p.1, p.2) (bump_stops _ (plain_sources c.args.sources.now) (plain_payment c.args.payment.now) c.in_ok-held.held c.in_ok-request.request (g.H.Shelf.view c.args.shelf.now) (g.H.Shelf.view c.read_chain.new.shelf) (g.H.Shelf.view c.read_asked.new.shelf)
+    c.in_ok-held.ensures.held c.read_chain.ensures.frame c.in_ok-request.ensures.asked c.in_err-terms.field-0.0 c.in_err-terms.ensures.fault)
 
-pub returns-in-None-clause-frame : goal.returns-in-None-clause-frame
-returns-in-None-clause-frame g c = only_reads_on _ (g.H.Shelf.view c.args.shelf.now) (g.H.Shelf.view c.read_chain.new.shelf) (g.H.Shelf.view c.read_asked.new.shelf) c.read_chain.ensures.frame c.read_asked.ensures.frame
+pub returns-clause-frame : goal.returns-clause-frame
+returns-clause-frame g c = only_reads_on _ (g.H.Shelf.view c.args.shelf.now) (g.H.Shelf.view c.read_chain.new.shelf) (g.H.Shelf.view c.read_asked.new.shelf) c.read_chain.ensures.frame c.read_asked.ensures.frame
 
-pub returns-in-None-clause-held : goal.returns-in-None-clause-held
-returns-in-None-clause-held g c = asked_is _ (g.H.Shelf.view c.args.shelf.now).files (g.H.Shelf.view c.read_chain.new.shelf).files (plain_sources c.args.sources.now) (plain_payment c.args.payment.now) c.in_ok-held.held c.in_ok-request.request
-    c.in_ok-held.ensures.held c.read_chain.ensures.frame.same c.in_ok-request.ensures.asked (sym c.in-None.ensures)
+pub returns-clause-held : goal.returns-clause-held
+returns-clause-held g c = asked_is _ (g.H.Shelf.view c.args.shelf.now).files (g.H.Shelf.view c.read_chain.new.shelf).files (plain_sources c.args.sources.now) (plain_payment c.args.payment.now) c.in_ok-held.held c.in_ok-request.request
+    c.in_ok-held.ensures.held c.read_chain.ensures.frame.same c.in_ok-request.ensures.asked c.in_ok-terms.ensures.none
 
 pub returns-in_err-held-clause-asked : goal.returns-in_err-held-clause-asked
 returns-in_err-held-clause-asked g c = chain_asked _ (plain_sources c.args.sources.now) (plain_payment c.args.payment.now) (g.H.Shelf.view c.args.shelf.now) (g.H.Shelf.view c.read_chain.new.shelf) c.read_chain.ensures.asked
@@ -47,11 +48,11 @@ returns-in_err-held-clause-asked g c = chain_asked _ (plain_sources c.args.sourc
 pub returns-in_err-request-clause-asked : goal.returns-in_err-request-clause-asked
 returns-in_err-request-clause-asked g c = all_asked _ (plain_sources c.args.sources.now) (plain_payment c.args.payment.now) (g.H.Shelf.view c.args.shelf.now) (g.H.Shelf.view c.read_chain.new.shelf) (g.H.Shelf.view c.read_asked.new.shelf) c.read_chain.ensures.asked c.read_asked.ensures.asked_for
 
-pub returns-in-Some-clause-asked : goal.returns-in-Some-clause-asked
-returns-in-Some-clause-asked g c = all_asked _ (plain_sources c.args.sources.now) (plain_payment c.args.payment.now) (g.H.Shelf.view c.args.shelf.now) (g.H.Shelf.view c.read_chain.new.shelf) (g.H.Shelf.view c.read_asked.new.shelf) c.read_chain.ensures.asked c.read_asked.ensures.asked_for
+pub returns-in_err-terms-clause-asked : goal.returns-in_err-terms-clause-asked
+returns-in_err-terms-clause-asked g c = all_asked _ (plain_sources c.args.sources.now) (plain_payment c.args.payment.now) (g.H.Shelf.view c.args.shelf.now) (g.H.Shelf.view c.read_chain.new.shelf) (g.H.Shelf.view c.read_asked.new.shelf) c.read_chain.ensures.asked c.read_asked.ensures.asked_for
 
-pub returns-in-None-clause-asked : goal.returns-in-None-clause-asked
-returns-in-None-clause-asked g c = all_asked _ (plain_sources c.args.sources.now) (plain_payment c.args.payment.now) (g.H.Shelf.view c.args.shelf.now) (g.H.Shelf.view c.read_chain.new.shelf) (g.H.Shelf.view c.read_asked.new.shelf) c.read_chain.ensures.asked c.read_asked.ensures.asked_for
+pub returns-clause-asked : goal.returns-clause-asked
+returns-clause-asked g c = all_asked _ (plain_sources c.args.sources.now) (plain_payment c.args.payment.now) (g.H.Shelf.view c.args.shelf.now) (g.H.Shelf.view c.read_chain.new.shelf) (g.H.Shelf.view c.read_asked.new.shelf) c.read_chain.ensures.asked c.read_asked.ensures.asked_for
 
 pub returns-in_err-held-clause-none_behind : goal.returns-in_err-held-clause-none_behind
 returns-in_err-held-clause-none_behind g c = λ t. record { wallet_alone = c.read_chain.ensures.refused_alone t; chain_alone = λ none. c.read_chain.ensures.asked t }
@@ -59,11 +60,11 @@ returns-in_err-held-clause-none_behind g c = λ t. record { wallet_alone = c.rea
 pub returns-in_err-request-clause-none_behind : goal.returns-in_err-request-clause-none_behind
 returns-in_err-request-clause-none_behind g c = λ t. none_behind (plain_sources c.args.sources.now) c.in_ok-held.held.wallet c.in_ok-held.ensures.held.held.blocks (g.H.Shelf.view c.args.shelf.now) (g.H.Shelf.view c.read_asked.new.shelf) (c.in_ok-held.ensures.held.chain t)
 
-pub returns-in-Some-clause-none_behind : goal.returns-in-Some-clause-none_behind
-returns-in-Some-clause-none_behind g c = λ t. none_behind (plain_sources c.args.sources.now) c.in_ok-held.held.wallet c.in_ok-held.ensures.held.held.blocks (g.H.Shelf.view c.args.shelf.now) (g.H.Shelf.view c.read_asked.new.shelf) (c.in_ok-held.ensures.held.chain t)
+pub returns-in_err-terms-clause-none_behind : goal.returns-in_err-terms-clause-none_behind
+returns-in_err-terms-clause-none_behind g c = λ t. none_behind (plain_sources c.args.sources.now) c.in_ok-held.held.wallet c.in_ok-held.ensures.held.held.blocks (g.H.Shelf.view c.args.shelf.now) (g.H.Shelf.view c.read_asked.new.shelf) (c.in_ok-held.ensures.held.chain t)
 
-pub returns-in-None-clause-none_behind : goal.returns-in-None-clause-none_behind
-returns-in-None-clause-none_behind g c = λ t. none_behind (plain_sources c.args.sources.now) c.in_ok-held.held.wallet c.in_ok-held.ensures.held.held.blocks (g.H.Shelf.view c.args.shelf.now) (g.H.Shelf.view c.read_asked.new.shelf) (c.in_ok-held.ensures.held.chain t)
+pub returns-clause-none_behind : goal.returns-clause-none_behind
+returns-clause-none_behind g c = λ t. none_behind (plain_sources c.args.sources.now) c.in_ok-held.held.wallet c.in_ok-held.ensures.held.held.blocks (g.H.Shelf.view c.args.shelf.now) (g.H.Shelf.view c.read_asked.new.shelf) (c.in_ok-held.ensures.held.chain t)
 
 -- ---- failed reads
 
@@ -77,8 +78,8 @@ returns-in_err-request-clause-all_read g c =
     let p = err_from_is_err_and c.from_residual-in_err-request.result c.from_residual-in_err-request.ensures.1 in
     rw (p.1, p.2) (λ none. c.in_err-request.ensures.unfailed (λ e. none Request (ap (λ (x : FileStop). Err (lifted x)) (same_stop _ _ e))) ∙ c.in_ok-held.ensures.unfailed (λ e. cc) (λ e. cc))
 
-pub returns-in-Some-clause-all_read : goal.returns-in-Some-clause-all_read
-returns-in-Some-clause-all_read g c = λ none. c.in_ok-request.ensures.unfailed (λ e. cc) ∙ c.in_ok-held.ensures.unfailed (λ e. cc) (λ e. cc)
+pub returns-in_err-terms-clause-all_read : goal.returns-in_err-terms-clause-all_read
+returns-in_err-terms-clause-all_read g c = λ none. c.in_ok-request.ensures.unfailed (λ e. cc) ∙ c.in_ok-held.ensures.unfailed (λ e. cc) (λ e. cc)
 
-pub returns-in-None-clause-all_read : goal.returns-in-None-clause-all_read
-returns-in-None-clause-all_read g c = λ none. c.in_ok-request.ensures.unfailed (λ e. cc) ∙ c.in_ok-held.ensures.unfailed (λ e. cc) (λ e. cc)
+pub returns-clause-all_read : goal.returns-clause-all_read
+returns-clause-all_read g c = λ none. c.in_ok-request.ensures.unfailed (λ e. cc) ∙ c.in_ok-held.ensures.unfailed (λ e. cc) (λ e. cc)

@@ -6,7 +6,6 @@ use Rattle.kept_job.specs.Saving.{IsSavedBehind}
 use Rattle.command_fund.specs.Names.{plain_payment}
 use Rattle.command_fund.proofs.LeavingLaws.{keeper_keeps, reading_keeps}
 use Rattle.command_fund.specs.Stops.{of_keeper}
-use Rattle.command_fund.specs.declared.refusal.Stop.{Stop}
 use Rattle.command_fund.proofs.leaving.keep_anew.Goals as goal
 
 same_fault : (a b : KeepFault) → ◌≡◌ {A = Result Unit KeepFault} (Err a) (Err b) → a ≡ b

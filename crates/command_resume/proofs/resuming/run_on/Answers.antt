@@ -40,6 +40,7 @@ ends-requires g c =
     let e = c.in_ok-resumed.ensures in
     record {
       held = c.requires.held;
+      taken = c.requires.taken;
       run =
           run_on _ c.args.ready c.requires.plan _ c.request.inside.tries (ap (λ (r : PlainRequest). r.tries) c.request.view_is)
           (record { plan = c.resume.new.plan; digest = c.args.ready.digest; resumed = c.in_ok-resumed.resumed }) refl e.gone e.pays e.fits;

@@ -1,9 +1,17 @@
-use Rattle.std.proofs.Common.{[], ◌∙◌, ap, refl}
+use Rattle.std.proofs.Common.{[], ◌∙◌, ap, refl, sym}
 use Rattle.std.proofs.lemmas.Result.{err_from_is_err_and}
 use Rattle.wallet_text.specs.PlainWallet.{PlainWallet}
+use Rattle.request_text.specs.PlainRequest.{PlainRequest}
 use Rattle.fund_files.specs.Chain.{held_of}
+use Rattle.command_fund.specs.Due.{bump_fault_in, terms_for}
 use Rattle.command_work.proofs.RunLaws.{hold_stops, if_ends, if_stops}
 use Rattle.command_work.proofs.running.conclude_load.Goals as goal
+
+pub conclude-requires-clause-terms : goal.conclude-requires-clause-terms
+conclude-requires-clause-terms c = sym (ap (λ (r : PlainRequest). terms_for c.in_ok-held.held r) c.in_ok-wallet.ensures.request)
+
+pub conclude-requires-clause-taken : goal.conclude-requires-clause-taken
+conclude-requires-clause-taken c = ap (λ (r : PlainRequest). bump_fault_in c.in_ok-held.held r) c.in_ok-wallet.ensures.request
 
 pub returns-in_err-held-clause-stop : goal.returns-in_err-held-clause-stop
 returns-in_err-held-clause-stop c =

@@ -18,11 +18,11 @@ kept x low high = omega (arith, ints)
 abbrev sizes : List Recipient → ℕ
 sizes rs = min (sum_by (λ (q : Recipient). output_size_of q.script) rs) 1_000_000_000
 
-parts : (r : PlainRequest) (w : Watch) (coins : List Candidate) (paid outputs count : ℕ) (worth : ℤ) (weight : ℕ) (some : Bool) (size dust : ℕ) → paid ≡ paid_to r.recipients → outputs ≡ sizes r.recipients → count ≡ min (length r.recipients) 1_000_000_000
+parts : (r : PlainRequest) (w : Watch) (coins : List Candidate) (paid outputs count : ℕ) (worth : ℤ) (weight : ℕ) (some : Bool) (burden size dust : ℕ) → paid ≡ paid_to r.recipients → outputs ≡ sizes r.recipients → count ≡ min (length r.recipients) 1_000_000_000
     → worth ≡ pos (value_of coins) -ℤ pos (fees_of r.rate coins) → weight ≡ weight_of coins → some ≡ not (length coins == 0) → size ≡ output_size_of w.script → dust ≡ dust_of w.script
-    → record { paid = paid; outputs = outputs; count = count; coins = length coins; preset_effective = worth; preset_weight = weight; has_presets = some; burden = 0; change_size = size; change_weight = w.weight; change_dust = dust } ≡ load_of r w coins
+    → record { paid = paid; outputs = outputs; count = count; coins = length coins; preset_effective = worth; preset_weight = weight; has_presets = some; burden = burden; change_size = size; change_weight = w.weight; change_dust = dust } ≡ load_of r w coins burden
 unfolding load_of
-parts r w coins paid outputs count worth weight some size dust a b d e f g h i = rw (a, b, d, e, f, g, h, i) refl
+parts r w coins paid outputs count worth weight some burden size dust a b d e f g h i = rw (a, b, d, e, f, g, h, i) refl
 
 pub returns-clause-value : goal.returns-clause-value
 returns-clause-value c =
@@ -30,7 +30,7 @@ returns-clause-value c =
     let coins = c.args.coins.now in
     let rate = ap (λ (r : PlainRequest). r.rate) c.request.view_is in
     let recipients = ap (λ (r : PlainRequest). r.recipients) c.request.view_is in
-    parts c.args.request.now c.args.change.now coins _ _ _ _ _ _ _ _ c.paid.ensures.value
+    parts c.args.request.now c.args.change.now coins _ _ _ _ _ _ c.args.burden _ _ c.paid.ensures.value
     (c.outputs_size.ensures.value ∙ ap sizes (c.deref.ensures.value ∙ recipients))
     (c.count.ensures.value ∙ ap (λ (l : List Recipient). min (length l) 1_000_000_000) (c.deref-2.ensures.value ∙ recipients))
     (kept c.effective.result e.low e.high ∙ e.value ∙ ap (λ (n : ℕ). pos (value_of coins) -ℤ pos (fees_of n coins)) rate)

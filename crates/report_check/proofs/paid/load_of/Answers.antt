@@ -1,6 +1,6 @@
 use Rattle.std.specs.Prelude.{option_copied}
 use Rattle.std.proofs.Common.{sym, ap, ◌∙◌}
-use Rattle.fund_steps.specs.Listed.{presets_in}
+use Rattle.fund_steps.specs.Listed.{burden_in, presets_in}
 use Rattle.fund_steps.specs.Plan.{PlainPlan}
 use Rattle.fund_steps.specs.Terms.{load_of}
 use Rattle.report_check.proofs.EvenLaws.{given_load, row_load, row_roomy}
@@ -9,7 +9,7 @@ use Rattle.report_check.proofs.paid.load_of.Goals as goal
 pub returns-then-number-eq0 : goal.returns-then-number-eq0
 returns-then-number-eq0 c =
     given_load c.args.funding.now c.args.number c.load.result c.if-number-eq0.true
-    (c.load.ensures.value ∙ ap (λ (q : PlainPlan). load_of q.request q.change (presets_in q)) c.funds.ensures) c.load.ensures.fit
+    (c.load.ensures.value ∙ ap (λ (q : PlainPlan). load_of q.request q.change (presets_in q) (burden_in q)) c.funds.ensures) c.load.ensures.fit
 
 pub load_at-requires-clause-roomy : goal.load_at-requires-clause-roomy
 load_at-requires-clause-roomy c =

@@ -1,5 +1,7 @@
-use Rattle.std.proofs.Common.{◌∙◌, ap, subst}
+use Rattle.std.proofs.Common.{◌∙◌, List, ap, subst}
+use Rattle.fund_base.specs.declared.candidate.Candidate.{Candidate}
 use Rattle.fund_steps.proofs.MakingLaws.{load_is_alone}
+use Rattle.fund_steps.specs.Listed.{burden_in}
 use Rattle.fund_steps.specs.Kept.{IsKept}
 use Rattle.fund_steps.specs.Plan.{PlainPlan}
 use Rattle.fund_steps.specs.Terms.{load_of}
@@ -9,7 +11,7 @@ pub returns-clause-value : goal.returns-clause-value
 returns-clause-value c =
     let i = c.self.inside in
     let kept = subst (λ (p : PlainPlan). IsKept p i.presets.items i.rest.items i.rates i.load) c.self.view_is c.self.invariant in
-    kept.load_is ∙ ap (load_of c.args.self.now.request c.args.self.now.change) kept.presets_are
+    kept.load_is ∙ ap (λ (cs : List Candidate). load_of c.args.self.now.request c.args.self.now.change cs (burden_in c.args.self.now)) kept.presets_are
 
 pub returns-clause-alone : goal.returns-clause-alone
 returns-clause-alone c =

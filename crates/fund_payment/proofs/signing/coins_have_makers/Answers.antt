@@ -1,0 +1,7 @@
+use Rattle.fund_payment.proofs.ParentLaws.{held_book}
+use Rattle.fund_payment.proofs.signing.coins_have_makers.Goals as goal
+
+pub returns : goal.returns
+returns c =
+    let k = c.args.held.now in
+    c.candidates_have_makers.ensures k.wallet k.book k.tip.height c.requires.rules (held_book k c.requires) c.len.ensures.sound
