@@ -1,14 +1,13 @@
 -- Whether a payment of a job is given out.
-use Rattle.std.specs.Prelude.{ℕ, ◌≡◌, List, Option, Some, None, option_map}
+use Rattle.std.specs.Prelude.{ℕ, ◌≡◌, All, List, Option, Some, None, option_map}
 use Rattle.std.proofs.Common.{refl, sym, ap, ◌∙◌, subst}
 use Rattle.std.proofs.lemmas.Option.{none-some, same_Some}
-use Rattle.coin_book.specs.Faults.{fault_of}
 use Rattle.fund_base.specs.declared.candidate.Candidate.{Candidate}
 use Rattle.fund_base.specs.declared.outpoint.OutPoint.{OutPoint}
-use Rattle.fund_files.specs.Chain.{IsHeld}
 use Rattle.fund_files.specs.declared.held.Held.{Held}
 use Rattle.fund_plan.specs.Answer.{IsSelection}
 use Rattle.fund_plan.specs.Selection.{PlainFunded}
+use Rattle.payment_states.specs.Makers.{HasMaker}
 use Rattle.request_text.specs.PlainRequest.{PlainRequest}
 use Rattle.wallet_text.specs.declared.wallet.Watch.{Watch}
 use Rattle.desk_machine.specs.Machine.{by_funded, by_taken, funded_of, stay, taken_at}
@@ -59,9 +58,9 @@ pub selection_in : (change : Watch) (j : Job) (f : PlainFunded) (r : PlainReques
 selection_in change j f r own is same = subst (λ (q : PlainRequest). IsSelection q f) (sym same) (selection_is j.state.plan.request j.answer f (sym is) own.answered.fits)
 
 -- none is taken, and it is written out
-pub given_is : (k : Held) (committed : List Payment) (j : Job) (f : PlainFunded) (r : PlainRequest) (g : Given) → IsHeld k → fault_of k.book ≡ None → Some f ≡ funded_of j.answer → r ≡ j.state.plan.request
+pub given_is : (k : Held) (committed : List Payment) (j : Job) (f : PlainFunded) (r : PlainRequest) (g : Given) → All (HasMaker k.book) (candidates_in k) → Some f ≡ funded_of j.answer → r ≡ j.state.plan.request
     → None ≡ point_in (first_taken committed (candidates_in k) r f.row f.coins) → IsWrittenOut k r f g → IsGiven k committed j g
-given_is k committed j f r g held sound is own none out =
+given_is k committed j f r g made is own none out =
     let q = j.state.plan.request in
     let free : first_taken committed (candidates_in k) q f.row f.coins ≡ None = ap (λ (x : PlainRequest). first_taken committed (candidates_in k) x f.row f.coins) (sym own) ∙ none_in (first_taken committed (candidates_in k) r f.row f.coins) none in
     record {
@@ -69,5 +68,5 @@ given_is k committed j f r g held sound is own none out =
       answers = sym is;
       free = free;
       out = subst (λ (x : PlainRequest). IsWrittenOut k x f g) own out;
-      shows = still_shown k q k.wallet.change f committed q f.row held sound (none_shown committed (candidates_in k) q f.row f.coins free);
+      shows = still_shown k q k.wallet.change f committed q f.row made (none_shown committed (candidates_in k) q f.row f.coins free);
     }

@@ -7,6 +7,8 @@ pub mod JobLaws
 pub mod LookLaws
 pub mod OpenLaws
 pub mod OutLaws
+pub mod ReadyLaws
+pub mod SetLaws
 pub mod ShelfLaws
 pub mod ShownLaws
 pub mod StepLaws

@@ -1,13 +1,10 @@
 -- Coins that are looked up by their outpoints.
-use Rattle.std.specs.Prelude.{ℕ, suc, ◌≡◌, ◌≢◌, ◌≤◌, ◌<◌, ◌++◌, ◌==◌, ◌&&◌, ◌||◌, bytes_eq, List, [], ◌∷◌, AllPairs, Bool, true, false, not, Option, Some, None, filter, find, length}
+use Rattle.std.specs.Prelude.{ℕ, suc, ◌≡◌, ◌≢◌, ◌≤◌, ◌<◌, ◌==◌, ◌&&◌, ◌||◌, bytes_eq, List, [], ◌∷◌, AllPairs, Bool, true, false, not, Contains, Option, Some, None, filter, find, length}
 use Rattle.std.specs.Map.{lookup}
 use Rattle.std.specs.Option.{option_map_or, option_or}
-use Rattle.std.proofs.Common.{refl, sym, ap, ◌∙◌, subst, cond, get_or, arith, append_assoc, length-append}
-use Rattle.std.proofs.Math.ListN.{get_or-append}
-use Rattle.std.proofs.Math.Seq.{get_or-append_seam}
+use Rattle.std.proofs.Common.{refl, sym, ap, ◌∙◌, subst, cond, get_or, arith}
 use Rattle.std.proofs.lemmas.Bool.{both_ways}
 use Rattle.std.proofs.lemmas.List.Elements.{All-filter}
-use Rattle.std.proofs.lemmas.List.Folds.{find-append}
 use Rattle.std.proofs.lemmas.List.Kept.{AllPairs-filter}
 use Rattle.std.proofs.lemmas.Option.{none-some}
 use Rattle.fund_base.proofs.OutpointLaws.{same_outpoint-Decides}
@@ -16,6 +13,7 @@ use Rattle.fund_base.specs.Outpoints.{same_outpoint}
 use Rattle.fund_base.specs.declared.candidate.Candidate.{Candidate}
 use Rattle.fund_base.specs.declared.outpoint.OutPoint.{OutPoint}
 use Rattle.request_text.specs.PlainRequest.{PlainRequest}
+use Rattle.payment_states.proofs.FirstSteps.{find_agree}
 use Rattle.fund_desk.specs.Looked.{IsLookOf, good_in, is_at, same_as, taken_in}
 use Rattle.desk_machine.specs.State.{Payment, is_reserved}
 use Rattle.desk_machine.specs.Taken.{coin_now, first_taken, is_good, is_taken, meets_row, same_coin}
@@ -79,32 +77,25 @@ now_there c (x ∷ rest) apart = by (is_at c.coin x) refl (now_there c rest (apa
 good_same : (committed : List Payment) (coins : List Candidate) (r : PlainRequest) (n : ℕ) (look : Look) → IsLookOf committed r.coins coins look → (t : Candidate) → good_in look r n t ≡ is_good r n t
 good_same committed coins r n look is t = ap (λ (b : Bool). cond b (may_be_listed r t) (meets_row r n t)) (is.listed t.coin)
 
-pub taken_same : (committed : List Payment) (coins : List Candidate) (r : PlainRequest) (n : ℕ) (look : Look) → Apart coins → IsLookOf committed r.coins coins look → (c : Candidate) → taken_in look r n c ≡ is_taken committed coins r n c
-taken_same committed coins r n look apart is c =
+pub taken_same : (committed : List Payment) (now ready : List Candidate) (r : PlainRequest) (n : ℕ) (look : Look) → Apart now → IsLookOf committed r.coins ready look → (c : Candidate) → find (is_at c.coin) ready ≡ find (is_at c.coin) now → taken_in look r n c ≡ is_taken committed now r n c
+taken_same committed now ready r n look apart is c same =
     ap (λ (b : Bool). b || not (option_map_or (good_in look r n) (same_as c (lookup (same_outpoint c.coin) look.coins.entries)) false)) (is.reserved c.coin)
-    ∙ ap (λ (o : Option Candidate). is_reserved committed c.coin || not (option_map_or (good_in look r n) o false)) (ap (same_as c) (is.coins c.coin) ∙ now_there c coins apart)
-    ∙ ap (λ (b : Bool). is_reserved committed c.coin || not b) (goods (coin_now coins c))
+    ∙ ap (λ (o : Option Candidate). is_reserved committed c.coin || not (option_map_or (good_in look r n) o false)) (ap (same_as c) (is.coins c.coin ∙ same) ∙ now_there c now apart)
+    ∙ ap (λ (b : Bool). is_reserved committed c.coin || not b) (goods (coin_now now c))
   where
     goods : (o : Option Candidate) → option_map_or (good_in look r n) o false ≡ option_map_or (is_good r n) o false
     goods None = refl
-    goods (Some t) = good_same committed coins r n look is t
+    goods (Some t) = good_same committed ready r n look is t
 
-found_same : (p q : Candidate → Bool) → ((c : Candidate) → p c ≡ q c) → (coins : List Candidate) → find p coins ≡ find q coins
-found_same p q same [] = refl
-found_same p q same (x ∷ rest) = ap (λ (b : Bool). cond b (Some x) (find p rest)) (same x) ∙ ap (λ (o : Option Candidate). cond (q x) (Some x) o) (found_same p q same rest)
-
-pub first_same : (committed : List Payment) (now coins : List Candidate) (r : PlainRequest) (n : ℕ) (look : Look) → AreCandidates now → IsLookOf committed r.coins now look → find (taken_in look r n) coins ≡ first_taken committed now r n coins
-first_same committed now coins r n look are is = found_same (taken_in look r n) (is_taken committed now r n) (taken_same committed now r n look are.distinct is) coins
-
--- the first that is found so is the first that is taken
-pub shown_first : (committed : List Payment) (now all coins own : List Candidate) (listed : List OutPoint) (r : PlainRequest) (n m : ℕ) (look : Look) (o : Option Candidate) → AreCandidates now → now ≡ all → IsLookOf committed listed now look → listed ≡ r.coins → coins ≡ own → n ≡ m
-    → o ≡ find (taken_in look r n) coins → o ≡ first_taken committed all r m own
-shown_first committed now all coins own listed r n m look o are same is points coin number found =
+-- The first that is found so is the first that is taken. It is enough to know of the coins of the payment how they are now.
+pub shown_first : (committed : List Payment) (ready all coins own : List Candidate) (listed : List OutPoint) (r : PlainRequest) (n m : ℕ) (look : Look) (o : Option Candidate) → AreCandidates all → ((c : Candidate) → Contains own c → find (is_at c.coin) ready ≡ find (is_at c.coin) all)
+    → IsLookOf committed listed ready look → listed ≡ r.coins → coins ≡ own → n ≡ m → o ≡ find (taken_in look r n) coins → o ≡ first_taken committed all r m own
+shown_first committed ready all coins own listed r n m look o are same is points coin number found =
+    let here = subst (λ (ps : List OutPoint). IsLookOf committed ps ready look) points is in
     found
-    ∙ first_same committed now coins r n look are (subst (λ (ps : List OutPoint). IsLookOf committed ps now look) points is)
-    ∙ ap (λ (cs : List Candidate). first_taken committed cs r n coins) same
-    ∙ ap (λ (k : ℕ). first_taken committed all r k coins) number
-    ∙ ap (first_taken committed all r m) coin
+    ∙ ap (find (taken_in look r n)) coin
+    ∙ find_agree (taken_in look r n) (is_taken committed all r n) own (λ c has. taken_same committed all ready r n look are.distinct here c (same c has))
+    ∙ ap (λ (k : ℕ). first_taken committed all r k own) number
 
 -- ---- coins that are kept
 
@@ -130,13 +121,7 @@ candidates_filter p coins h = record {
 
 -- ---- one coin more
 
--- the coin behind these is at another outpoint
-last_apart : (front rest : List Candidate) (x : Candidate) → Apart (front ++ x ∷ rest) → (k : ℕ) (d : Candidate) → k < length front → x.coin ≢ (get_or front k d).coin
-last_apart front rest x apart k d lt = λ same.
-    apart k (length front) d lt (let n = length-append front (x ∷ rest) in omega (arith, n))
-    (ap (λ (c : Candidate). c.coin) (get_or-append front (x ∷ rest) d k lt) ∙ sym same ∙ sym (ap (λ (c : Candidate). c.coin) (get_or-append_seam front x rest d)))
-
-swapped : (a b : OutPoint) → same_outpoint a b ≡ same_outpoint b a
+pub swapped : (a b : OutPoint) → same_outpoint a b ≡ same_outpoint b a
 swapped a b = by (same_outpoint a b) refl (same_outpoint b a) refl
   where
     by : (x : Bool) → same_outpoint a b ≡ x → (y : Bool) → same_outpoint b a ≡ y → x ≡ y
@@ -145,25 +130,6 @@ swapped a b = by (same_outpoint a b) refl (same_outpoint b a) refl
     by true e false f = absurd (both_ways (same_outpoint b a) f ((same_outpoint-Decides b a).1 (sym ((same_outpoint-Decides a b).0 e))))
     by false e true f = absurd (both_ways (same_outpoint a b) e ((same_outpoint-Decides a b).1 (sym ((same_outpoint-Decides b a).0 f))))
 
-or_none : (o : Option Candidate) → o ≡ option_or o None
+pub or_none : (o : Option Candidate) → o ≡ option_or o None
 or_none None = refl
 or_none (Some x) = refl
-
--- what is found where the coin behind these is put at its outpoint
-pub look_more : (front rest : List Candidate) (x : Candidate) (o : OutPoint) → Apart (front ++ x ∷ rest) → cond (same_outpoint x.coin o) (Some x) (find (is_at o) front) ≡ find (is_at o) (front ++ x ∷ [])
-look_more front rest x o apart =
-    ap (λ (b : Bool). cond b (Some x) (find (is_at o) front)) (swapped x.coin o)
-    ∙ by (is_at o x) refl
-    ∙ sym (find-append (is_at o) front (x ∷ []))
-  where
-    by : (b : Bool) → is_at o x ≡ b → cond b (Some x) (find (is_at o) front) ≡ option_or (find (is_at o) front) (cond b (Some x) None)
-    by true e =
-        let at : o ≡ x.coin = (same_outpoint-Decides o x.coin).0 e in
-        ap (λ (f : Option Candidate). option_or f (Some x)) (sym (none_found o front (λ k d lt same. last_apart front rest x apart k d lt (sym at ∙ same))))
-    by false e = or_none (find (is_at o) front)
-
--- what is found in a map of the coins before this one, once it is put in
-pub point_more : (front rest all : List Candidate) (x : Candidate) (old new : Option Candidate) (o : OutPoint) → Apart all → (front ++ x ∷ []) ++ rest ≡ all → new ≡ cond (same_outpoint x.coin o) (Some x) old → old ≡ find (is_at o) front
-    → new ≡ find (is_at o) (front ++ x ∷ [])
-point_more front rest all x old new o apart whole is before =
-    is ∙ ap (λ (r : Option Candidate). cond (same_outpoint x.coin o) (Some x) r) before ∙ look_more front rest x o (subst Apart (sym (sym (append_assoc front (x ∷ []) rest) ∙ whole)) apart)

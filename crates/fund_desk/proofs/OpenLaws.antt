@@ -15,7 +15,7 @@ use Rattle.desk_machine.specs.Replies.{AllOpen, HasBump, Opened, Refusal, Refuse
 use Rattle.desk_machine.specs.State.{Job, PlainDesk, candidates_in, desk_of, has_job, is_reserved, new_job}
 
 abbrev pub plan_of : PlainRequest → Watch → List Candidate → PlainPlan
-plan_of r change coins = record { request = r; change = change; candidates = coins }
+plan_of r change coins = record { request = r; change = change; candidates = coins; bump = None }
 
 -- the coins that may be spent now, without those of committed payments, are the plan's
 pub plan_made : (d : PlainDesk) (r : PlainRequest) (change : Watch) (coins now : List Candidate) → change ≡ d.held.wallet.change → coins ≡ filter (λ (c : Candidate). not (is_reserved d.committed c.coin)) now → now ≡ candidates_in d.held → plan_of r change coins ≡ plan_in d r

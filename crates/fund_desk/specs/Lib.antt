@@ -2,3 +2,4 @@ pub mod Due
 pub mod Given
 pub mod Looked
 pub mod Opening
+pub mod Ready

@@ -11,11 +11,11 @@ ghost use Rattle.desk_machine.specs.Rules.{IsJob};
 
 use crate::job::OpenJob;
 use crate::payments::Committed;
-use crate::signing::psbt;
 use crate::taken::first_taken;
 use desk_machine::Reply;
 use fund_base::{Memory, Txid};
 use fund_files::Held;
+use fund_payment::{coins_have_makers, psbt};
 use fund_plan::Funded;
 use psbt_codec::write_psbt;
 use request_text::Request;
@@ -70,8 +70,7 @@ fn give_funded(
     match first_taken(alloc, held, committed, asked, funded)? {
         Some(coin) => Ok(Err(Reply::Taken(coin))),
         None => {
-            // no book has a history with a fault
-            held.book.len();
+            coins_have_makers(held);
             let given = written_out(alloc, held, asked, funded)?;
             Ok(Ok(given))
         }

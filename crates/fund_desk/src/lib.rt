@@ -8,8 +8,8 @@ mod desk;
 mod job;
 mod opening;
 mod payments;
+mod ready;
 mod records;
-mod signing;
 mod taken;
 mod waiting;
 

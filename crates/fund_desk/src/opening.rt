@@ -44,7 +44,7 @@ fn plan_of(
     faults_are_found();
     let (_, mut coins) = held.states_and_coins(alloc)?;
     keep_free(alloc, committed, &mut coins)?;
-    match Plan::new(alloc, request, &held.wallet.change, coins) {
+    match Plan::new(alloc, request, &held.wallet.change, coins, None) {
         Ok(plan) => {
             plan.keeps_rules();
             Ok(plan)

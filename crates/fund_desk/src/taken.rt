@@ -2,16 +2,17 @@
 
 ghost use Rattle.std.specs.Prelude.{◌≡◌, IfOk, find, option_copied, option_map};
 ghost use Rattle.std.specs.Map.{lookup};
-ghost use Rattle.fund_base.specs.Candidates.{AreCandidates};
 ghost use Rattle.fund_base.specs.Outpoints.{same_outpoint};
 ghost use Rattle.fund_base.specs.declared.candidate.Candidate.{Candidate};
 ghost use Rattle.fund_base.specs.declared.outpoint.OutPoint.{OutPoint};
 ghost use Rattle.fund_files.specs.Chain.{IsHeld};
 ghost use Rattle.fund_desk.specs.Looked.{IsLookOf, good_in, is_at, same_as, taken_in};
+ghost use Rattle.fund_desk.specs.Ready.{IsOneAtEach};
 ghost use Rattle.desk_machine.specs.State.{candidates_in};
 ghost use Rattle.desk_machine.specs.Taken.{first_taken, meets_numbered, meets_row, same_coin};
 
 use crate::payments::{Committed, reserved_of, set_of};
+use crate::ready::ready_of;
 use fund_base::{Candidate, Memory, OutPoint};
 use fund_files::Held;
 use fund_plan::Funded;
@@ -21,7 +22,7 @@ use request_text::Request;
 use std::alloc::Global;
 
 /// What the coins of a payment are looked up in: the outpoints that committed payments spend, those that the request
-/// lists, and the coins that may be spent now, each at its outpoint.
+/// lists, and the coins of the payment as they may be spent now, each at its outpoint.
 #[derive(Drop)]
 pub struct Look {
     reserved: IndexSet<OutPoint>,
@@ -31,7 +32,7 @@ pub struct Look {
 
 /// Coins by their outpoints. The error is out of memory.
 fn by_point(alloc: Global, coins: Vec<Candidate>) -> Result<IndexMap<OutPoint, Candidate>, Memory>
-    requires { AreCandidates coins.items }
+    requires { IsOneAtEach coins.items }
     ensures { (o : OutPoint) → IfOk result (λ m. lookup (same_outpoint o) m.entries ≡ find (is_at o) coins.items) }
 {
     let mut map = IndexMap::new(alloc);
@@ -48,7 +49,7 @@ fn look_of(
     listed: &[OutPoint],
     now: Vec<Candidate>,
 ) -> Result<Look, Memory>
-    requires { AreCandidates now.items }
+    requires { IsOneAtEach now.items }
     ensures { IfOk result (IsLookOf committed.now listed.now now.items) }
 {
     let reserved = reserved_of(alloc, committed)?;
@@ -147,7 +148,7 @@ pub fn first_taken(
     requires { IsHeld held.now }
     ensures { IfOk result (λ o. o ≡ option_map (λ (c : Candidate). c.coin) (first_taken committed.now (candidates_in held.now) request.now funded.now.row funded.now.coins)) }
 {
-    let (_, now) = held.states_and_coins(alloc)?;
+    let now = ready_of(alloc, held, &funded.coins)?;
     let look = look_of(alloc, committed, &request.coins, now)?;
     match first_in(&look, request, funded.row, &funded.coins) {
         Some(coin) => Ok(Some(coin.coin)),

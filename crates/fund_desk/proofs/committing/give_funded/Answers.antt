@@ -9,4 +9,4 @@ written_out-requires-clause-funded c = selection_in c.args.held.now.wallet.chang
 
 pub returns-in_ok-given-in-None : goal.returns-in_ok-given-in-None
 returns-in_ok-given-in-None c =
-    given_is c.args.held.now c.args.committed.now c.args.job.now c.args.funded.now c.request-asked.result.now c.in_ok-given-in-None.given c.requires.held c.len.ensures.sound c.requires.funded c.request-asked.ensures (rw c.in-None.is at c.in_ok-coin.ensures) c.in_ok-given-in-None.ensures
+    given_is c.args.held.now c.args.committed.now c.args.job.now c.args.funded.now c.request-asked.result.now c.in_ok-given-in-None.given c.coins_have_makers.ensures c.requires.funded c.request-asked.ensures (rw c.in-None.is at c.in_ok-coin.ensures) c.in_ok-given-in-None.ensures

@@ -1,10 +1,14 @@
 use Rattle.std.proofs.Common.{ap, subst, sym, ◌∙◌}
 use Rattle.fund_base.specs.Candidates.{AreCandidates}
 use Rattle.fund_files.specs.declared.held.Held.{Held}
+use Rattle.fund_steps.proofs.BumpLaws.{no_bump}
 use Rattle.desk_machine.specs.State.{desk_of}
 use Rattle.fund_desk.proofs.LookLaws.{candidates_filter}
 use Rattle.fund_desk.proofs.OpenLaws.{due_fault, plan_made}
 use Rattle.fund_desk.proofs.opening.plan_of.Goals as goal
+
+pub new-requires-clause-bump : goal.new-requires-clause-bump
+new-requires-clause-bump c = no_bump c.args.request.now _ c.requires.bump
 
 pub new-requires-clause-candidates : goal.new-requires-clause-candidates
 new-requires-clause-candidates c = subst AreCandidates (sym c.in_ok-keep_free.ensures) (candidates_filter _ _ c.in_ok-coins.ensures.fit)

@@ -1,25 +1,14 @@
-use Rattle.std.proofs.Common.{◌≡◌, ◌∙◌, ◌||◌, Bool, true, false, cond, take, get_or, refl, sym, ap}
+use Rattle.std.proofs.Common.{◌∙◌, ◌||◌, Bool, true, cond, take, get_or, sym, ap}
 use Rattle.std.proofs.lemmas.List.Folds.{list_any_more}
 use Rattle.indexmap.specs.IndexSet.{contains}
 use Rattle.fund_base.specs.Outpoints.{same_outpoint}
 use Rattle.fund_base.specs.declared.outpoint.OutPoint.{OutPoint}
 use Rattle.desk_machine.specs.State.{has_point}
+use Rattle.fund_desk.proofs.SetLaws.{join, none_more}
 use Rattle.fund_desk.proofs.payments.add_points.Goals as goal
-
-none_more : (b : Bool) → b ≡ (b || false)
-none_more true = refl
-none_more false = refl
 
 pub loop-point-init : goal.loop-point-init
 loop-point-init c = λ o. none_more (contains same_outpoint c.args.set.now o)
-
-join : (b a d : Bool) → cond b true (a || d) ≡ (a || (d || b))
-join true true d = refl
-join true false true = refl
-join true false false = refl
-join false true d = refl
-join false false true = refl
-join false false false = refl
 
 pub loop-point-preserved : goal.loop-point-preserved
 loop-point-preserved c = λ o.
