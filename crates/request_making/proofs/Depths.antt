@@ -1,9 +1,10 @@
 -- How deep a request that is written nests, and that it has no number with a fraction.
-use Rattle.std.proofs.Common.{◌≡◌, ℕ, ◌≤◌, List, [], ◌∷◌, refl, arith, map}
+use Rattle.std.proofs.Common.{◌≡◌, ℕ, Bool, false, ◌||◌, ◌≤◌, List, [], ◌∷◌, refl, ap, ◌∙◌, arith, map}
 use Rattle.std.specs.Prelude.{String}
 use Rattle.std.specs.declared.alloc.Global.{Global}
 use Rattle.serde_json.specs.Data.{depth, items_depth}
 use Rattle.serde_json.specs.View.{items_of}
+use Rattle.serde_json.specs.Written.{has_float, items_have_float}
 use Rattle.request_making.specs.Written.{coin_data, payment_data, payee_data, request_data}
 use Rattle.request_making.specs.declared.payment.Payee.{Payee}
 use Rattle.request_making.specs.declared.payment.Payee.TheVariants as payees
@@ -24,3 +25,18 @@ coins_depth (c ∷ cs) = omega (arith, coins_depth cs)
 
 pub request_depth : (payments : List Payment) (coins : List (String Global)) (s : Settings) → depth (request_data payments coins s) ≤ 127
 request_depth payments coins s = omega (arith, payments_depth payments, coins_depth coins)
+
+payee_whole : (amount : ℕ) (to : Payee) → has_float (payee_data amount to) ≡ false
+payee_whole amount (payees.Address text) = refl
+payee_whole amount (payees.Script script) = refl
+
+payments_whole : (ps : List Payment) → items_have_float (items_of (map payment_data ps)) ≡ false
+payments_whole [] = refl
+payments_whole (p ∷ ps) = ap (λ (b : Bool). b || items_have_float (items_of (map payment_data ps))) (payee_whole p.amount p.to) ∙ payments_whole ps
+
+coins_whole : (cs : List (String Global)) → items_have_float (items_of (map coin_data cs)) ≡ false
+coins_whole [] = refl
+coins_whole (c ∷ cs) = coins_whole cs
+
+pub request_whole : (payments : List Payment) (coins : List (String Global)) (s : Settings) → has_float (request_data payments coins s) ≡ false
+request_whole payments coins s = rw (coins_whole coins, payments_whole payments)

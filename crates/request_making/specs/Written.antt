@@ -4,6 +4,7 @@ use Rattle.std.specs.declared.alloc.Global.{Global}
 use Rattle.hex.specs.Hex.{encode_lower}
 use Rattle.serde_json.specs.Data.{Data, boolean, number, unsigned, string, array, object, Members, no_members, member, put}
 use Rattle.serde_json.specs.View.{items_of}
+use Rattle.serde_json.specs.Written.{compact_text}
 use Rattle.request_text.specs.Rules.{word_of}
 use Rattle.request_making.specs.declared.payment.Payee.{Payee}
 use Rattle.request_making.specs.declared.payment.Payee.TheVariants as payees
@@ -44,6 +45,10 @@ request_data payments coins s =
     (member (codes "tries") (number (unsigned s.tries))
     (member (codes "when_unfinished") (string (take_word s.take))
     (member (codes "zero_conf") (boolean s.zero_conf) no_members)))))))))))))))
+
+-- The bytes of the request file: that value as JSON on one line, without a blank outside of texts.
+unfoldable pub request_bytes : List Payment → List (String Global) → Settings → List ℕ
+request_bytes payments coins s = compact_text (request_data payments coins s)
 
 -- The same members, put one by one into others: the numbers, the truth values, and the words.
 abbrev pub numbers_put : Settings → Members → Members

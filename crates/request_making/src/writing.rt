@@ -8,7 +8,7 @@ ghost use Rattle.json_fields.specs.Fields.{IsHash, parsed};
 ghost use Rattle.request_text.specs.RequestText.{request_of};
 ghost use Rattle.request_text.specs.Rules.{word_of};
 ghost use Rattle.request_making.specs.Asked.{HasBytes, asked_of};
-ghost use Rattle.request_making.specs.Written.{coin_data, flags_put, lists_put, numbers_put, payment_data, request_data, take_word, words_put};
+ghost use Rattle.request_making.specs.Written.{coin_data, flags_put, lists_put, numbers_put, payment_data, request_bytes, request_data, take_word, words_put};
 
 use crate::payment::{Payee, Payment};
 use crate::settings::Settings;
@@ -192,6 +192,8 @@ pub fn request_text(
     ensures read { IfOk result (λ text. request_of (string_bytes text) ≡ asked_of payments.now coins.now settings.now) }
     // It is the JSON text of the members, each of which is written.
     ensures whole { IfOk result (λ text. parsed (string_bytes text) ≡ Some (request_data payments.now coins.now settings.now)) }
+    // Its bytes are that JSON value on one line, without a blank outside of texts.
+    ensures bytes { IfOk result (λ text. string_bytes text ≡ request_bytes payments.now coins.now settings.now) }
 {
     let value = request_value(alloc, payments, coins, settings)?;
     let text = value.to_string(alloc)?;

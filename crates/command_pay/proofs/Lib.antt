@@ -1,0 +1,3 @@
+mod MoneyLaws
+mod PaymentLaws
+mod RunLaws

@@ -1,0 +1,86 @@
+use Rattle.std.proofs.Common.{◌≡◌, ◌∙◌, ℕ, List, [], Option, map, ap, refl, sym, subst, string_bytes}
+use Rattle.std.specs.Prelude.{◌≢◌}
+use Rattle.fund_base.specs.Causes.{ShelfView, SinkView}
+use Rattle.fund_base.specs.SureSink.{view_of as sink_view}
+use Rattle.fund_outside.specs.Kept.{KeeperView}
+use Rattle.fund_outside.specs.SureKeeper.{view_of as keeper_view}
+use Rattle.command_end.specs.declared.status.Status.TheVariants as statuses
+use Rattle.fund_top.specs.Words.{Command, command_of, names_stand}
+use Rattle.request_shelf.specs.Held.{held_view}
+use Rattle.pay_words.specs.declared.asked.Asked.{Asked}
+use Rattle.command_pay.specs.Run.{held_names, sources_of}
+use Rattle.command_pay.specs.Written.{KeepsFiles}
+use Rattle.command_pay.proofs.PaymentLaws.{other_count, other_file}
+use Rattle.command_pay.proofs.RunLaws.{Promises, is_run, keeps_others, none_unwritten, run_told}
+use Rattle.command_pay.proofs.run.run_asked.Goals as goal
+
+pub returns-clause-run : goal.returns-clause-run
+returns-clause-run g c =
+    let asked : Asked = c.args.asked.now in
+    let s = c.new-shelf.result in
+    let shelf : ShelfView = held_view (g.H.Shelf.view s.shelf) s.request.items s.log.items (map string_bytes s.asked.items) in
+    let s' = c.run-status.new.shelf in
+    let shelf' : ShelfView = held_view (g.H.Shelf.view s'.shelf) s'.request.items s'.log.items (map string_bytes s'.asked.items) in
+    let sink : SinkView = sink_view c.new-out.result in
+    let sink' : SinkView = sink_view c.run-status.new.out in
+    let keeper : KeeperView = keeper_view c.new-keeper.result in
+    let keeper' : KeeperView = keeper_view c.run-status.new.keeper in
+    let o : Option Command = command_of c.in-Ok.due.words.items in
+    let e = c.run-status.ensures in
+    let promises : Promises g.H.Shelf.tells o shelf shelf' sink sink' keeper keeper' c.run-status.result = record {
+      usage = e.usage;
+      usage_line = e.usage_line tt;
+      done = e.done;
+      none = e.none;
+      unfinished = e.unfinished;
+      input = e.input;
+      limit = e.limit;
+      saved = e.saved;
+      check_refused = e.check_refused;
+      read_fault = e.read_fault;
+      write_fault = e.write_fault;
+      keep_fault = e.keep_fault;
+      memory = e.memory;
+      asked = e.asked;
+      refused = e.refused;
+      complete = e.complete;
+      untouched = e.untouched;
+      others = e.others;
+      kept = e.kept;
+      all_read = e.all_read;
+      all_written = e.all_written;
+    } in
+    let apart : c.run-status.result ≢ statuses.WriteFault = none_unwritten g.H.Shelf.tells asked (names_stand (sources_of asked) held_names) o shelf shelf' sink sink' keeper keeper' c.run-status.result c.in-Ok.ensures.words e.usage.1 refl refl refl refl e.write_fault in
+    run_told g.H.Shelf.tells asked (g.H.Shelf.view c.args.files) c.run-status.result c.written.result.now c.log.result.now c.run_of-ended.result c.run_of-ended.ensures.status c.run_of-ended.ensures.said c.run_of-ended.ensures.log
+    (is_run g.H.Shelf.tells asked (g.H.Shelf.view c.args.files) c.in-Ok.due.request.items c.written.result.now c.log.result.now o shelf shelf' sink sink' keeper keeper' c.run-status.result promises
+    c.in-Ok.ensures.words c.new-shelf.ensures c.new-out.ensures c.new-keeper.ensures.view c.in-Ok.ensures.asks c.in-Ok.ensures.bytes c.written.ensures c.log.ensures apart)
+
+pub returns-clause-files : goal.returns-clause-files
+returns-clause-files g c =
+    let asked : Asked = c.args.asked.now in
+    let s = c.new-shelf.result in
+    let shelf : ShelfView = held_view (g.H.Shelf.view s.shelf) s.request.items s.log.items (map string_bytes s.asked.items) in
+    let s' = c.run-status.new.shelf in
+    let shelf' : ShelfView = held_view (g.H.Shelf.view s'.shelf) s'.request.items s'.log.items (map string_bytes s'.asked.items) in
+    let sink : SinkView = sink_view c.new-out.result in
+    let sink' : SinkView = sink_view c.run-status.new.out in
+    let keeper : KeeperView = keeper_view c.new-keeper.result in
+    let keeper' : KeeperView = keeper_view c.run-status.new.keeper in
+    let o : Option Command = command_of c.in-Ok.due.words.items in
+    let files : ShelfView = g.H.Shelf.view c.args.files in
+    let given_back : g.H.Shelf.view c.into_files.result ≡ g.H.Shelf.view s'.shelf = c.into_files.ensures in
+    let e = c.run-status.ensures in
+    let apart : c.run-status.result ≢ statuses.WriteFault = none_unwritten g.H.Shelf.tells asked (names_stand (sources_of asked) held_names) o shelf shelf' sink sink' keeper keeper' c.run-status.result c.in-Ok.ensures.words e.usage.1 refl refl refl refl e.write_fault in
+    let stays : KeepsFiles g.H.Shelf.tells files (g.H.Shelf.view s'.shelf) = record {
+      files = λ told name other.
+          sym (other_file (g.H.Shelf.view s'.shelf).files s'.request.items s'.log.items name other)
+          ∙ keeps_others g.H.Shelf.tells asked (names_stand (sources_of asked) held_names) o shelf.files shelf'.files c.in-Ok.ensures.words (λ none. ap (λ (v : ShelfView). v.files) (e.untouched (e.usage.1 none))) e.others told name other.1
+          ∙ ap (λ (v : ShelfView). v.files name) c.new-shelf.ensures
+          ∙ other_file files.files c.in-Ok.due.request.items [] name other;
+      writes = λ name other.
+          sym (other_count (g.H.Shelf.view s'.shelf).writes name other)
+          ∙ ap (λ (f : List ℕ → ℕ). f name) (e.all_written apart)
+          ∙ ap (λ (v : ShelfView). v.writes name) c.new-shelf.ensures
+          ∙ other_count files.writes name other;
+    } in
+    subst (λ (v : ShelfView). KeepsFiles g.H.Shelf.tells files v) (sym given_back) stays

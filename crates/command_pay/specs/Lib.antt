@@ -1,0 +1,5 @@
+pub mod AsAsked
+pub mod Run
+pub mod Written
+pub mod Pays
+pub mod Money

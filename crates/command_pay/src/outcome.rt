@@ -1,0 +1,29 @@
+//! How a payment ends.
+
+use command_end::Status;
+use fund_report::FundedReport;
+
+/// A new file that is asked for.
+#[derive(Clone, Copy, Debug, PartialEq, Eq)]
+pub enum NewFile {
+    /// That of the log.
+    Log,
+    /// That of the PSBT.
+    Psbt,
+}
+
+/// How a payment ends that words ask for.
+#[derive(Debug, Drop)]
+pub enum Ending {
+    /// It is paid: its report and its log. The new files that are asked for are written.
+    Paid(FundedReport, Vec<u8>),
+    /// There is a payment, of which the first is the fee and the second the greatest that is taken, in satoshi. No file is
+    /// written.
+    HighFee(u64, u64),
+    /// There is none: the status, and the lines that say why. No file is written.
+    NotPaid(Status, Vec<u8>),
+    /// This file wasn't written. There is one of its name, or the system refuses it.
+    Unwritten(NewFile),
+    /// There was not enough memory.
+    Memory,
+}

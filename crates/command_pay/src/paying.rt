@@ -1,0 +1,117 @@
+//! The command that pays.
+
+ghost use Rattle.std.specs.Prelude.{◌≡◌, ◌≤◌, ◌↔◌, IfErr, IfOk, IsTrue};
+ghost use Rattle.fund_base.specs.Parsing.{YieldsAll};
+ghost use Rattle.fund_report.specs.PlainFunded.{PlainFunded};
+ghost use Rattle.fund_report.specs.ReportText.{IsReportText};
+ghost use Rattle.fund_report.specs.declared.report.Report.TheVariants as kinds;
+ghost use Rattle.pay_words.specs.Asked.{asked_in, plain_asked};
+ghost use Rattle.pay_words.specs.declared.fault.WordFault.TheVariants.{Memory as OutOfMemory};
+ghost use Rattle.command_pay.specs.Pays.{HasTwoNames, Pays, most_for};
+ghost use Rattle.command_pay.specs.Written.{KeepsFiles};
+
+use crate::outcome::Ending;
+use crate::run::{Run, run_asked};
+use crate::written::{PutFault, put_files};
+use command_end::Status;
+use fund_base::{Memory, Shelf};
+use fund_report::{FundedReport, Report, ReportFault, read_report};
+use pay_words::{Asked, WordFault, read_pay};
+use payment_table::{fee_ceiling, is_fee_taken};
+use std::alloc::Global;
+
+/// The payment of which these bytes are the report. It refuses only when out of memory.
+fn payment_in(alloc: Global, said: &[u8]) -> Result<FundedReport, Memory>
+    requires { (f : PlainFunded) × IsReportText said.now (kinds.Funded f) }
+    ensures { IfOk result (λ f. IsReportText said.now (kinds.Funded f)) }
+{
+    match read_report(alloc, said) {
+        Ok(Report::Funded(report)) => Ok(report),
+        Ok(Report::NoSelection { .. }) => unreachable!(),
+        Ok(Report::Unfinished { .. }) => unreachable!(),
+        Err(ReportFault::Form(_)) => unreachable!(),
+        Err(ReportFault::Memory) => Err(Memory),
+    }
+}
+
+/// Whether a run came to a payment.
+fn is_done(status: Status) -> bool
+    ensures { IsTrue result ↔ (status ≡ Status.Done) }
+{
+    matches!(status, Status::Done)
+}
+
+/// Whether the fee of a payment is taken.
+fn takes(asked: &Asked, report: &FundedReport) -> bool
+    ensures { IsTrue result ↔ (report.now.fee ≤ most_for asked.now) }
+{
+    is_fee_taken(report.fee, asked.max_fee, &asked.payments)
+}
+
+/// That the fee of a payment is too high: the fee, and the greatest that is taken.
+fn high_fee(asked: &Asked, report: &FundedReport) -> Ending
+    ensures { result ≡ Ending.HighFee report.now.fee (most_for asked.now) }
+{
+    Ending::HighFee(report.fee, fee_ceiling(asked.max_fee, &asked.payments))
+}
+
+/// Pays what is asked. The wallet and the blocks are read at `files`, which is answered too: no file of it is changed. Where the
+/// run of `fund` comes to a payment whose fee is taken, its log and then its PSBT are written at `new_files`, each where it is
+/// asked for; else nothing is written. The two may not have one name. Out of memory is the one answer that stands for no other
+/// cause.
+pub fn pay_asked<H: Shelf + Drop, N: Shelf>(
+    alloc: Global,
+    asked: &Asked,
+    files: H,
+    new_files: &mut N,
+) -> (Ending, H)
+    requires { HasTwoNames asked.now }
+    ensures pays { Pays H.tells N.tells asked.now (H.view files) (N.view new_files.old) (N.view new_files.new) result.0 }
+    ensures files { KeepsFiles H.tells (H.view files) (H.view result.1) }
+{
+    let (ended, files) = run_asked(alloc, asked, files);
+    let run = match ended {
+        Ok(run) => run,
+        Err(Memory) => return (Ending::Memory, files),
+    };
+    let Run { status, said, log } = run;
+    if !is_done(status) {
+        return (Ending::NotPaid(status, said), files);
+    }
+    let report = match payment_in(alloc, &said) {
+        Ok(report) => report,
+        Err(Memory) => return (Ending::Memory, files),
+    };
+    if !takes(asked, &report) {
+        return (high_fee(asked, &report), files);
+    }
+    match put_files(asked, &report, &log, new_files) {
+        Ok(()) => (Ending::Paid(report, log), files),
+        Err(PutFault::Unwritten(file)) => (Ending::Unwritten(file), files),
+        Err(PutFault::Memory) => (Ending::Memory, files),
+    }
+}
+
+/// Does what the words behind `pay` ask for, with this seed where they give none; and answers what they ask for beside how it
+/// ended, and `files`, of which no file is changed. Where the words ask for no payment, it answers their first fault, and no
+/// file is read or written.
+pub fn pay<H: Shelf + Drop, N: Shelf>(
+    alloc: Global,
+    words: &[String],
+    drawn: [u8; 32],
+    files: H,
+    new_files: &mut N,
+) -> (Result<(Asked, Ending), WordFault>, H)
+    ensures words { YieldsAll OutOfMemory (λ r. plain_asked r.0) result.0 (asked_in drawn words.now) }
+    ensures unasked { IfErr result.0 (λ fault. (N.view new_files.new) ≡ (N.view new_files.old)) }
+    ensures unread { IfErr result.0 (λ fault. (H.view result.1) ≡ (H.view files)) }
+    ensures pays { IfOk result.0 (λ r. Pays H.tells N.tells r.0 (H.view files) (N.view new_files.old) (N.view new_files.new) r.1) }
+    ensures files { KeepsFiles H.tells (H.view files) (H.view result.1) }
+{
+    let asked = match read_pay(alloc, words, drawn) {
+        Ok(asked) => asked,
+        Err(fault) => return (Err(fault), files),
+    };
+    let (ending, files) = pay_asked(alloc, &asked, files, new_files);
+    (Ok((asked, ending)), files)
+}

@@ -1,0 +1,11 @@
+use Rattle.line_laws.proofs.Refusals.{completion_told, file_told, payment_told}
+use Rattle.line_laws.proofs.laws.refusals_have_their_sentence.Goals as goal
+
+pub returns-clause-file : goal.returns-clause-file
+returns-clause-file c = file_told
+
+pub returns-clause-payment : goal.returns-clause-payment
+returns-clause-payment c = payment_told
+
+pub returns-clause-completion : goal.returns-clause-completion
+returns-clause-completion c = completion_told

@@ -1,0 +1,110 @@
+//! What the program says of itself.
+
+/// The name and the version.
+pub const VERSION: &str = "ninelace 1.0";
+
+/// What the program is, and its commands.
+pub const COMMANDS: &str = "ninelace: payments of a wallet that only watches, each proved.
+
+  ninelace pay --wallet FILE --blocks FILE --to ADDRESS=AMOUNT --fee-rate RATE
+  ninelace coins WALLET BLOCKS
+  ninelace check WALLET BLOCKS REQUEST REPORT LOG
+  ninelace complete PSBT WALLET BLOCKS
+  ninelace explain LINE
+
+  --help                 this text; behind a command that of the command alone
+  --version              the name and the version
+  --json                 what is shown is JSON, for each command
+  --progress             how far a long file is read; a terminal shows it anyway
+
+No file is ever written over. The status is 0 where it is done, and else as docs/FORMATS.md says.
+";
+
+/// The command that pays.
+const PAY: &str = "ninelace pay --wallet FILE --blocks FILE --to ADDRESS=AMOUNT --fee-rate RATE
+
+Makes a payment and shows it as a table, with its PSBT for a signer. An amount is
+150000, 150000sat or 0.0015BTC; a rate is in satoshi per virtual byte.
+
+  --wallet FILE          the wallet file
+  --blocks FILE          the block file
+  --to ADDRESS=AMOUNT    who is paid and how much; as often as you like
+  --to-script HEX=AMOUNT the same by a script in hex, as for a base58 address
+  --fee-rate RATE        the fee rate; below 1 it wants --allow-low-rate
+  --allow-low-rate       a fee rate below 1 is taken, which nodes do not relay
+  --long-term RATE       the rate at which coins are thought to be spent later: 10
+  --method METHOD        auto, changeless, weight, draw or manual: auto
+  --coin TXID:INDEX      a coin that is spent in any case; as often as you like
+  --tries NUMBER         how many tries the searches have: 100000
+  --seed HEX             what draws are made from, 64 digits: drawn anew each time
+  --max-fee AMOUNT       the greatest fee: the less of 1000000sat and a tenth of
+                         what is paid
+  --psbt FILE            the PSBT goes into this new file
+  --log FILE             the log, which proves the choice, goes into this new file
+  --group                the coins of one script are spent together
+  --zero-conf            own outputs that wait for a block may be spent
+  --unsafe               outputs that a stranger may take back may be spent
+  --show-request         the request file is shown
+
+For example:
+
+  ninelace pay --wallet wallet.json --blocks blocks.dat --fee-rate 12.5 \\
+      --to bc1qhwamhwamhwamhwamhwamhwamhwamhwame6jz2r=0.001BTC --psbt payment.psbt
+";
+
+/// The command that lists coins.
+const COINS: &str = "ninelace coins WALLET BLOCKS
+
+Lists the last block, each payment that waits with its state, and each coin that may be
+spent: its value, how deep it is, whose it is, and whether it is safe.
+
+For example:
+
+  ninelace coins wallet.json blocks.dat
+";
+
+/// The command that checks a report.
+const CHECK: &str = "ninelace check WALLET BLOCKS REQUEST REPORT LOG
+
+Says whether a report and its log, as fund_cli writes them, are true of the files.
+
+For example:
+
+  ninelace check wallet.json blocks.dat request.json report.txt fund.log
+";
+
+/// The command that makes a PSBT whole.
+const COMPLETE: &str = "ninelace complete PSBT WALLET BLOCKS
+
+Shows the same PSBT with the whole transaction beside each output that it spends, which
+some signers ask for.
+
+For example:
+
+  ninelace complete payment.psbt wallet.json blocks.dat
+";
+
+/// The command that explains a line.
+const EXPLAIN: &str = "ninelace explain LINE
+
+Says what may be the cause of a line that stops a command, and what to do.
+
+For example:
+
+  ninelace explain 'fault input wallet NotJson'
+";
+
+/// What the program says of each command.
+pub const ALL: [&str; 5] = [PAY, COINS, CHECK, COMPLETE, EXPLAIN];
+
+/// What the program says of one command; none where there is none of this name.
+pub fn of_command(name: &str) -> Option<&'static str> {
+    match name {
+        "pay" => Some(PAY),
+        "coins" => Some(COINS),
+        "check" => Some(CHECK),
+        "complete" => Some(COMPLETE),
+        "explain" => Some(EXPLAIN),
+        _ => None,
+    }
+}

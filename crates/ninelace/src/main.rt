@@ -1,0 +1,122 @@
+//! The program for people: it pays, lists coins, checks reports, completes PSBTs and explains fault lines.
+#![tactic(auto)]
+
+mod help;
+mod json;
+mod pay;
+mod plain;
+
+use command_end::Status;
+use pay::pay;
+use plain::{by_words, complete, explain, is_given, show, tell};
+use std::io::ErrorKind;
+use std::process::ExitCode;
+use std::{env, io};
+
+/// The words of the command line, without the program's name; or how the program ends where the system doesn't give them as
+/// text, or there is no memory for them.
+fn words(rt: &HostRuntime) -> Result<Vec<String>, Status> {
+    let args = match env::args(rt) {
+        Ok(args) => args,
+        Err(error) if error.kind() == ErrorKind::OutOfMemory => return Err(Status::Memory),
+        Err(_) => return Err(Status::Usage),
+    };
+    let mut words = Vec::new(rt.alloc());
+    for word in args.skip(1) {
+        if words.push(word).is_err() {
+            return Err(Status::Memory);
+        }
+    }
+    Ok(words)
+}
+
+/// Shows what the program says of itself and of each command.
+fn help_whole(rt: &HostRuntime, status: Status) -> io::Result<u8> {
+    rt.print(help::COMMANDS)?;
+    for part in help::ALL {
+        rt.println("")?;
+        rt.print(part)?;
+    }
+    Ok(status.code())
+}
+
+/// Does a command.
+fn command(rt: &HostRuntime, words: &[String], verb: &str, rest: &[String]) -> io::Result<u8> {
+    match verb {
+        "pay" => pay(rt, rest),
+        "coins" => by_words(rt, words, 3, "coins takes two names: WALLET BLOCKS."),
+        "check" => by_words(
+            rt,
+            words,
+            6,
+            "check takes five names: WALLET BLOCKS REQUEST REPORT LOG.",
+        ),
+        "complete" => complete(rt, rest),
+        "explain" => explain(rt, rest),
+        _ => tell(
+            rt,
+            is_given(words, "--json"),
+            Status::Usage,
+            "",
+            Some("These words are no command: ninelace --help shows the commands with examples."),
+        ),
+    }
+}
+
+/// Does what the words say, and answers the status with which the program ends.
+fn act(rt: &HostRuntime, words: &[String]) -> io::Result<u8> {
+    match words {
+        [] => help_whole(rt, Status::Usage),
+        [verb, rest @ ..] => match verb.as_str() {
+            "--help" | "-h" | "help" => help_whole(rt, Status::Done),
+            "--version" => {
+                rt.println(help::VERSION)?;
+                Ok(Status::Done.code())
+            }
+            name => match help::of_command(name) {
+                Some(text) if is_given(rest, "--help") => {
+                    rt.print(text)?;
+                    Ok(Status::Done.code())
+                }
+                _ => command(rt, words, name, rest),
+            },
+        },
+    }
+}
+
+/// Says on the standard error why nothing more is shown, and answers the status.
+fn stopped(rt: &HostRuntime, error: &io::Error) -> Status {
+    if error.kind() == ErrorKind::OutOfMemory {
+        let _ = rt.eprintln("The machine has too little memory: try again with less beside it.");
+        return Status::Memory;
+    }
+    let _ = rt.eprintln(
+        "What was to be shown could not be: the standard output is closed or full.",
+    );
+    Status::WriteFault
+}
+
+/// Says why there are no words.
+fn wordless(rt: &HostRuntime, status: Status) -> io::Result<u8> {
+    match status {
+        Status::Memory => show(rt, false, status, b"fault memory\n"),
+        _ => tell(
+            rt,
+            false,
+            status,
+            "",
+            Some("A word is no text of UTF-8: name the files otherwise."),
+        ),
+    }
+}
+
+fn main(rt: HostRuntime) -> ExitCode {
+    let done = match words(&rt) {
+        Ok(words) => act(&rt, words.as_slice()),
+        Err(status) => wordless(&rt, status),
+    };
+    match done {
+        Ok(code) => ExitCode::from(code),
+        Err(error) => ExitCode::from(stopped(&rt, &error).code()),
+    }
+}

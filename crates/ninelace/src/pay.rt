@@ -1,0 +1,218 @@
+//! The command that pays, as people see it.
+
+use crate::json::{payment_value, print, refusal_value};
+use crate::plain::{files_told, is_given, show, tell};
+use command_end::Status;
+use command_pay::{Ending, NewFile};
+use fault_lines::line_sentence;
+use fund_base::{FileShelf, Shelf, read_whole};
+use fund_report::FundedReport;
+use pay_words::{Asked, WordFault, flag_about, flag_word, word_place, word_sentence};
+use payment_table::{
+    change_warning, high_fee_text, is_change_listed, table_text, unread_warning, unwritten_text,
+};
+use request_shelf::NewFileShelf;
+use std::alloc::Global;
+use std::io;
+use std::random::RandomSource;
+use wallet_text::read_wallet;
+
+/// The greatest length of a wallet file.
+const WALLET_LIMIT: usize = 16_777_216;
+
+/// The word or the flag that a fault is about; nothing where it is about none.
+fn word_about<'a>(words: &'a [String], fault: &WordFault) -> &'a str {
+    if let Some(flag) = flag_about(fault) {
+        return flag_word(flag);
+    }
+    match word_place(fault) {
+        Some(place) => match words.get(place) {
+            Some(word) => word.as_str(),
+            None => "",
+        },
+        None => "",
+    }
+}
+
+/// Says why the words ask for no payment: the word or the flag that it is about, and the sentence.
+fn refuse_words(rt: &HostRuntime, words: &[String], fault: &WordFault) -> io::Result<u8> {
+    let status = match fault {
+        WordFault::Memory => Status::Memory,
+        _ => Status::Usage,
+    };
+    let json = is_given(words, "--json");
+    let about = word_about(words, fault);
+    tell(rt, json, status, about, Some(word_sentence(fault)))
+}
+
+/// Whether the wallet watches the script to which it has change paid; none where its file can't be read any more.
+fn is_listed(rt: &HostRuntime, name: &str) -> Option<bool> {
+    let alloc = rt.alloc();
+    let mut shelf = FileShelf::new(rt);
+    let bytes = match read_whole(alloc, &mut shelf, name, WALLET_LIMIT) {
+        Ok(bytes) => bytes,
+        Err(_) => return None,
+    };
+    match read_wallet(alloc, &bytes) {
+        Ok(wallet) => Some(is_change_listed(&wallet)),
+        Err(_) => None,
+    }
+}
+
+/// Warns where change goes to a script that the wallet doesn't watch, or where that isn't known.
+fn warn_of_change(rt: &HostRuntime, listed: Option<bool>) -> io::Result<()> {
+    match listed {
+        Some(true) => Ok(()),
+        Some(false) => rt.println(change_warning()),
+        None => rt.println(unread_warning()),
+    }
+}
+
+/// Shows the request file where it is asked for.
+fn show_request(rt: &HostRuntime, asked: &Asked) -> io::Result<()> {
+    if asked.show_request {
+        if let Ok(request) = asked.request(rt.alloc()) {
+            rt.println(request.as_str())?;
+        }
+    }
+    Ok(())
+}
+
+/// Shows a payment as a table, and its PSBT where no file is given for it.
+fn show_table(
+    rt: &HostRuntime,
+    asked: &Asked,
+    report: &FundedReport,
+    psbt: &str,
+) -> io::Result<u8> {
+    let text = match table_text(rt.alloc(), &asked.payments, report) {
+        Ok(text) => text,
+        Err(_) => return show(rt, false, Status::Memory, b"fault memory\n"),
+    };
+    show_request(rt, asked)?;
+    rt.print(text.as_str())?;
+    if report.change.is_some() {
+        warn_of_change(rt, is_listed(rt, asked.names.wallet.as_str()))?;
+    }
+    match &asked.names.psbt {
+        None => println!(rt; "psbt    {}", psbt)?,
+        Some(name) => println!(rt; "psbt    is in the file {}", name)?,
+    }
+    Ok(Status::Done.code())
+}
+
+/// Shows a payment whose fee is taken.
+fn show_payment(rt: &HostRuntime, asked: &Asked, report: &FundedReport) -> io::Result<u8> {
+    let psbt = match str::from_utf8(&report.text) {
+        Ok(psbt) => psbt,
+        Err(_) => "",
+    };
+    if !asked.json {
+        return show_table(rt, asked, report, psbt);
+    }
+    let listed = match report.change {
+        Some(_) => is_listed(rt, asked.names.wallet.as_str()),
+        None => None,
+    };
+    match payment_value(rt.alloc(), asked, report, listed, psbt) {
+        Ok(value) => {
+            print(rt, &value)?;
+            Ok(Status::Done.code())
+        }
+        Err(_) => show(rt, true, Status::Memory, b"fault memory\n"),
+    }
+}
+
+/// Says why a payment isn't there, isn't taken or wasn't written: the lines of its run, and the sentence.
+fn refuse(
+    rt: &HostRuntime,
+    asked: &Asked,
+    status: Status,
+    lines: &str,
+    sentence: Option<&str>,
+) -> io::Result<u8> {
+    if asked.json {
+        return match refusal_value(rt.alloc(), asked, status.code(), lines, sentence) {
+            Ok(value) => {
+                print(rt, &value)?;
+                Ok(status.code())
+            }
+            Err(_) => show(rt, true, Status::Memory, b"fault memory\n"),
+        };
+    }
+    show_request(rt, asked)?;
+    tell(rt, false, status, lines, sentence)
+}
+
+/// Says that the fee is above the greatest that is taken.
+fn refuse_fee(rt: &HostRuntime, asked: &Asked, fee: u64, most: u64) -> io::Result<u8> {
+    match high_fee_text(rt.alloc(), fee, most) {
+        Ok(sentence) => refuse(rt, asked, Status::Input, "", Some(sentence.as_str())),
+        Err(_) => show(rt, asked.json, Status::Memory, b"fault memory\n"),
+    }
+}
+
+/// Says that a new file wasn't written: the log, or the PSBT behind it.
+fn refuse_file(rt: &HostRuntime, asked: &Asked, file: NewFile) -> io::Result<u8> {
+    let (name, log_written) = match file {
+        NewFile::Log => (&asked.names.log, false),
+        NewFile::Psbt => (&asked.names.psbt, asked.names.log.is_some()),
+    };
+    let name = match name {
+        Some(name) => name.as_str(),
+        None => "",
+    };
+    match unwritten_text(rt.alloc(), name, log_written) {
+        Ok(sentence) => refuse(rt, asked, Status::WriteFault, "", Some(sentence.as_str())),
+        Err(_) => show(rt, asked.json, Status::Memory, b"fault memory\n"),
+    }
+}
+
+/// Shows how a payment ended.
+fn show_ending(rt: &HostRuntime, asked: &Asked, ending: &Ending) -> io::Result<u8> {
+    match ending {
+        Ending::Paid(report, _) => show_payment(rt, asked, report),
+        Ending::HighFee(fee, most) => refuse_fee(rt, asked, *fee, *most),
+        Ending::NotPaid(status, said) => {
+            let lines = match str::from_utf8(said) {
+                Ok(lines) => lines,
+                Err(_) => "",
+            };
+            refuse(rt, asked, *status, lines, line_sentence(said))
+        }
+        Ending::Unwritten(file) => refuse_file(rt, asked, *file),
+        Ending::Memory => show(rt, asked.json, Status::Memory, b"fault memory\n"),
+    }
+}
+
+/// Pays what the words ask for over these files, which are given up, with new files at another shelf.
+fn pay_over<H: Shelf + Drop, N: Shelf>(
+    alloc: Global,
+    words: &[String],
+    drawn: [u8; 32],
+    files: H,
+    new_files: &mut N,
+) -> Result<(Asked, Ending), WordFault> {
+    let (ended, _) = command_pay::pay(alloc, words, drawn, files, new_files);
+    ended
+}
+
+/// Does `pay` with the words behind it.
+pub fn pay(rt: &HostRuntime, words: &[String]) -> io::Result<u8> {
+    let mut drawn = [0; 32];
+    if rt.fill_bytes(&mut drawn).is_err() {
+        return tell(
+            rt,
+            is_given(words, "--json"),
+            Status::ReadFault,
+            "",
+            Some("The system gave no random bytes, from which the seed is drawn: try again."),
+        );
+    }
+    let files = files_told(rt, words);
+    let mut new_files = NewFileShelf::new(rt);
+    match pay_over(rt.alloc(), words, drawn, files, &mut new_files) {
+        Ok((asked, ending)) => show_ending(rt, &asked, &ending),
+        Err(fault) => refuse_words(rt, words, &fault),
+    }
+}

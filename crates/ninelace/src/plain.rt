@@ -1,0 +1,153 @@
+//! The commands that take names alone.
+
+use crate::json::{print, said_value};
+use command_complete::complete as complete_psbt;
+use command_end::{Sources, Status};
+use fault_lines::line_sentence;
+use fund_base::{FileShelf, Memory, SureSink};
+use fund_outside::SureKeeper;
+use fund_top::run;
+use request_shelf::ProgressShelf;
+use std::io;
+use std::io::{ErrorKind, IsTerminal};
+
+/// The files of the system. It is told how far they are read where a word asks for it, or the standard error is a terminal.
+pub fn files_told<'a>(
+    rt: &'a HostRuntime,
+    words: &[String],
+) -> ProgressShelf<'a, HostRuntime, FileShelf<&'a HostRuntime>> {
+    let told = is_given(words, "--progress") || rt.stderr().is_terminal();
+    ProgressShelf::new(rt, FileShelf::new(rt), told)
+}
+
+/// Whether a word is among the words.
+pub fn is_given(words: &[String], wanted: &str) -> bool {
+    for word in words {
+        if word.as_str() == wanted {
+            return true;
+        }
+    }
+    false
+}
+
+/// The words without the two flags that each command takes.
+fn names_in(rt: &HostRuntime, words: &[String]) -> io::Result<Vec<String>> {
+    let alloc = rt.alloc();
+    let mut names = Vec::new(alloc);
+    for word in words {
+        if word.as_str() != "--json" && word.as_str() != "--progress" {
+            names.push(String::from_str(alloc, word.as_str())?)?;
+        }
+    }
+    Ok(names)
+}
+
+/// Shows lines, and the sentence that says what to do, where there is one; and answers the status.
+pub fn tell(
+    rt: &HostRuntime,
+    json: bool,
+    status: Status,
+    lines: &str,
+    sentence: Option<&str>,
+) -> io::Result<u8> {
+    if json {
+        return match said_value(rt.alloc(), status.code(), lines, sentence) {
+            Ok(value) => {
+                print(rt, &value)?;
+                Ok(status.code())
+            }
+            Err(Memory) => Err(io::Error::from(ErrorKind::OutOfMemory)),
+        };
+    }
+    for line in lines.lines() {
+        rt.println(line)?;
+    }
+    if let Some(sentence) = sentence {
+        rt.println(sentence)?;
+    }
+    Ok(status.code())
+}
+
+/// Shows what a command said, and what to do where it was refused; and answers its status.
+pub fn show(rt: &HostRuntime, json: bool, status: Status, said: &[u8]) -> io::Result<u8> {
+    let lines = match str::from_utf8(said) {
+        Ok(lines) => lines,
+        Err(_) => "",
+    };
+    tell(rt, json, status, lines, line_sentence(said))
+}
+
+/// Says how the words of a command are.
+fn refuse(rt: &HostRuntime, words: &[String], usage: &str) -> io::Result<u8> {
+    tell(
+        rt,
+        is_given(words, "--json"),
+        Status::Usage,
+        "",
+        Some(usage),
+    )
+}
+
+/// Lists the coins of a wallet, or checks the report of a payment, by so many words of that command.
+pub fn by_words(rt: &HostRuntime, words: &[String], count: usize, usage: &str) -> io::Result<u8> {
+    let alloc = rt.alloc();
+    let names = names_in(rt, words)?;
+    if names.len() != count {
+        return refuse(rt, words, usage);
+    }
+    let mut shelf = files_told(rt, words);
+    let mut out = SureSink::new(alloc);
+    let mut keeper = SureKeeper::new(alloc);
+    let status = run(alloc, &names, &mut shelf, &mut out, &mut keeper);
+    show(rt, is_given(words, "--json"), status, out.written())
+}
+
+/// Makes a PSBT whole.
+pub fn complete(rt: &HostRuntime, words: &[String]) -> io::Result<u8> {
+    let alloc = rt.alloc();
+    let names = names_in(rt, words)?;
+    match names.as_slice() {
+        [psbt, wallet, blocks] => {
+            let sources = Sources {
+                wallet: wallet.as_str(),
+                blocks: blocks.as_str(),
+            };
+            let mut shelf = files_told(rt, words);
+            let mut out = SureSink::new(alloc);
+            let status = complete_psbt(alloc, &sources, psbt.as_str(), &mut shelf, &mut out);
+            show(rt, is_given(words, "--json"), status, out.written())
+        }
+        _ => refuse(rt, words, "complete takes three names: PSBT WALLET BLOCKS."),
+    }
+}
+
+/// The words as one line, with blanks between them.
+fn line_of(rt: &HostRuntime, words: &[String]) -> io::Result<String> {
+    let mut line = String::new(rt.alloc());
+    for word in words {
+        if !line.is_empty() {
+            line.push(' ')?;
+        }
+        line.push_str(word.as_str())?;
+    }
+    Ok(line)
+}
+
+/// Says what may be the cause of a line that stops a command, and what to do.
+pub fn explain(rt: &HostRuntime, words: &[String]) -> io::Result<u8> {
+    let json = is_given(words, "--json");
+    let names = names_in(rt, words)?;
+    let line = line_of(rt, names.as_slice())?;
+    match line_sentence(line.as_bytes()) {
+        Some(_) if json => show(rt, true, Status::Done, line.as_bytes()),
+        Some(sentence) => {
+            rt.println(sentence)?;
+            Ok(Status::Done.code())
+        }
+        None => refuse(
+            rt,
+            words,
+            "This line stops no command: give one as it was printed, from its first word on.",
+        ),
+    }
+}

@@ -1,0 +1,5 @@
+pub mod FlagLaws
+pub mod NameLaws
+pub mod PaymentRest
+pub mod Pieces
+pub mod Rest

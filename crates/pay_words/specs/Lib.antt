@@ -1,0 +1,7 @@
+pub mod Flags
+pub mod Given
+pub mod Payments
+pub mod Settings
+pub mod Values
+pub mod Asked
+pub mod Sentences

@@ -1,0 +1,64 @@
+-- The sentence of each fault of the words of a payment: what is wrong, and what to do.
+use Rattle.std.specs.Prelude.{ℕ, List, codes, Option, Some, None}
+use Rattle.amount_text.specs.declared.fault.SpellingFault.{SpellingFault}
+use Rattle.amount_text.specs.declared.fault.SpellingFault.TheVariants as spellings
+use Rattle.pay_words.specs.declared.fault.WordFault.{WordFault}
+use Rattle.pay_words.specs.declared.fault.WordFault.TheVariants as faults
+use Rattle.pay_words.specs.declared.flag.Flag.{Flag}
+
+-- a text that is no amount
+unfoldable pub amount_sentence : SpellingFault → List ℕ
+amount_sentence (spellings.Digit place) = codes "A digit has to stand there: an amount is spelled as 150000, 150000sat or 0.0015 BTC."
+amount_sentence (spellings.Unit place) = codes "The unit is not known: behind an amount stands sat, BTC or nothing; write a point and no comma."
+amount_sentence (spellings.Fine place) = codes "The amount is finer than a satoshi: BTC has at most eight digits behind its point, and sat has none."
+amount_sentence spellings.Range = codes "The amount is above 21,000,000 bitcoin: give less."
+
+-- a text that is no rate
+unfoldable pub rate_sentence : SpellingFault → List ℕ
+rate_sentence (spellings.Digit place) = codes "A digit has to stand there: a rate is spelled as 12, 12.5 or 12.5sat/vB."
+rate_sentence (spellings.Unit place) = codes "The unit is not known: a rate is in satoshi per virtual byte, with sat/vB behind it or nothing; write a point and no comma."
+rate_sentence (spellings.Fine place) = codes "A rate has at most three digits behind its point."
+rate_sentence spellings.Range = codes "The rate is above 100,000 satoshi per virtual byte: give less."
+
+-- words that ask for no payment
+unfoldable pub word_sentence : WordFault → List ℕ
+word_sentence (faults.Unknown place) = codes "This word is no flag: the help shows all flags with examples."
+word_sentence (faults.Twice place) = codes "This flag is given twice: leave one out."
+word_sentence (faults.NoValue flag) = codes "Nothing stands behind this flag, or another flag does: give its value."
+word_sentence (faults.Missing flag) = codes "This flag has to be given: the help shows what it says."
+word_sentence (faults.EmptyName flag) = codes "The name behind this flag is empty: give the name of a file."
+word_sentence (faults.SameName place) = codes "This name is given for another file too: name a new file."
+word_sentence (faults.NoAmount place) = codes "The amount is missing: a recipient is spelled as ADDRESS=AMOUNT."
+word_sentence (faults.Amount place fault) = amount_sentence fault
+word_sentence (faults.Script place) = codes "The script is no hex: give the scriptPubKey that getaddressinfo tells."
+word_sentence (faults.Rate place fault) = rate_sentence fault
+word_sentence (faults.LowRate place) = codes "Nodes do not relay a payment below 1 satoshi per virtual byte: give more, or --allow-low-rate beside it."
+word_sentence (faults.Method place) = codes "The method is not known: auto, changeless, weight, draw and manual are."
+word_sentence (faults.Number place) = codes "This is no whole number, or it is too great: write it in digits alone."
+word_sentence (faults.Seed place) = codes "The seed is not 64 hex digits: openssl rand -hex 32 prints such."
+word_sentence faults.Memory = codes "The machine has too little memory: try again with less beside it."
+
+-- the place of the word that it is about
+abbrev pub word_place : WordFault → Option ℕ
+word_place (faults.Unknown place) = Some place
+word_place (faults.Twice place) = Some place
+word_place (faults.NoValue flag) = None
+word_place (faults.Missing flag) = None
+word_place (faults.EmptyName flag) = None
+word_place (faults.SameName place) = Some place
+word_place (faults.NoAmount place) = Some place
+word_place (faults.Amount place fault) = Some place
+word_place (faults.Script place) = Some place
+word_place (faults.Rate place fault) = Some place
+word_place (faults.LowRate place) = Some place
+word_place (faults.Method place) = Some place
+word_place (faults.Number place) = Some place
+word_place (faults.Seed place) = Some place
+word_place faults.Memory = None
+
+-- the flag that it is about
+abbrev pub flag_about : WordFault → Option Flag
+flag_about (faults.NoValue flag) = Some flag
+flag_about (faults.Missing flag) = Some flag
+flag_about (faults.EmptyName flag) = Some flag
+flag_about _ = None

@@ -1,0 +1,18 @@
+//! What the words of flags and the names of files come to.
+
+ghost use Rattle.std.specs.Prelude.{◌≡◌, List, Ok, Some, String, ℕ};
+ghost use Rattle.std.specs.declared.alloc.Global.{Global};
+ghost use Rattle.pay_words.specs.Asked.{AreApart, PlainAsked, asked_in};
+ghost use Rattle.pay_words.specs.Flags.{flag_of, flag_word};
+ghost use Rattle.pay_words.specs.declared.flag.Flag.{Flag};
+
+/// The law of flags: each flag is known by its word, and by no other. A call does nothing.
+pub fn flags_have_one_word()
+    ensures known { (f : Flag) → flag_of (flag_word f) ≡ Some f }
+    ensures only { (word : List ℕ) (f : Flag) → flag_of word ≡ Some f → word ≡ flag_word f }
+{}
+
+/// The law of names: the files that words name are apart, none of them without a name. A call does nothing.
+pub fn names_are_apart()
+    ensures { (drawn : List ℕ) (words : List (String Global)) (asked : PlainAsked) → asked_in drawn words ≡ Ok asked → AreApart asked.names }
+{}

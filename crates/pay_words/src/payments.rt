@@ -1,0 +1,147 @@
+//! Who is paid, and which coins are spent in any case.
+
+ghost use Rattle.std.specs.Prelude.{◌≡◌, [], ◌++◌, IfOk, OnOk, map, option_map, string_bytes};
+ghost use Rattle.std.specs.List.{flat_map};
+ghost use Rattle.fund_base.specs.Parsing.{YieldsAll};
+ghost use Rattle.pay_words.specs.Payments.{coin_given, cut_of, paid_to, paid_to_script, payments_after, payments_from, plain_payment, script_at, to_address, to_script};
+ghost use Rattle.pay_words.specs.declared.fault.WordFault.TheVariants.{Memory as OutOfMemory};
+
+use crate::fault::WordFault;
+use crate::flag::{Flag, is_same};
+use crate::given::Given;
+use crate::values::{amount_at, word_at};
+use fund_base::{Memory, Script};
+use hex::FromHexError;
+use request_making::{Payee, Payment};
+use std::alloc::Global;
+
+/// What stands before and behind the first `=` of the word.
+fn cut_of(word: &str) -> Option<(&str, &str)>
+    ensures { option_map (λ p. (p.0.now, p.1.now)) result ≡ cut_of word.now }
+{
+    word.split_once('=')
+}
+
+/// What is paid to an address. Whether it is one is judged where the request is read.
+fn to_address(alloc: Global, place: usize, to: &str, amount: &str) -> Result<Payment, WordFault>
+    ensures { YieldsAll OutOfMemory plain_payment result (to_address place to.now amount.now) }
+{
+    let amount = amount_at(place, amount)?;
+    let text = String::from_str(alloc, to)?;
+    Ok(Payment {
+        to: Payee::Address(text),
+        amount,
+    })
+}
+
+/// The script that is spelled in hex.
+fn script_at(alloc: Global, place: usize, text: &str) -> Result<Script, WordFault>
+    ensures { YieldsAll OutOfMemory (λ s. s) result (script_at place text.now) }
+{
+    match hex::decode(alloc, text.as_bytes()) {
+        Ok(bytes) => Ok(Script::new(bytes)),
+        Err(FromHexError::OutOfMemory) => Err(WordFault::Memory),
+        Err(_) => Err(WordFault::Script(place)),
+    }
+}
+
+/// What is paid to a script in hex.
+fn to_script(alloc: Global, place: usize, to: &str, amount: &str) -> Result<Payment, WordFault>
+    ensures { YieldsAll OutOfMemory plain_payment result (to_script place to.now amount.now) }
+{
+    let script = script_at(alloc, place, to)?;
+    let amount = amount_at(place, amount)?;
+    Ok(Payment {
+        to: Payee::Script(script),
+        amount,
+    })
+}
+
+/// What the word at this place says to pay to an address.
+fn paid_to(alloc: Global, place: usize, word: &str) -> Result<Payment, WordFault>
+    ensures { YieldsAll OutOfMemory plain_payment result (paid_to place word.now) }
+{
+    match cut_of(word) {
+        None => Err(WordFault::NoAmount(place)),
+        Some((to, amount)) => to_address(alloc, place, to, amount),
+    }
+}
+
+/// What the word at this place says to pay to a script.
+fn paid_to_script(alloc: Global, place: usize, word: &str) -> Result<Payment, WordFault>
+    ensures { YieldsAll OutOfMemory plain_payment result (paid_to_script place word.now) }
+{
+    match cut_of(word) {
+        None => Err(WordFault::NoAmount(place)),
+        Some((to, amount)) => to_script(alloc, place, to, amount),
+    }
+}
+
+/// Takes the payment of a flag, if it asks for one.
+fn put_payment(
+    alloc: Global,
+    words: &[String],
+    one: Given,
+    payments: &mut Vec<Payment>,
+) -> Result<(), WordFault>
+    ensures { YieldsAll OutOfMemory (λ _. map plain_payment payments.new.items) result (payments_after words.now (map plain_payment payments.old.items) one) }
+{
+    match one.flag {
+        Flag::To => {
+            let payment = paid_to(alloc, one.place, word_at(words, one.place))?;
+            payments.push(payment)?;
+            Ok(())
+        }
+        Flag::ToScript => {
+            let payment = paid_to_script(alloc, one.place, word_at(words, one.place))?;
+            payments.push(payment)?;
+            Ok(())
+        }
+        _ => Ok(()),
+    }
+}
+
+/// The payments that the flags ask for, in their order.
+pub fn payments_given(
+    alloc: Global,
+    words: &[String],
+    given: &[Given],
+) -> Result<Vec<Payment>, WordFault>
+    ensures { YieldsAll OutOfMemory (λ v. map plain_payment v.items) result (payments_from words.now [] given.now) }
+{
+    let mut payments = Vec::new(alloc);
+    for one in given {
+        match put_payment(alloc, words, *one, &mut payments) {
+            Ok(()) => {}
+            Err(fault) => return Err(fault),
+        }
+    }
+    Ok(payments)
+}
+
+/// Takes the coin of a flag, if it lists one.
+fn put_coin(
+    alloc: Global,
+    words: &[String],
+    one: Given,
+    coins: &mut Vec<String>,
+) -> Result<(), Memory>
+    ensures { OnOk result (map string_bytes coins.new.items ≡ map string_bytes coins.old.items ++ coin_given words.now one) }
+{
+    if is_same(one.flag, Flag::Coin) {
+        let coin = String::from_str(alloc, word_at(words, one.place))?;
+        coins.push(coin)?;
+    }
+    Ok(())
+}
+
+/// The coins that the flags list, in their order, each by its words.
+pub fn coins_given(alloc: Global, words: &[String], given: &[Given]) -> Result<Vec<String>, Memory>
+    ensures { IfOk result (λ v. map string_bytes v.items ≡ flat_map (coin_given words.now) given.now) }
+{
+    let mut coins = Vec::new(alloc);
+    for one in given {
+        put_coin(alloc, words, *one, &mut coins)?;
+    }
+    Ok(coins)
+}
