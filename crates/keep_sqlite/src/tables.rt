@@ -18,9 +18,9 @@ const SAVED: &str = "SELECT saved FROM job WHERE name = ?1";
 
 const BYTES: &str = "SELECT bytes FROM part WHERE job = ?1 AND number = ?2";
 
-/// Drops the parts from a number on; all of them where there is no such job.
+/// Drops the parts from a number on, and those below 0, which no save leaves; all of them where there is no such job.
 const DROP_PARTS: &str =
-    "DELETE FROM part WHERE job = ?1 AND (number >= ?2 OR ?1 NOT IN (SELECT name FROM job))";
+    "DELETE FROM part WHERE job = ?1 AND (number < 0 OR number >= ?2 OR ?1 NOT IN (SELECT name FROM job))";
 
 const ADD_PART: &str =
     "INSERT INTO part (job, number, bytes) SELECT ?1, coalesce(max(number) + 1, 0), ?2 FROM part WHERE job = ?1";
