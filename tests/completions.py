@@ -305,4 +305,5 @@ def main():
     print(len(rows.rows), "rows")
 
 
-main()
+if __name__ == "__main__":
+    main()

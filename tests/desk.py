@@ -165,7 +165,7 @@ class Desk:
             job = Job(given, self.wallet, chain)
             if job.request.is_refused:
                 listed = [coin["point"] for coin in job.request.presets]
-                lost = [coin for coin in given["coins"] if coin not in map(coin_text, listed)]
+                lost = [coin for coin in map(str.lower, given["coins"]) if coin not in map(coin_text, listed)]
                 assert reply == f"refused {name} NotEligible {lost[0]}", f"{lost} are lost: {reply}"
                 return "refused plan"
             assert reply == f"opened {name}", reply

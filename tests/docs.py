@@ -187,11 +187,11 @@ def check_map():
 
 
 def check_example():
-    """The report that the pages show is the one that the stored run of fund_cli prints, and the files are those of data/."""
-    printed = (TOP / "crates" / "fund_cli" / "stdout").read_text()
-    for page in (TOP / "README.md", TOP / "docs" / "FORMATS.md"):
+    """What the pages show is what the stored runs of ninelace and fund_cli print, and the files are those of data/."""
+    for page, program in ((TOP / "README.md", "ninelace"), (TOP / "docs" / "FORMATS.md", "fund_cli")):
+        printed = (TOP / "crates" / program / "stdout").read_text()
         if f"```\n{printed}```" not in page.read_text():
-            faults.append(f"{page.name}: the report isn't that of crates/fund_cli/stdout")
+            faults.append(f"{page.name}: this isn't crates/{program}/stdout")
     for page, name in (("FORMATS.md", "wallet.json"), ("FORMATS.md", "request.json"), ("USING.md", "with-change.json")):
         text = (TOP / "crates" / "fund_cli" / "data" / name).read_text()
         if f"```json\n{text}```" not in (TOP / "docs" / page).read_text():

@@ -1,242 +1,224 @@
 #!/usr/bin/env python3
-"""Runs the built program on mutated files and looks at each end: the status is one of the table, what is printed has
-the form of its status, the log is untouched where it must be, and no run takes longer than a second.
+"""Runs the built program on mutated files, words and kept jobs, over all commands, and holds each end to docs/FORMATS.md.
 
-usage: tests/mutate.py [--seed N] [--runs N] [--program PATH]
+usage: tests/mutate.py [--seed N] [--runs N] [--cases FOLDER] [--program PATH] [--found FOLDER] [--only KIND..]
 
-The files that are mutated are the stored requests of crates/rows_fund/data, and the example of crates/fund_cli/data, for
-which coins are searched. Build the program first, by
-`rt run -- coins data/wallet.json data/blocks.dat` in crates/fund_cli, which leaves it in out/."""
+What is mutated, one to three times a run: the files of `coins`, `fund`, `check` and `desk`, the report and LOG of `check`, the
+script of `desk`, the words of any command, and what `resume` and `fund .. JOB` find in the job file: its saved text, its parts,
+its tables, and its bytes with those of its log. One run in ten is of a job. They begin with the stored requests of
+crates/rows_fund/data and the example, and with what the program makes of them; with --cases FOLDER also with those of the
+folders fund, bump, check, resume and desk in it, each of which has a folder for each case, with wallet.json, blocks.dat,
+request.json and, by its command, report and log, script with the files that it names, or N.saved and N.part-M of kept jobs.
+
+Each end is held to this (tests/ends.py):
+
+- the status is one of the command's, and what is printed has the form of that status, each fault line included
+- `fault usage` comes exactly where the words are no command; `fault read` where that file isn't there; a limit of bytes exactly
+  where a file is longer
+- nothing is on the standard error; a run takes no more than a second, and one more for each million tries
+- no file changed but LOG, on status 0 and 11 of `fund` and `resume`, and then it is a whole log
+- no job changed but the named one on status 10, and that as its report says; the others are as they were. A job file that SQLite
+  finds unsound, or that has other tables, is refused where it is needed
+- a job is refused for its saved text, its tries and its parts exactly as tests/kept_jobs.py tells, and for its sections and its
+  position exactly as tests/resumes.py tells
+- `fund` and `resume` come to what tests/runs.py finds try by try, to the last letter of LOG: replacements and long walks apart
+- `resume` says exhausted, drawn or none only where `fund` of the same files, with tries enough, says so in the same report but
+  for its tries; and `check` accepts it with LOG but for its tries. It accepts all that `fund` says
+- a job that `fund` kept comes, step by step, to what one `fund` with all these tries comes to, byte for byte
+- a desk's replies go by tests/replies.py
+- of one end in four, `coins` refuses wallet and blocks by the same line, or lists them
+- wallet, blocks and request are refused for the first of their faults, as tests/input_faults.py finds it, and only then
+- tests/answers.py says the same of one payment in four, tests/verdicts.py of each report and tests/desk.py of each script, where
+  they can judge it: they know the pages alone. The first job of a desk is funded as `fund` funds it
+
+A run that ends otherwise is told with its seed and number, and its files are written to the folder of --found. Build the program
+first, by `rt run -- coins data/wallet.json data/blocks.dat` in crates/fund_cli, which leaves it in out/."""
 
 import argparse
 import collections
-import json
-import os
 import pathlib
 import random
-import re
-import subprocess
+import signal
 import sys
 import tempfile
-import time
 
-TOP = pathlib.Path(__file__).resolve().parent.parent
-DATA = TOP / "crates" / "rows_fund" / "data"
-EXAMPLE = TOP / "crates" / "fund_cli" / "data"
+import mutations
+from cases import FUND, THREE, TOP, Cases
+from ends import Judge
+from kept_jobs import BESIDE, NAME
+from running import Place
+
 PROGRAM = TOP / "crates" / "fund_cli" / "out" / "fund_cli"
-LONGEST = 1.0
-OLD_LOG = b"what stood in the log before\n"
-
-NUMBER = r"(0|[1-9][0-9]*)"
-TXID = r"[0-9a-f]{64}"
-COIN = TXID + ":" + NUMBER
-CUT = f"Truncated {NUMBER}|LongCompact {NUMBER}"
-TX = f"({CUT}|ValueRange {NUMBER}|NoInputs|NoOutputs|BadFlag|EmptyWitness|Trailing {NUMBER})"
-ADDRESS = "(Length|Case|Separator|Letter|Checksum|Network|Version|Padding)"
-NAMED = r"NotJson|Kind \w+|Member [!-~]*|Missing \w+"
-INPUT = {
-    "wallet": f"{NAMED}|Script {NUMBER}|Weight {NUMBER}|Tx (earlier|pending) {NUMBER} {TX}"
-    f"|Repeat (earlier|pending) {NUMBER}|ParentLater {NUMBER}",
-    "blocks": f"Magic {NUMBER}|Length {NUMBER}|Tx {NUMBER} {TX}|Merkle {NUMBER}|Mutated {NUMBER}"
-    f"|NotLinked {TXID} {TXID}|Trailing {NUMBER}|Empty {NUMBER}",
-    "book": f"RepeatCoin {COIN}",
-    "request": f"{NAMED}|Address {NUMBER} {ADDRESS}|Script {NUMBER}|AmountRange {NUMBER}|Dust {NUMBER}|SumRange"
-    f"|NoRecipients|RateRange (rate|long_term|discard)|TriesRange|Repeat {NUMBER}",
-    "bump": "NotYet",
-    "plan": f"Total {NUMBER}|NotEligible {COIN}",
-}
-REPORT = (
-    rf"funded (exhausted|partial|drawn|given)\nrow [0-7]\nstage [a-z-]+\ntries {NUMBER}\n"
-    rf"(in {COIN} {NUMBER}\n)+weight {NUMBER}\nvsize {NUMBER}\nfee {NUMBER}\nwaste -?{NUMBER}\n"
-    rf"change (none|{NUMBER})\npsbt [A-Za-z0-9+/]+=*\n"
-)
-FORMS = {
-    0: REPORT,
-    3: "fault input (" + "|".join(f"{file} ({faults})" for file, faults in INPUT.items()) + r")\n",
-    9: r"fault limit (wallet|blocks|request|coins|groups)\n",
-    10: rf"unfinished\ntries {NUMBER}\nrow [0-7]\nstage [a-z-]+\n",
-    11: rf"none\ntries {NUMBER}\n",
-}
-FORMS = {status: re.compile(form.encode(), re.DOTALL) for status, form in FORMS.items()}
+KINDS = {"fund": 36, "coins": 6, "keep": 2, "check": 24, "desk": 14, "words": 4, "work": 4, "resume": 8, "job file": 2}
+WORDS = {"coins": ["coins", *THREE[:2]], "fund": FUND, "keep": [*FUND, "job-1"], "resume": ["resume", *FUND[1:], "job-1"],
+         "check": ["check", *THREE, "report", "log"], "desk": ["desk", *THREE[:2], "script"]}
+OTHER = (b"of another job", {0: b"its part", 7: b"another"})
+PADDED = {"wallet.json": 16_777_216, "request.json": 1_048_576, "script": 16_777_216}
+STATEMENTS = ("CREATE TABLE more (a)", "CREATE INDEX more ON part (bytes)", "CREATE VIEW more AS SELECT 1", "DROP TABLE part",
+              "DROP TABLE job", "ALTER TABLE job ADD COLUMN more BLOB", "ALTER TABLE job RENAME TO jobs",
+              "PRAGMA journal_mode=DELETE", "PRAGMA user_version=7", "PRAGMA application_id=7", "VACUUM",
+              "CREATE TRIGGER more AFTER INSERT ON job BEGIN SELECT 1; END")
 
 
-def cases():
-    """The stored requests: for each the bytes of its wallet, blocks and request."""
-    fronts = sorted(str(path).removesuffix("wallet.json") for path in DATA.glob("*.wallet.json"))
-    fronts += [str(EXAMPLE) + os.sep] * 5
-    return [
-        tuple(pathlib.Path(front + part).read_bytes() for part in ("wallet.json", "blocks.dat", "request.json"))
-        for front in fronts
-    ]
+class Mutants:
+    """Makes the runs: words, files, jobs, statements on the job file, and what spoils its bytes."""
+
+    def __init__(self, rng, cases):
+        self.rng, self.cases = rng, cases
+
+    def make(self, kind):
+        make = getattr(self, kind.replace(" ", "_"))
+        return make()
+
+    def changed(self, files, names):
+        """The files, with one to three mutations of these."""
+        files, rng = dict(files), self.rng
+        for _ in range(rng.choice((1, 1, 1, 1, 2, 3))):
+            name = rng.choice([name for name in names if name in files] or list(files))
+            files[name] = self.mutated(name, files[name])
+        if rng.random() < 0.0005:
+            name = rng.choice([name for name in files if name in PADDED])
+            files[name] = files[name].ljust(PADDED[name] + rng.randrange(2))
+        return files
+
+    def mutated(self, name, data):
+        rng = self.rng
+        if name == "report":
+            return mutations.mutate_report(rng, data)
+        if name == "log":
+            return mutations.mutate_log(rng, data)
+        if name == "script":
+            return mutations.mutate_script(rng, data)
+        kind = 1.0 if name == "blocks.dat" else rng.random()
+        if kind < 0.6:
+            return mutations.mutate_gently(rng, name, data)
+        return mutations.mutate_json(rng, data) if kind < 0.9 else mutations.mutate_bytes(rng, data)
+
+    def coins(self):
+        return WORDS["coins"], self.changed(self.rng.choice(self.cases.payments), THREE[:1] * 2 + THREE[1:2])
+
+    def fund(self):
+        return WORDS["fund"], self.changed(self.rng.choice(self.cases.payments), THREE[:1] * 2 + THREE[1:] + THREE[2:])
+
+    def keep(self):
+        files, job = self.rng.choice(self.cases.jobs)
+        if self.rng.random() < 0.7:
+            files = self.changed(files, THREE[2:])
+        jobs = self.rng.choice(({}, {"job-1": job}, {"job-1": mutations.mutate_job(self.rng, job, [])}))
+        return WORDS["keep"], files, {**jobs, "other": OTHER}
+
+    def check(self):
+        return WORDS["check"], self.changed(self.rng.choice(self.cases.reports), THREE + ("report", "log") * 4)
+
+    def desk(self):
+        files = self.rng.choice(self.cases.desks)
+        names = [name for name in files if name not in ("script", "blocks.dat")]
+        return WORDS["desk"], self.changed(files, names + ["script"] * 4 + ["blocks.dat"])
+
+    def words(self):
+        words = mutations.mutate_words(self.rng, self.rng.choice(list(WORDS.values()) + [["work", "3", "9"]]))
+        return words, self.rng.choice(self.cases.desks + self.cases.reports), {"other": OTHER}
+
+    def work(self):
+        rng = self.rng
+        number, count = rng.choice((rng.randrange(99), rng.randrange(2**63), 2**63 - 1)), rng.choice((1, 2, 5, 16, 60))
+        words = ["work", str(number), str(count)]
+        return (mutations.mutate_words(rng, words) if rng.random() < 0.2 else words), {}
+
+    def resume(self):
+        rng, (files, job) = self.rng, self.rng.choice(self.cases.jobs)
+        others = [other for other_files, other in self.cases.jobs if other_files == files]
+        job = mutations.mutate_job(rng, job, others)
+        if rng.random() < 0.1:
+            files = self.changed(files, THREE)
+        return WORDS["resume"], files, {"job-1": job, "other": OTHER}
+
+    def job_file(self):
+        rng, (files, job) = self.rng, self.rng.choice(self.cases.jobs)
+        words = WORDS[rng.choice(("resume", "resume", "keep"))]
+        jobs = {"job-1": job, "other": OTHER}
+        if rng.random() < 0.3:
+            return words, files, jobs, [rng.choice(STATEMENTS)]
+        return words, files, jobs, [], self.spoil
+
+    def spoil(self, folder):
+        """Mutates the bytes of the job file, near its begin, its end or anywhere, or puts a log beside it."""
+        rng, path = self.rng, pathlib.Path(folder) / NAME
+        data = path.read_bytes()
+        if rng.random() < 0.2:
+            logs = (b"", b"7", rng.randbytes(41), b"7\x7f\x06\x82\x00" + rng.randbytes(5000))
+            (path.parent / BESIDE).write_bytes(rng.choice(logs))
+        start = rng.choice((0, 0, 4096 * rng.randrange(len(data) // 4096), rng.randrange(len(data))))
+        end = start + rng.choice((100, 4096))
+        for _ in range(rng.choice((1, 1, 2, 5))):
+            data = data[:start] + mutations.mutate_bytes(rng, data[start:end]) + data[end:]
+        path.write_bytes(data)
 
 
-def cut_bytes(rng, data):
-    return data[: rng.randrange(len(data) + 1)]
+def tell_wrong(end, fault, seed, run, found):
+    print(f"run {run} of seed {seed}, {' '.join(end.words)}: {fault}\n  status {end.status}: {end.printed[:300]!r}", flush=True)
+    if found is not None:
+        folder = found / f"{seed}-{run}"
+        folder.mkdir(parents=True, exist_ok=True)
+        for name, data in end.given.items():
+            (folder / name).write_bytes(data)
+        told = f"{end.words}\n{fault}\nstatus {end.status}\n{end.printed!r}\n{end.told!r}\nkept: {end.kept!r}\n"
+        (folder / "found.txt").write_text(told)
 
 
-def flip_bit(rng, data):
-    place = rng.randrange(len(data))
-    return data[:place] + bytes([data[place] ^ (1 << rng.randrange(8))]) + data[place + 1 :]
+def head_of(printed):
+    """The words with which a text begins, but for numbers, names and coins."""
+    words = printed.split(b"\n", 1)[0].decode(errors="replace").split(" ")
+    if words[0] != "fault":
+        return words[0] if words[0] in ("accepted", "funded", "none", "unfinished", "tip", "work") else "replies"
+    return " ".join([word for word in words if word.isalpha()][:5]) if words[1] != "read" else "fault read"
 
 
-def set_byte(rng, data):
-    place = rng.randrange(len(data))
-    return data[:place] + bytes([rng.choice(b"\x00\xff\"{}[],:-019afAF qz") if rng.random() < 0.7 else rng.randrange(256)]) + data[place + 1 :]
+def asked_for():
+    words = argparse.ArgumentParser(description="Runs the program on mutated files, words and jobs.")
+    words.add_argument("--seed", type=int, default=1)
+    words.add_argument("--runs", type=int, default=20000)
+    words.add_argument("--cases", type=pathlib.Path)
+    words.add_argument("--program", type=pathlib.Path, default=PROGRAM)
+    words.add_argument("--found", type=pathlib.Path)
+    words.add_argument("--only", nargs="*", choices=list(KINDS), default=list(KINDS))
+    return words.parse_args()
 
 
-def drop_bytes(rng, data):
-    place = rng.randrange(len(data))
-    return data[:place] + data[place + rng.choice((1, 1, 2, 4, 8, 40)) :]
-
-
-def repeat_bytes(rng, data):
-    start = rng.randrange(len(data))
-    end = min(len(data), start + rng.choice((1, 2, 4, 32, 100)))
-    return data[:end] + data[start:end] + data[end:]
-
-
-def put_bytes(rng, data):
-    place = rng.randrange(len(data) + 1)
-    return data[:place] + rng.randbytes(rng.choice((1, 1, 2, 5))) + data[place:]
-
-
-BYTES = [cut_bytes, flip_bit, set_byte, drop_bytes, repeat_bytes, put_bytes]
-NUMBERS = [0, 1, -1, 164, 165, 293, 294, 400000, 400001, 2**31, 2**32 - 1, 2**32, 2**53, 2**63, 2**64 - 1, 2**64, 1.0, 1e300,
-           100000000, 100000001, 2100000000000000, 2100000000000001]
-VALUES = NUMBERS + ["", "00", "0g", "abc", "6a", "0014" + "bb" * 20, "manual", "auto", None, True, [], {}, [[]], "00" * 32 + ":0"]
-
-
-def parents(value, found):
-    """Every object and list in a JSON value."""
-    if isinstance(value, dict):
-        found.append(value)
-        for inner in value.values():
-            parents(inner, found)
-    elif isinstance(value, list):
-        found.append(value)
-        for inner in value:
-            parents(inner, found)
-    return found
-
-
-def mutate_text(rng, text):
-    """A text whose digits or length changed."""
-    if not text:
-        return "0"
-    place = rng.randrange(len(text))
-    kind = rng.randrange(4)
-    if kind == 0:
-        return text[:place] + rng.choice("0123456789abcdefABCDEFgq:") + text[place + 1 :]
-    if kind == 1:
-        return text[:place] + text[place + rng.choice((1, 2)) :]
-    if kind == 2:
-        return text[:place] + rng.choice(("00", "ff", "0", "fd")) + text[place:]
-    return text.upper()
-
-
-def mutate_json(rng, data):
-    """A JSON text in which one member or entry changed, went, came or was doubled."""
+def try_all(asked, place, judge):
+    """Makes the runs, and counts their ends; an interrupt or a SIGTERM ends them early."""
+    rng, ends, wrong, longest = random.Random(asked.seed), collections.Counter(), 0, 0.0
+    cases = Cases(asked.cases)
+    cases.make(rng, place, 100)
+    mutants = Mutants(rng, cases)
     try:
-        value = json.loads(data)
-    except ValueError:
-        return rng.choice(BYTES)(rng, data) if data else b"{"
-    inner = rng.choice(parents(value, []) or [{}])
-    keys = list(inner) if isinstance(inner, dict) else list(range(len(inner)))
-    if not keys or rng.random() < 0.1:
-        if isinstance(inner, dict):
-            inner[rng.choice(("note", "", "pending", "locked", "abandoned", "bump", "tries", "seed", "zero_conf"))] = rng.choice(VALUES)
-        else:
-            inner.append(rng.choice(VALUES))
-        return json.dumps(value).encode()
-    key = rng.choice(keys)
-    old = inner[key]
-    kind = rng.randrange(5)
-    if kind == 0:
-        del inner[key]
-    elif kind == 1:
-        inner[key] = rng.choice(VALUES)
-    elif kind == 2 and isinstance(old, str):
-        inner[key] = mutate_text(rng, old)
-    elif kind == 2 and isinstance(old, int):
-        inner[key] = old + rng.choice((-1000, -1, 1, 1000, 10**9))
-    elif kind == 3 and isinstance(inner, list):
-        inner.insert(rng.choice(keys), old)
-    elif isinstance(old, list) and old:
-        rng.shuffle(old)
-        old.append(rng.choice(old))
-    else:
-        inner[key] = rng.choice(NUMBERS)
-    return json.dumps(value).encode()
-
-
-def mutated(rng, files):
-    """The three files of a case, with one to three mutations."""
-    files = list(files)
-    for _ in range(rng.choice((1, 1, 1, 2, 3))):
-        which = rng.choice((0, 0, 1, 2, 2))
-        data = files[which]
-        if which != 1 and rng.random() < 0.7:
-            files[which] = mutate_json(rng, data)
-        elif data:
-            files[which] = rng.choice(BYTES)(rng, data)
-        else:
-            files[which] = rng.choice((b"\x00", b"\x00" * 9, bytes.fromhex("f9beb4d9"), rng.randbytes(90)))
-    return files
-
-
-def wrong(status, printed, log):
-    """What is wrong with the end of a run, or None."""
-    form = FORMS.get(status)
-    if form is None:
-        return f"status {status} is not one of these files"
-    if not form.fullmatch(printed):
-        return f"status {status} with a text of another form"
-    if status in (3, 9, 10) and log != OLD_LOG:
-        return f"status {status}, and the log changed"
-    if status in (0, 11) and not (log.startswith(b"fund-log 1\n") and log.endswith(b"end\n")):
-        return f"status {status}, and the log is not whole"
-    return None
+        for run in range(asked.runs):
+            kind = rng.choices(asked.only, [KINDS[kind] for kind in asked.only])[0]
+            end = place.run(*mutants.make(kind))
+            fault = judge.wrong(end) or judge.wrong_beside(end, rng.random() < 0.25)
+            longest = max(longest, end.seconds)
+            if fault is not None:
+                wrong += 1
+                tell_wrong(end, fault, asked.seed, run, asked.found)
+            ends[(kind, end.status, head_of(end.printed))] += 1
+    except KeyboardInterrupt:
+        print("interrupted")
+    return ends, wrong, longest
 
 
 def main():
-    words = argparse.ArgumentParser(description="Runs the program on mutated files.")
-    words.add_argument("--seed", type=int, default=1)
-    words.add_argument("--runs", type=int, default=20000)
-    words.add_argument("--program", type=pathlib.Path, default=PROGRAM)
-    asked = words.parse_args()
-    rng = random.Random(asked.seed)
-    stored = cases()
-    ends = collections.Counter()
-    longest = 0.0
+    asked = asked_for()
+    asked.found, asked.cases = asked.found and asked.found.resolve(), asked.cases and asked.cases.resolve()
+    program = asked.program.resolve()
+    signal.signal(signal.SIGTERM, signal.default_int_handler)
     with tempfile.TemporaryDirectory() as folder:
-        names = [os.path.join(folder, name) for name in ("wallet.json", "blocks.dat", "request.json", "log")]
-        for run in range(asked.runs):
-            files = mutated(rng, rng.choice(stored))
-            for name, data in zip(names, files + [OLD_LOG]):
-                with open(name, "wb") as file:
-                    file.write(data)
-            start = time.monotonic()
-            done = subprocess.run([asked.program, "fund", *names], capture_output=True, timeout=60)
-            taken = time.monotonic() - start
-            longest = max(longest, taken)
-            with open(names[3], "rb") as file:
-                log = file.read()
-            fault = wrong(done.returncode, done.stdout, log)
-            if fault is None and done.stderr:
-                fault = "something on the standard error"
-            if fault is None and taken > LONGEST:
-                fault = f"it took {taken:.2f} s"
-            if fault is not None:
-                print(f"run {run} of seed {asked.seed}: {fault}", done.stdout[:300], done.stderr[:300])
-                for name, data in zip(("wallet", "blocks", "request"), files):
-                    print(f"{name}: {data[:2000]!r}")
-                return 1
-            line = done.stdout.split(b"\n", 1)[0].decode(errors="replace").split()
-            ends[(done.returncode, " ".join(line[:4] if line[0] == "fault" else line[:1]))] += 1
-    for (status, line), count in sorted(ends.items()):
-        print(f"{count:6} status {status:2} {line}")
-    print(f"{asked.runs} runs, each as it should be; the longest took {longest:.3f} s")
-    return 0
+        judge = Judge(Place(folder, program))
+        ends, wrong, longest = try_all(asked, judge.place, judge)
+    for (kind, status, head), count in sorted(ends.items()):
+        print(f"{count:6} {kind}, status {status}: {head}")
+    print(", ".join(f"{count} {name}" for name, count in sorted(judge.beside.items())))
+    print(f"{sum(ends.values())} runs, {wrong} otherwise than they should; the longest took {longest:.3f} s of processor time")
+    return wrong > 0
 
 
 if __name__ == "__main__":

@@ -17,6 +17,7 @@ import sys
 
 from answers import Chain, Request, compact, fee, input_fee, read_tx, steps
 
+MAX_MONEY = 2_100_000_000_000_000
 STAGES = "presets|changeless|lean-big|draw|lean-small"
 N = "(0|[1-9][0-9]*)"
 FUNDED = re.compile(
@@ -30,11 +31,16 @@ class Bad(Exception):
     pass
 
 
-def string(data, at):
+def shortest(data, at):
     start = at
     size, at = compact(data, at)
     if at - start != (1 if size < 253 else 3 if size < 65536 else 5 if size < 2 ** 32 else 9):
         raise Bad
+    return size, at
+
+
+def string(data, at):
+    size, at = shortest(data, at)
     if at + size > len(data):
         raise Bad
     return data[at:at + size], at + size
@@ -54,7 +60,7 @@ def read_map(data, at):
 def transaction_of(data):
     """Version, inputs with scripts and sequences, outputs, lock time; the legacy form alone, whole."""
     at = 4
-    count, at = compact(data, at)
+    count, at = shortest(data, at)
     inputs, outputs = [], []
     if count == 0:
         raise Bad
@@ -63,12 +69,12 @@ def transaction_of(data):
         script, at = string(data, at + 36)
         inputs.append((point, script, int.from_bytes(data[at:at + 4], "little")))
         at += 4
-    many, at = compact(data, at)
+    many, at = shortest(data, at)
     for _ in range(many):
         value = int.from_bytes(data[at:at + 8], "little")
         script, at = string(data, at + 8)
         outputs.append((value, script))
-    if at + 4 != len(data) or not outputs:
+    if at + 4 != len(data) or not outputs or sum(value for value, _ in outputs) > MAX_MONEY:
         raise Bad
     return int.from_bytes(data[:4], "little"), inputs, outputs, int.from_bytes(data[at:], "little")
 
@@ -97,7 +103,7 @@ def psbt_of(text):
             if b"\x01" in pairs:
                 value = pairs[b"\x01"]
                 script, end = string(value, 8)
-                if end != len(value):
+                if end != len(value) or int.from_bytes(value[:8], "little") > MAX_MONEY:
                     raise Bad
                 paid = (int.from_bytes(value[:8], "little"), script)
             shown.append((whole, paid))
@@ -319,8 +325,9 @@ def read_report(text):
                 "fee": int(one[10]), "waste": waste, "change": change, "psbt": one[one.re.groups].encode("latin-1")}
     one = NONE.fullmatch(text)
     if one:
-        return {"tries": int(one[1]), "place": 5}
-    return {"unfinished": True} if UNFINISHED.fullmatch(text) else None
+        return {"tries": int(one[1]), "place": 5} if int(one[1]) < 2 ** 64 else None
+    one = UNFINISHED.fullmatch(text)
+    return {"unfinished": True} if one and int(one[1]) < 2 ** 64 and int(one[2]) <= 255 else None
 
 
 CHANGE = [b""]

@@ -1,0 +1,146 @@
+"""What the scripts that know the pages alone say of a run that tests/mutate.py made: tests/input_faults.py of the files,
+tests/answers.py of payments, tests/verdicts.py with tests/text_places.py and tests/psbt_faults.py of reports, tests/desk.py of
+desks; and whether the first job of a desk is funded as `fund` funds it. None where they agree, or have nothing to say."""
+
+import collections
+import json
+import re
+
+import desk
+import input_faults
+import psbt_faults
+import text_places
+from answers import judge
+from cases import FUND, THREE, with_members
+from desk import command_of, lines_of
+from verdicts import verdict
+
+# what of a run is beyond these scripts: replacements, and what they stumble over
+BEYOND = (KeyError, IndexError, ValueError, TypeError, AttributeError, StopIteration, RecursionError, ZeroDivisionError)
+# what the coins are refused for, before the request is read
+BOOK = b"fault input book "
+# replies after which a job may see other coins than the files have
+TURNING = (b"committed", b"tip", b"seen", b"refused", b"released")
+
+
+def asked(end):
+    """The wallet and the request, where these scripts can judge them."""
+    wallet, request = json.loads(end.given[end.words[1]]), json.loads(end.given[end.words[3]])
+    return None if "bump" in request else (wallet, request)
+
+
+def refusal_of(end):
+    """The line by which wallet, blocks or request are refused, or None."""
+    wallet, blocks = (end.given[name] for name in end.words[1:3])
+    fault = input_faults.fault_of(input_faults.read_wallet, wallet)
+    if fault is not None:
+        return f"fault input wallet {fault}\n"
+    known = json.loads(wallet)
+    fault = input_faults.fault_of(input_faults.read_blocks, blocks, bytes.fromhex(known["hash"])[::-1], known["height"])
+    if fault is not None:
+        return f"fault input blocks {fault}\n"
+    if end.words[0] in ("fund", "resume", "check") and not end.printed.startswith(BOOK):
+        fault = input_faults.fault_of(input_faults.read_request, end.given[end.words[3]])
+        return None if fault is None else f"fault input request {fault}\n"
+    return None
+
+
+def wrong_refusal(end, beside):
+    """Whether the first fault of the files is the one that is due, and there is one only where one is due."""
+    if end.words[0] == "work" or end.status in (2, 4) or end.printed.startswith(b"fault limit "):
+        return None
+    try:
+        due = refusal_of(end)
+    except KeyError:
+        return None
+    beside["refusals" if due else "files in order"] += 1
+    is_refused = end.printed.startswith((b"fault input wallet ", b"fault input blocks ", b"fault input request "))
+    return None if (end.printed.decode() == due if due else not is_refused) else f"{due} is due"
+
+
+def wrong_payment(end, beside):
+    """Of a `fund` that wasn't refused: whether it ended with the answer that is due, and with a log of it."""
+    try:
+        read = asked(end)
+        if read is None:
+            return None
+        wallet, request = read
+        log = end.files[end.words[4]].decode() if end.status != 10 else None
+        kind = judge(wallet, end.given[end.words[2]], {"tries": 100_000, **request}, end.status, end.printed.decode(), log)
+        beside[f"judged {kind}"] += 1
+    except AssertionError as wrong:
+        return f"by tests/answers.py {wrong}"
+    except BEYOND:
+        beside["payments not judged"] += 1
+    return None
+
+
+def wrong_verdict(end, folder, beside):
+    """Of a `check`, whose files are in this folder: whether its verdict is the one that is due."""
+    try:
+        if asked(end) is None:
+            return None
+        got = verdict(folder, end.given["report"].decode("latin-1"))
+    except (AssertionError, *BEYOND):
+        beside["reports not judged"] += 1
+        return None
+    if got in ("Report", "LogForm"):
+        form, name = (text_places.report, "report") if got == "Report" else (text_places.log, "log")
+        got = f"{got} {text_places.fault_of(form, end.given[name])}"
+    if got == "Psbt":
+        psbt = re.search(rb"(?<=\npsbt )[^\n]+", end.given["report"])[0]
+        got = f"Psbt {psbt_faults.fault_of(psbt)}"
+    due = None if end.status == 0 else end.printed.decode().removeprefix("fault check ").removesuffix("\n")
+    if got == due:
+        beside["verdicts"] += 1
+        return None
+    return f"by tests/verdicts.py {got} is due"
+
+
+def wrong_desk(end, beside):
+    """Of a desk whose wallet and blocks are in order: whether each reply is the one that is due. tests/desk.py knows no plan that
+    is refused for its groups or its sum."""
+    if b" TooMany " in end.printed or b" Total " in end.printed:
+        return None
+    try:
+        desk.judge({**end.given, "script": end.given[end.words[3]]}, [], end.status, end.printed.decode(), collections.Counter())
+        beside["desks"] += 1
+    except AssertionError as wrong:
+        return f"by tests/desk.py {wrong}"
+    except BEYOND:
+        beside["desks not judged"] += 1
+    return None
+
+
+def first_job(end):
+    """The file, the last reply to a turn and the PSBT of the job that a desk opened first, before any coin came or went."""
+    name = file = last = psbt = None
+    for line, reply in zip(lines_of(end.given[end.words[3]]), end.printed.split(b"\n")):
+        said, words = reply.split(b" "), line.split(b" ")
+        if command_of(line) is None:
+            continue
+        if name is None and words[0] == b"open" and said[0] == b"opened":
+            name, file = words[1], words[2].decode()
+        elif name is not None and words[0] == b"turn" and words[1] == name:
+            last = said
+        elif name is not None and words[1] == name and said[0] in (b"committed", b"closed"):
+            return file, last, said[3] if said[0] == b"committed" else None
+        if name is None and said[0] in TURNING and words[0] != b"open":
+            return None
+    return file, last, psbt
+
+
+def wrong_first_job(end, place, beside):
+    """Whether `fund` of the same files, with as many tries, comes to the same as the turns of the first job did."""
+    found = first_job(end)
+    if found is None or found[1] is None or found[1][0] == b"spent" or found[0] not in end.given:
+        return None
+    file, last, psbt = found
+    files = {**{name: end.given[at] for name, at in zip(THREE, end.words[1:3])}, "request.json": end.given[file]}
+    files = with_members(files, tries=max(1, int(last[-1])))
+    said = place.run(FUND, files).printed.split(b"\n")
+    told = {line.split(b" ")[0]: line.split(b" ")[-1] for line in said}
+    beside["desk jobs funded anew"] += 1
+    if said[0].split(b" ") != [last[0], *last[2:-1]] or told.get(b"tries") != last[-1] or psbt not in (None, told.get(b"psbt")):
+        return f"the job that was opened first ended with {last}, and `fund` says {said[:4]}"
+    return None

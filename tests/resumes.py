@@ -1,0 +1,126 @@
+"""What `fund` and `resume` come to, by docs/FORMATS.md alone: the line by which a kept job is refused whose parts are a log that
+goes on, and otherwise the report and LOG of the run. The coins and the searches are those of tests/answers.py, the runs those of
+tests/runs.py, the checker that of tests/verdicts.py. For tests/mutate.py."""
+
+import json
+import re
+
+from answers import Chain, Request, point_of, steps
+from runs import Run, TooLong
+from verdicts import SECTION, refusal
+
+OPEN = re.compile(r"section (\d+) (changeless|lean-big|lean-small) ([0-9a-fA-F]{64})\ntokens ([!-~]*)\Z")
+
+
+def sections_of(log):
+    """The closed sections of a log that goes on, and its open one: row, stage, digest and letters, and the answer of a closed one."""
+    at, closed = len("fund-log 1\n"), []
+    while True:
+        one = SECTION.match(log, at)
+        if one is None:
+            break
+        places = None if one[5] == "none" else tuple(map(int, one[5].split(" ")))
+        closed.append((int(one[1]), one[2], one[3].lower(), one[4], places))
+        at = one.end()
+    one = OPEN.match(log, at)
+    return closed, (int(one[1]), one[2], one[3].lower(), one[4])
+
+
+def searches(request, closed):
+    """The searches to which a run comes that has these answers: row, stage and problem. It ends with the first column that has a
+    result."""
+    if request.alone() is not None:
+        return
+    seed, index = bytes.fromhex(request.given.get("seed", "00" * 32)), 0
+    for row, _, column in steps(request):
+        found = False
+        for stage, problem in column:
+            if stage == "draw":
+                found = found or problem.drawn(seed) is not None
+                continue
+            yield row, stage, problem
+            found = found or (index < len(closed) and closed[index][4] is not None)
+            index += 1
+        if found:
+            return
+
+
+def is_rising(places):
+    return all(one < other for one, other in zip(places, places[1:]))
+
+
+def may_stand(problem, said):
+    """Whether a search may stand at the saved position."""
+    chosen, best, count = said["chosen"], said["best"], len(problem.items)
+    if said["next"] >= count or not is_rising(chosen) or any(place >= said["next"] for place in chosen):
+        return False
+    value, weight, _ = problem.sums(chosen)
+    if value >= problem.lo or weight > problem.limit:
+        return False
+    return not best or (is_rising(best) and best[-1] < count and problem.is_admissible(best))
+
+
+def refused(said, closed, still_open, request):
+    """The line by which the job is refused before it goes on, or None."""
+    due, problems = searches(request, closed), []
+    for index, section in enumerate([*closed, still_open]):
+        row, stage, problem = next(due, (None, None, None))
+        if problem is None or section[:3] != (row, stage, problem.digest()):
+            return f"fault saved SavedFalse Section {index}\n"
+        problems.append(problem)
+    if (said["row"], said["stage"]) != still_open[:2]:
+        return f"fault saved SavedFalse Section {len(closed)}\n"
+    if not may_stand(problems[-1], said):
+        return "fault saved SavedFalse IllFormed\n"
+    for index, (problem, section) in enumerate(zip(problems, closed)):
+        if section[4] is not None and refusal(problem, "", section[4]) == "AnswerNotAdmissible":
+            return f"fault saved SavedFalse Log {index} AnswerNotAdmissible\n"
+    return None
+
+
+def told_by(printed):
+    """What a report says of its run: mark or kind, row, stage and coins as tests/runs.py has them, and the tries."""
+    lines = [line.split(" ") for line in printed.splitlines()]
+    told = {line[0]: line[-1] for line in lines}
+    kind, tries = lines[0][-1], int(told["tries"])
+    if kind == "none":
+        return (kind,), tries
+    place = (kind, int(told["row"]), told["stage"])
+    return place if kind == "unfinished" else (*place, sorted(point_of(line[1]) for line in lines if line[0] == "in")), tries
+
+
+def wrong_run(end, run, is_resumed):
+    """Whether the run came to what it should, with the log that it should have."""
+    is_checked = is_resumed and run.outcome[0] in ("exhausted", "drawn", "none")
+    for index, (_, _, problem, letters, places) in enumerate(run.sections if is_checked else ()):
+        fault = refusal(problem, letters, places)
+        if fault is not None:
+            due = f"fault saved SavedFalse Log {index} {fault}\n"
+            return None if end.printed.decode() == due else f"by tests/runs.py {due} is due"
+    if end.status not in (0, 10, 11) or told_by(end.printed.decode()) != (tuple(run.outcome), run.tries):
+        return f"by tests/runs.py {run.outcome} is due after {run.tries} tries"
+    is_so = end.status == 10 or end.files[end.words[4]].decode() == run.log()
+    return None if is_so else f"by tests/runs.py this log is due: {run.log()}"
+
+
+def wrong_end(end, job, beside):
+    """Whether `fund`, or `resume` of a job that isn't refused for its saved text, its tries or its parts, ended as it should."""
+    wallet, given = json.loads(end.given[end.words[1]]), json.loads(end.given[end.words[3]])
+    if "bump" in given:
+        return None
+    request, kept = Request(given, wallet, Chain(wallet, end.given[end.words[2]])), ()
+    if job is not None:
+        said, parts = job
+        closed, still_open = sections_of(b"".join(parts[number] for number in range(said["parts"])).decode())
+        due = refused(said, closed, still_open, request)
+        if due is not None:
+            beside["forged jobs refused"] += 1
+            return None if end.printed.decode() == due else f"by tests/resumes.py {due} is due"
+        kept = ((closed, still_open[3], said),)
+    try:
+        run = Run(request, given.get("tries", 100_000), *kept)
+    except TooLong:
+        beside["runs too long"] += 1
+        return None
+    beside["runs" if job is None else "runs resumed"] += 1
+    return wrong_run(end, run, job is not None)
