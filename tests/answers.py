@@ -43,6 +43,7 @@ def compact(data, at):
 def read_tx(data, at=0):
     """A transaction's txid, the outpoints that it spends, its outputs, and the place after it."""
     start, segregated = at, data[at + 4] == 0
+    assert not segregated or data[at + 5] == 1, "the flag of witnesses"
     at += 6 if segregated else 4
     body = at
     count, at = compact(data, at)

@@ -13,7 +13,7 @@ OPEN = re.compile(r"section (\d+) (changeless|lean-big|lean-small) ([0-9a-fA-F]{
 
 
 def sections_of(log):
-    """The closed sections of a log that goes on, and its open one: row, stage, digest and letters, and the answer of a closed one."""
+    """The closed sections of a log, and the open one of one that goes on: row, stage, digest, letters; a closed one's answer."""
     at, closed = len("fund-log 1\n"), []
     while True:
         one = SECTION.match(log, at)
@@ -23,7 +23,7 @@ def sections_of(log):
         closed.append((int(one[1]), one[2], one[3].lower(), one[4], places))
         at = one.end()
     one = OPEN.match(log, at)
-    return closed, (int(one[1]), one[2], one[3].lower(), one[4])
+    return closed, one and (int(one[1]), one[2], one[3].lower(), one[4])
 
 
 def searches(request, closed):
@@ -63,12 +63,12 @@ def may_stand(problem, said):
 def refused(said, closed, still_open, request):
     """The line by which the job is refused before it goes on, or None."""
     due, problems = searches(request, closed), []
-    for index, section in enumerate([*closed, still_open]):
+    for index, section in enumerate([*closed, still_open] if still_open else closed):
         row, stage, problem = next(due, (None, None, None))
         if problem is None or section[:3] != (row, stage, problem.digest()):
             return f"fault saved SavedFalse Section {index}\n"
         problems.append(problem)
-    if (said["row"], said["stage"]) != still_open[:2]:
+    if still_open is None or (said["row"], said["stage"]) != still_open[:2]:
         return f"fault saved SavedFalse Section {len(closed)}\n"
     if not may_stand(problems[-1], said):
         return "fault saved SavedFalse IllFormed\n"

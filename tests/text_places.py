@@ -111,7 +111,7 @@ def section_end(reader):
 
 
 def sections_before_fault(text):
-    """How many sections stand whole in a text that is no log which goes on, before its fault or its end; None where it is one."""
+    """How many sections stand whole in a text that is no log, before its fault; None where it is one, ended or to go on."""
     reader, sections = Reader(text), 0
     try:
         reader.word(b"fund-log 1\n")
@@ -122,6 +122,8 @@ def sections_before_fault(text):
             letters(reader)
             section_end(reader)
             sections += 1
+        if reader.at == len(text):
+            return None
     except ValueError:
         pass
     return sections
