@@ -202,7 +202,8 @@ def sections_in(log):
         at = one.end()
     if log[at:] == "end\n":
         return sections, None
-    is_open = OPEN.fullmatch(log, at) is not None
+    one = OPEN.fullmatch(log, at)
+    is_open = one is not None and int(one[1]) <= 255
     return None, f"LogForm {len(log)}" if is_open else "LogForm"
 
 
