@@ -6,8 +6,7 @@ use Rattle.tx_codec.specs.Transaction.{Transaction}
 use Rattle.block_feed.specs.Block.{ChainBlock}
 use Rattle.std.proofs.lemmas.List.{append-nil, length-map}
 use Rattle.fund_base.specs.declared.outpoint.OutPoint.{OutPoint}
-use Rattle.wallet_text.specs.PlainWallet.{PlainWallet}
-use Rattle.wallet_text.specs.declared.wallet.Earlier.{Earlier}
+use Rattle.wallet_text.specs.PlainWallet.{Earlier, PlainWallet}
 use Rattle.wallet_text.specs.declared.wallet.Watch.{Watch}
 use Rattle.coin_book.specs.Coins.{Made, confirmed_made, pending_made, weight_for}
 use Rattle.coin_book.specs.Faults.{fault_behind, fault_of, points}

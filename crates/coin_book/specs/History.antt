@@ -2,8 +2,7 @@
 use Rattle.std.specs.Prelude.{ℕ, List, [], ◌∷◌, ◌++◌, map}
 use Rattle.tx_codec.specs.Transaction.{Transaction}
 use Rattle.block_feed.specs.Block.{ChainBlock}
-use Rattle.wallet_text.specs.PlainWallet.{PlainWallet}
-use Rattle.wallet_text.specs.declared.wallet.Earlier.{Earlier}
+use Rattle.wallet_text.specs.PlainWallet.{Earlier, PlainWallet}
 use Rattle.wallet_text.specs.declared.wallet.Watch.{Watch}
 
 -- a transaction of the chain, and the height at which it stands

@@ -13,7 +13,6 @@ use crate::ledger::{Ledger, Weights};
 use fund_base::Memory;
 use indexmap::IndexMap;
 use std::alloc::Global;
-use tx_codec::txid;
 use wallet_text::{Earlier, Watch};
 
 /// The listed scripts with their weights.
@@ -41,7 +40,7 @@ pub fn ledger_of(alloc: Global, weights: &Weights, earlier: &[Earlier]) -> Resul
     for index in 0..earlier.len() {
         let entry = &earlier[index];
         let spend = Spend {
-            txid: txid(&entry.tx),
+            txid: entry.txid(),
             height: entry.height,
             place: index as u64,
         };

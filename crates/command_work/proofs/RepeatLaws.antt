@@ -10,7 +10,7 @@ use Rattle.wallet_text.proofs.WalletLaws.{none_apart, repeat_is}
 use Rattle.json_fields.specs.Repeats.{IsFirstRepeat}
 use Rattle.wallet_text.specs.WalletRules.{AreDistinctEarlier}
 use Rattle.wallet_text.specs.WalletText.{earlier_txids, repeat_from}
-use Rattle.wallet_text.specs.declared.wallet.Earlier.{Earlier}
+use Rattle.wallet_text.specs.PlainWallet.{Earlier}
 
 -- of distinct images none stands twice
 never_twice : {X : Type 0} (f : X → List ℕ) (x : X) (xs : List X) (place : ℕ) → AllPairs (λ a b. f a ≢ f b) xs → IsFirstRepeat (map f xs) place → ⊥

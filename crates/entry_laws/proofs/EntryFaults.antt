@@ -14,7 +14,7 @@ use Rattle.wallet_text.specs.WalletText.{field, told_index, has_script_length, j
 use Rattle.wallet_text.specs.declared.fault.Refusal.{Refusal}
 use Rattle.wallet_text.specs.declared.fault.Refusal.TheVariants.{Field, Script, Weight, Tx}
 use Rattle.wallet_text.specs.declared.wallet.Watch.{Watch}
-use Rattle.wallet_text.specs.declared.wallet.Earlier.{Earlier}
+use Rattle.wallet_text.specs.PlainWallet.{Earlier}
 use Rattle.entry_laws.specs.Entries.{IsFormFault}
 use Rattle.entry_laws.specs.Forms.{IsLacking, IsListFault, IsNoHex, IsWrongKind}
 use Rattle.entry_laws.proofs.ListFaults as lists

@@ -30,9 +30,8 @@ use Rattle.psbt_codec.specs.declared.psbt.Spent.{Spent}
 use Rattle.psbt_codec.specs.PartialTransaction.{PartialTransaction}
 use Rattle.psbt_codec.specs.Psbt.{IsParent, IsPsbt, IsSpent, IsUnsigned}
 use Rattle.request_text.specs.PlainRequest.{PlainRequest}
-use Rattle.wallet_text.specs.PlainWallet.{PlainWallet}
+use Rattle.wallet_text.specs.PlainWallet.{Earlier, PlainWallet}
 use Rattle.wallet_text.specs.WalletRules.{IsEarlier, IsWallet}
-use Rattle.wallet_text.specs.declared.wallet.Earlier.{Earlier}
 use Rattle.wallet_text.specs.declared.wallet.Watch.{Watch}
 use Rattle.fund_files.specs.Chain.{HasTexts, HaveTexts, IsHeld, history_of}
 use Rattle.fund_payment.specs.Report.{psbt_of, spent_of}

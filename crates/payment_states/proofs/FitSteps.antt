@@ -21,9 +21,8 @@ use Rattle.tx_codec.specs.Transaction.{Transaction}
 use Rattle.tx_codec.specs.TransactionText.{IsTransaction}
 use Rattle.tx_codec.specs.Txid.{txid_of}
 use Rattle.block_feed.specs.Block.{ChainBlock}
-use Rattle.wallet_text.specs.PlainWallet.{PlainWallet}
+use Rattle.wallet_text.specs.PlainWallet.{Earlier, PlainWallet}
 use Rattle.wallet_text.specs.WalletRules.{AreDistinct, IsEarlier, IsWallet, IsWatch}
-use Rattle.wallet_text.specs.declared.wallet.Earlier.{Earlier}
 use Rattle.wallet_text.specs.declared.wallet.Watch.{Watch}
 use Rattle.coin_book.specs.Coinbase.{is_coinbase_of}
 use Rattle.coin_book.specs.Coins.{Made, coin_at, coin_of, coins_below, coins_of, confirmed_made, is_open, made_by, made_in, made_of, pending_made, weight_for}

@@ -12,7 +12,7 @@ use Rattle.wallet_text.specs.declared.fault.Refusal.{Refusal}
 use Rattle.wallet_text.specs.declared.fault.Refusal.TheVariants.{Field, ParentLater, Repeat}
 use Rattle.wallet_text.specs.declared.fault.WalletFault.{WalletFault}
 use Rattle.wallet_text.specs.declared.fault.WalletFault.TheVariants as told
-use Rattle.wallet_text.specs.declared.wallet.Earlier.{Earlier}
+use Rattle.wallet_text.specs.PlainWallet.{Earlier}
 use Rattle.wallet_text.proofs.ListLaws.{other}
 use Rattle.wallet_text.proofs.WalletLaws.{later, repeated}
 

@@ -14,7 +14,7 @@ use Rattle.wallet_text.specs.WalletRules.{AreDistinct, AreDistinctEarlier, Paren
 use Rattle.wallet_text.specs.WalletText.{told_index, txids_of, earlier_txids, repeat_from, later_from, lists_at}
 use Rattle.wallet_text.specs.declared.fault.Refusal.{Refusal}
 use Rattle.wallet_text.specs.declared.fault.Refusal.TheVariants.{Repeat, ParentLater}
-use Rattle.wallet_text.specs.declared.wallet.Earlier.{Earlier}
+use Rattle.wallet_text.specs.PlainWallet.{Earlier}
 use Rattle.wallet_text.proofs.WalletLaws.{repeat_is, later_is, none_apart}
 
 -- of distinct images none stands twice

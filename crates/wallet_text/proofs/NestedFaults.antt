@@ -14,7 +14,7 @@ use Rattle.wallet_text.specs.WalletText.{field, told_index, judged, script_in, s
 use Rattle.wallet_text.specs.declared.fault.Refusal.{Refusal}
 use Rattle.wallet_text.specs.declared.fault.Refusal.TheVariants.{Script, Weight, Tx, Repeat, ParentLater}
 use Rattle.wallet_text.specs.declared.wallet.Watch.{Watch}
-use Rattle.wallet_text.specs.declared.wallet.Earlier.{Earlier}
+use Rattle.wallet_text.specs.PlainWallet.{Earlier}
 use Rattle.tx_codec.proofs.OwnFaults.{whole_never}
 
 -- no transaction is refused for being out of memory

@@ -30,7 +30,7 @@ use Rattle.wallet_text.specs.WalletText.{field, told_index, watch_at, watch_name
 use Rattle.wallet_text.specs.declared.fault.Refusal.{Refusal}
 use Rattle.wallet_text.specs.declared.fault.Refusal.TheVariants.{Field, Script, Weight, Tx}
 use Rattle.wallet_text.specs.declared.wallet.Watch.{Watch}
-use Rattle.wallet_text.specs.declared.wallet.Earlier.{Earlier}
+use Rattle.wallet_text.specs.PlainWallet.{Earlier}
 
 pub field_ok : {A B : Type 0} (first : Result A FieldFault) (then : A → Result B Refusal) (out : B) → (field first >>= then) ≡ Ok out → (x : A) × (first ≡ Ok x) × (then x ≡ Ok out)
 field_ok first then out e = let s = bind_ok (field first) then out e in (s.0, told_ok Field first s.0 s.1, s.2)

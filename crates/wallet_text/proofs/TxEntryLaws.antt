@@ -18,7 +18,7 @@ use Rattle.wallet_text.specs.TxEntries.{transaction_of, IsEarlierEntry}
 use Rattle.wallet_text.specs.WalletText.{field, told_index, earlier_names, earlier_at, earlier_in, pending_in, tx_in}
 use Rattle.wallet_text.specs.declared.fault.Refusal.{Refusal}
 use Rattle.wallet_text.specs.declared.fault.Refusal.TheVariants.{Tx}
-use Rattle.wallet_text.specs.declared.wallet.Earlier.{Earlier}
+use Rattle.wallet_text.specs.PlainWallet.{Earlier}
 use Rattle.wallet_text.proofs.EntryLaws.{member_stands}
 
 -- ---- what an earlier entry is read as

@@ -18,7 +18,7 @@ use Rattle.wallet_text.specs.WalletText.{told_index, has_script_length, judged, 
 use Rattle.wallet_text.specs.declared.fault.Refusal.{Refusal}
 use Rattle.wallet_text.specs.declared.fault.Refusal.TheVariants.{Script, Weight, Repeat, ParentLater}
 use Rattle.wallet_text.specs.declared.wallet.Watch.{Watch}
-use Rattle.wallet_text.specs.declared.wallet.Earlier.{Earlier}
+use Rattle.wallet_text.specs.PlainWallet.{Earlier}
 use Rattle.wallet_text.proofs.Rules.{Apart, spends_none, distinct_of}
 
 -- ---- entries

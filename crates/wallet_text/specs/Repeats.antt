@@ -4,7 +4,7 @@ use Rattle.json_fields.specs.Repeats.{IsFirstRepeat}
 use Rattle.wallet_text.specs.WalletText.{earlier_txids, told_index}
 use Rattle.wallet_text.specs.declared.fault.WalletFault.{WalletFault}
 use Rattle.wallet_text.specs.declared.fault.WalletFault.TheVariants as told
-use Rattle.wallet_text.specs.declared.wallet.Earlier.{Earlier}
+use Rattle.wallet_text.specs.PlainWallet.{Earlier}
 
 -- the first of the earlier transactions whose txid stood before it, as a fault tells its place
 pub record IsEarlierRepeat (earlier : List Earlier) (list : List ℕ) (index : ℕ) : Type 0 where

@@ -6,11 +6,10 @@ use Rattle.json_fields.specs.Rules.{wrong, said}
 use Rattle.serde_json.specs.Data.{Data}
 use Rattle.serde_json.specs.Find.{get}
 use Rattle.tx_codec.specs.Transaction.{Transaction}
-use Rattle.wallet_text.specs.PlainWallet.{PlainWallet}
+use Rattle.wallet_text.specs.PlainWallet.{Earlier, PlainWallet}
 use Rattle.wallet_text.specs.WalletText.{field, scripts_at, change_at, earlier_list_at, pending_list_at, abandoned_list_at, locked_list_at, lists_at}
 use Rattle.wallet_text.specs.declared.fault.Refusal.{Refusal}
 use Rattle.wallet_text.specs.declared.wallet.Watch.{Watch}
-use Rattle.wallet_text.specs.declared.wallet.Earlier.{Earlier}
 
 -- what the members say that others are judged by
 abbrev pub height_said : Data → ℕ

@@ -6,9 +6,8 @@ use Rattle.tx_codec.specs.Transaction.{Transaction}
 use Rattle.tx_codec.specs.TransactionText.{IsTransaction}
 use Rattle.tx_codec.specs.Txid.{txid_of}
 use Rattle.tx_codec.specs.declared.tx.TxIn.{TxIn}
-use Rattle.wallet_text.specs.PlainWallet.{PlainWallet}
+use Rattle.wallet_text.specs.PlainWallet.{Earlier, PlainWallet}
 use Rattle.wallet_text.specs.declared.wallet.Watch.{Watch}
-use Rattle.wallet_text.specs.declared.wallet.Earlier.{Earlier}
 
 -- a script of 1 to 10,000 bytes, and a weight that an input can have
 pub record IsWatch (w : Watch) : Type 0 where

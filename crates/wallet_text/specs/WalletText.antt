@@ -12,11 +12,10 @@ use Rattle.tx_codec.specs.Transaction.{Transaction}
 use Rattle.tx_codec.specs.Txid.{txid_of}
 use Rattle.tx_codec.specs.declared.fault.TxFault.TheVariants.{Trailing}
 use Rattle.tx_codec.specs.declared.tx.TxIn.{TxIn}
-use Rattle.wallet_text.specs.PlainWallet.{PlainWallet}
+use Rattle.wallet_text.specs.PlainWallet.{Earlier, PlainWallet}
 use Rattle.wallet_text.specs.declared.fault.Refusal.{Refusal}
 use Rattle.wallet_text.specs.declared.fault.Refusal.TheVariants.{Field, Script, Weight, Tx, Repeat, ParentLater}
 use Rattle.wallet_text.specs.declared.wallet.Watch.{Watch}
-use Rattle.wallet_text.specs.declared.wallet.Earlier.{Earlier}
 
 -- a fault of the form
 abbrev pub field : {A : Type 0} → Result A FieldFault → Result A Refusal

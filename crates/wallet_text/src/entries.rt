@@ -149,10 +149,7 @@ fn next_earlier(alloc: Global, most: u32, index: usize, value: &Value) -> Result
 {
     let (bytes, height) = earlier_of(alloc, most as u64, value)?;
     let tx = tx_in(alloc, "earlier", index, &bytes)?;
-    Ok(Earlier {
-        tx,
-        height: height as u32,
-    })
+    Ok(Earlier::new(tx, height as u32))
 }
 
 /// The earlier transactions, each with a height of at most `most`.

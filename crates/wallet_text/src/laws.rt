@@ -18,7 +18,7 @@ ghost use Rattle.wallet_text.specs.WalletText.{field, known_names, required_name
 ghost use Rattle.wallet_text.specs.declared.fault.Refusal.{Refusal};
 ghost use Rattle.wallet_text.specs.declared.fault.Refusal.TheVariants.{Script, Weight, Tx, Repeat, ParentLater};
 ghost use Rattle.wallet_text.specs.declared.wallet.Watch.{Watch};
-ghost use Rattle.wallet_text.specs.declared.wallet.Earlier.{Earlier};
+ghost use Rattle.wallet_text.specs.PlainWallet.{Earlier};
 
 /// The law of an entry of `scripts`, and of `change`, which isn't listed: Script comes exactly where it is listed
 /// before, empty or too long, and Weight where only its weight is out of its range.

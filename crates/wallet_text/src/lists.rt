@@ -19,7 +19,7 @@ fn earlier_txids(alloc: Global, earlier: &[Earlier]) -> Result<Vec<Txid>, Memory
 {
     let mut txids = Vec::new(alloc);
     for entry in earlier {
-        txids.push(txid(&entry.tx))?;
+        txids.push(entry.txid())?;
     }
     Ok(txids)
 }

@@ -1,8 +1,11 @@
 //! What the wallet file tells.
 
+ghost use Rattle.std.specs.Prelude.{◌≡◌};
+ghost use Rattle.tx_codec.specs.Txid.{txid_of};
+
 use fund_base::{OutPoint, Script, Txid};
 use std::marker::Model;
-use tx_codec::Tx;
+use tx_codec::{Tx, txid};
 
 /// A script that the wallet owns.
 #[derive(Debug, Drop)]
@@ -13,12 +16,42 @@ pub struct Watch {
     pub weight: u64,
 }
 
-/// A transaction that the chain holds before the block file begins.
+/// A transaction that the chain holds before the block file begins. It keeps its txid, which is computed once.
 #[derive(Debug, Drop)]
 pub struct Earlier {
     pub tx: Tx,
     /// The height of its block, at most that of the wallet.
     pub height: u32,
+    txid: Txid,
+}
+
+impl Model for Earlier {
+    ghost use Rattle.std.specs.Prelude.{◌≡◌};
+    ghost use Rattle.tx_codec.specs.Txid.{txid_of};
+    ghost use Rattle.wallet_text.specs.PlainWallet as plain;
+
+    ghost Value = { plain.Earlier };
+
+    ghost view = { λ e. record { tx = e.tx; height = e.height } };
+
+    ghost invariant = { λ e. e.txid ≡ txid_of e.tx };
+}
+
+impl Earlier {
+    /// A transaction, and the height at which it stands.
+    pub fn new(tx: Tx, height: u32) -> Earlier
+        ensures { result ≡ record { tx = tx; height = height } }
+    {
+        let txid = txid(&tx);
+        Earlier { tx, height, txid }
+    }
+
+    /// Its txid.
+    pub fn txid(&self) -> Txid
+        ensures { result ≡ txid_of self.now.tx }
+    {
+        self.txid
+    }
 }
 
 /// A wallet that only watches, at a height of the chain. Every wallet keeps the rules that stand with its fields.

@@ -11,7 +11,7 @@ use Rattle.json_fields.specs.Fields.{IsHash, IsPoint}
 use Rattle.request_text.specs.PlainRequest.{IsRecipient, IsRequest}
 use Rattle.tx_codec.specs.TransactionText.{IsTransaction}
 use Rattle.wallet_text.specs.WalletRules.{AreDistinctEarlier, IsEarlier, IsWallet}
-use Rattle.wallet_text.specs.declared.wallet.Earlier.{Earlier}
+use Rattle.wallet_text.specs.PlainWallet.{Earlier}
 use Rattle.workload.specs.Load.{paid_script, request_with, wallet_with}
 use Rattle.workload.specs.declared.kind.Kind.TheVariants.{WitnessKeyHash}
 use Rattle.workload.proofs.KindLaws.{watch_is, watches_apart, watches_are}

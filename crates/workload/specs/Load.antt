@@ -7,8 +7,7 @@ use Rattle.request_text.specs.declared.request.Method.TheVariants.{Auto}
 use Rattle.tx_codec.specs.Transaction.{Transaction}
 use Rattle.tx_codec.specs.declared.tx.TxIn.{TxIn}
 use Rattle.tx_codec.specs.declared.tx.TxOut.{TxOut}
-use Rattle.wallet_text.specs.PlainWallet.{PlainWallet}
-use Rattle.wallet_text.specs.declared.wallet.Earlier.{Earlier}
+use Rattle.wallet_text.specs.PlainWallet.{Earlier, PlainWallet}
 use Rattle.workload.specs.Coins.{coin_at, total_of}
 use Rattle.workload.specs.Kinds.{script_of, watch_of, watches}
 use Rattle.workload.specs.declared.coin.Coin.{Coin}

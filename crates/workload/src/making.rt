@@ -83,8 +83,7 @@ pub(crate) fn earlier_of(
     for index in 0..count {
         let coin = next_coin(&mut words);
         let tx = maker_of(alloc, index, &coin)?;
-        let entry = Earlier { tx, height: HEIGHT };
-        earlier.push(entry)?;
+        earlier.push(Earlier::new(tx, HEIGHT))?;
         total += coin.worth();
     }
     Ok((earlier, total))

@@ -1,6 +1,7 @@
 use Rattle.std.proofs.Common.{◌≡◌, ◌∙◌, ◌++◌, ◌∷◌, [], ◌+◌, sym, ap, subst, refl, None, List, map, take, drop, length, arith}
 use Rattle.coin_book.specs.Faults.{fault_behind}
-use Rattle.coin_book.specs.History.{Confirmed, confirmed_before}
+use Rattle.wallet_text.specs.PlainWallet.{Earlier}
+use Rattle.coin_book.specs.History.{Confirmed, confirmed_at, confirmed_before}
 use Rattle.coin_book.specs.Invariant.{HoldsChain, points_in, weigher}
 use Rattle.coin_book.proofs.ChainSteps.{all_of, next_of, no_chain, place_of, fault_early, fault_on}
 use Rattle.coin_book.proofs.earlier.ledger_of.Goals as goal
@@ -17,12 +18,13 @@ loop-index-preserved c =
     let weigh = weigher c.args.weights.now.entries in
     let front = map confirmed_before (take c.loop-index.index c.args.earlier.now) in
     let under = no_chain weigh c.new-base.result c.new-base.ensures.coins c.new-base.ensures.spends c.new-base.ensures.heights in
-    let next = next_of confirmed_before c.args.earlier.now c.loop-index.index c.index-earlier-index.result c.loop-index-test.true c.index-earlier-index.is in
+    let one = confirmed_at c.entry.inside.height c.entry.inside.tx in
+    let next = next_of confirmed_before c.args.earlier.now c.loop-index.index c.index-earlier-index.result c.loop-index-test.true c.index-earlier-index.is ∙ ap (λ (e : Earlier). front ++ confirmed_before e ∷ []) (sym c.entry.view_is) in
     let lt = c.loop-index-test.true in
     let at : c.loop-index.index ≡ length ([] ++ front) = let p = place_of confirmed_before [] c.args.earlier.now c.loop-index.index (omega arith) in omega arith in
     record {
       holds = subst (λ (l : List Confirmed). HoldsChain weigh [] l c.add.new.self) (sym next) (c.in-Ok.ensures.holds [] front under c.loop-index.invariant.holds at);
-      fresh = ap (λ (l : List Confirmed). fault_behind [] (points_in weigh l)) next ∙ fault_on weigh [] front (confirmed_before c.index-earlier-index.result) None c.loop-index.invariant.fresh (c.in-Ok.ensures.exact [] front under c.loop-index.invariant.holds);
+      fresh = ap (λ (l : List Confirmed). fault_behind [] (points_in weigh l)) next ∙ fault_on weigh [] front one None c.loop-index.invariant.fresh (c.in-Ok.ensures.exact [] front under c.loop-index.invariant.holds);
     }
 
 pub returns-in-Err-clause-exact : goal.returns-in-Err-clause-exact
@@ -30,9 +32,9 @@ returns-in-Err-clause-exact c = λ other.
     let weigh = weigher c.args.weights.now.entries in
     let i = c.loop-index.index in
     let front = map confirmed_before (take i c.args.earlier.now) in
-    let one = confirmed_before c.index-earlier-index.result in
+    let one = confirmed_at c.entry.inside.height c.entry.inside.tx in
     let under = no_chain weigh c.new-base.result c.new-base.ensures.coins c.new-base.ensures.spends c.new-base.ensures.heights in
-    let next = next_of confirmed_before c.args.earlier.now i c.index-earlier-index.result c.loop-index-test.true c.index-earlier-index.is in
+    let next = next_of confirmed_before c.args.earlier.now i c.index-earlier-index.result c.loop-index-test.true c.index-earlier-index.is ∙ ap (λ (e : Earlier). front ++ confirmed_before e ∷ []) (sym c.entry.view_is) in
     let all = all_of confirmed_before c.args.earlier.now (i + 1) ∙ ap (λ (l : List Confirmed). l ++ map confirmed_before (drop (i + 1) c.args.earlier.now)) next in
     ap (λ (l : List Confirmed). fault_behind [] (points_in weigh l)) all
     ∙ fault_early weigh [] (front ++ one ∷ []) (map confirmed_before (drop (i + 1) c.args.earlier.now)) c.in-Err.fault
