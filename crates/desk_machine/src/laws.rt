@@ -7,6 +7,7 @@ ghost use Rattle.fund_base.specs.Candidates.{AreCandidates};
 ghost use Rattle.fund_base.specs.Cursor.{IsBytes};
 ghost use Rattle.fund_base.specs.declared.candidate.Candidate.{Candidate};
 ghost use Rattle.fund_plan.specs.State.{PlanState, moved, told};
+ghost use Rattle.search_run.specs.Found.{PlainFound};
 ghost use Rattle.fund_steps.specs.Plan.{PlainPlan};
 ghost use Rattle.request_text.specs.PlainRequest.{PlainRequest};
 ghost use Rattle.desk_machine.specs.Commits.{IsFirstTaken, IsSpendable};
@@ -62,9 +63,10 @@ pub fn finished_jobs_reply_again()
 {}
 
 /// The law of turns that ran out of memory: some of their tries were made, and from there the turns behind them go on as
-/// after these tries.
+/// after these tries. A job of which a result was taken for want of tries is left as it was.
 pub fn jobs_go_on_from_the_tries_made()
-    ensures { (old new : Job) (n : ℕ) → old.state.partial ≡ None → IsLagging old n new → (made : ℕ) × (made ≤ n) × ((m : ℕ) → moved new.state m ≡ moved old.state (made + m)) }
+    ensures taken { (old new : Job) (n : ℕ) (f : PlainFound) → old.state.partial ≡ Some f → IsLagging old n new → new ≡ old }
+    ensures goes { (old new : Job) (n : ℕ) → old.state.partial ≡ None → IsLagging old n new → (made : ℕ) × (made ≤ n) × ((m : ℕ) → moved new.state m ≡ moved old.state (made + m)) }
 {}
 
 /// The law of coins that are taken: one is shown exactly where a coin of the payment can't be spent, and it is the first such

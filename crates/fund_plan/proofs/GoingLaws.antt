@@ -84,6 +84,9 @@ left_after m made most k h = omega arith
 granted_whole : (n left : ℕ) → min (min n left) left ≡ min n left
 granted_whole n left = omega arith
 
+pub cut_stays : (s t : PlanState) (f : PlainFound) (n : ℕ) → s.partial ≡ Some f → IsCutShort s n t → t ≡ s
+cut_stays s t f n is cut = λ k. record { plan = cut.plan k; stand = cut.taken f is k; partial = cut.partial k }
+
 pub cut_goes : (s t : PlanState) (n : ℕ) → s.partial ≡ None → IsCutShort s n t → GoesOnFrom s n t
 cut_goes s t n none cut =
     elim cut.stand [

@@ -52,11 +52,12 @@ abbrev pub told : PlanState → Outcome
 told s = by_end s.plan (end_in s)
 
 -- Where it is left by a call that ran out of memory: it is the same plan, and its run stands where some of the tries lead,
--- or where all of them do.
+-- or where all of them do. One of which a result was taken stays where it stands.
 pub record IsCutShort (old : PlanState) (budget : ℕ) (new : PlanState) : Type 0 where
   pub plan : new.plan ≡ old.plan
   pub partial : new.partial ≡ old.partial
   pub stand : ((k : ℕ) × (k ≤ granted old budget) × Leads old.plan.request.seed old.stand k new.stand) ⊎ (new.stand ≡ led old.plan old.stand (granted old budget))
+  pub taken : (f : PlainFound) → old.partial ≡ Some f → new.stand ≡ old.stand
 
 -- Some of the tries were made, and from there it goes on as after them.
 pub record GoesOnFrom (old : PlanState) (n : ℕ) (new : PlanState) : Type 0 where

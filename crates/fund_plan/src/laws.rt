@@ -150,6 +150,7 @@ pub fn plans_go_on()
     ensures pieces { (s : PlanState) (n m : ℕ) → (moved s n).partial ≡ None → moved (moved s n) m ≡ moved s (n + m) }
     ensures cut { (s t : PlanState) (n : ℕ) → s.partial ≡ None → IsCutShort s n t → GoesOnFrom s n t }
     ensures taken { (s : PlanState) (f : PlainFound) (n : ℕ) → s.partial ≡ Some f → moved s n ≡ s }
+    ensures cut_taken { (s t : PlanState) (f : PlainFound) (n : ℕ) → s.partial ≡ Some f → IsCutShort s n t → t ≡ s }
     ensures over { (s : PlanState) (n : ℕ) → s.partial ≡ None → s.stand.left ≡ [] → told (moved s n) ≡ told s }
 {}
 
