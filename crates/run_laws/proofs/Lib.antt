@@ -1,0 +1,4 @@
+pub mod EndingLaws
+pub mod HandLaws
+pub mod OrderLaws
+pub mod SearchedLaws
