@@ -1,13 +1,15 @@
 -- How a check ends, by how its parts do.
 use Rattle.std.proofs.Common.{◌≡◌, ◌∙◌, ℕ, List, inl, inr, refl, sym, ap, subst}
-use Rattle.std.specs.Prelude.{◌⊎◌}
+use Rattle.std.specs.Prelude.{◌⊎◌, ◌++◌, codes}
 use Rattle.fund_base.specs.Causes.{ShelfView, SinkView, Rose}
+use Rattle.command_end.proofs.WholeLaws.{answered_stops, wanting_stops}
 use Rattle.command_end.specs.AnswerLines.{IsWanting}
 use Rattle.command_end.specs.Lines.{GotLine, fault_line}
 use Rattle.command_end.specs.Names.{Sources}
-use Rattle.command_end.specs.Printed.{IsPut}
+use Rattle.command_end.specs.Printed.{IsPut, TellsWhole}
 use Rattle.command_end.specs.declared.status.Status.{Status}
 use Rattle.command_end.specs.declared.status.Status.TheVariants as statuses
+use Rattle.command_fund.proofs.Finished as payment_laws
 use Rattle.command_fund.proofs.Finished.{refusal_status}
 use Rattle.command_fund.specs.Cause.{cause_of, status_of_cause}
 use Rattle.command_fund.specs.Names.{Payment}
@@ -19,10 +21,11 @@ use Rattle.command_fund.specs.declared.refusal.Refusal.{Refusal}
 use Rattle.command_fund.specs.declared.refusal.Stop.{Stop as PaymentStop}
 use Rattle.command_fund.specs.declared.refusal.Stop.TheVariants as payments
 use Rattle.command_check.proofs.OutcomeLaws.{one_outcome}
+use Rattle.command_check.specs.Evidence.{evidence_name}
 use Rattle.command_check.specs.Due.{Accepted, Broken, ComesTo, IsAnAcceptance, Outcome, Refused, TooLong, status_of}
 use Rattle.command_check.specs.Statuses.{Ends, IsVouched, NoneFailed, NoneUnread}
 use Rattle.command_check.specs.Stops.{StopsFor}
-use Rattle.command_check.specs.Words.{IsStopped}
+use Rattle.command_check.specs.Words.{IsStopped, check_fault_words, evidence_word}
 use Rattle.command_check.specs.declared.stop.Stop.{Stop}
 use Rattle.command_check.specs.declared.stop.Stop.TheVariants as stops
 
@@ -106,3 +109,11 @@ module _ (told_files told : Type 0) (s : Sources) (p : Payment) (report : List �
 
     pub ends_complete : NoneFailed s p report shelf shelf' sink sink' → (result : Status) → Ends told_files told s p report shelf shelf' sink sink' result → (result ≡ status_of o) ⊎ (result ≡ statuses.Memory)
     ends_complete none result h = or_less result (ends_due none.reads result h) (λ a rose. none.sinks rose)
+
+-- no stop is told as an acceptance
+pub stop_untold : (told : Type 0) (s : Sources) (p : Payment) (report : List ℕ) (stop : Stop) (sink sink' : SinkView) (result : Status) → IsStopped told s p report stop sink sink' result → TellsWhole result → ⊥
+stop_untold told s p report (stops.Payment stop) sink sink' result a whole = payment_laws.stop_untold told s p stop sink sink' result a whole
+stop_untold told s p report (stops.Read file) sink sink' result a whole = answered_stops told (codes "read " ++ evidence_name p report file) statuses.ReadFault sink sink' result (λ w. w) a whole
+stop_untold told s p report (stops.TooLong file) sink sink' result a whole = answered_stops told (codes "limit " ++ evidence_word file) statuses.Limit sink sink' result (λ w. w) a whole
+stop_untold told s p report (stops.Broken fault) sink sink' result a whole = answered_stops told (codes "check " ++ check_fault_words fault) statuses.CheckRefused sink sink' result (λ w. w) a whole
+stop_untold told s p report stops.Memory sink sink' result a whole = wanting_stops told sink sink' result a whole

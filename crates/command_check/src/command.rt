@@ -4,6 +4,7 @@ ghost use Rattle.std.specs.Prelude.{◌≡◌, ◌≢◌, ◌⊎◌};
 ghost use Rattle.fund_base.specs.Causes.{CountsNeverFall, OnlyReads};
 ghost use Rattle.fund_steps.specs.Plan.{PlainPlan};
 ghost use Rattle.command_end.specs.Names.{plain_sources};
+ghost use Rattle.command_end.specs.Printed.{TellsWhole, TookAll};
 ghost use Rattle.command_fund.specs.Inputs.{NoneBehind};
 ghost use Rattle.command_fund.specs.Names.{plain_payment};
 ghost use Rattle.command_check.specs.Asked.{AsksInOrder, AsksNoLog, AsksPayment};
@@ -35,6 +36,7 @@ fn verdict<H: Shelf, O: Sink>(
     ensures no_log { H.tells → (HasLoggedReport ((H.view shelf.old).files report.now) → ⊥) → AsksNoLog (plain_sources sources.now) (plain_payment payment.now) report.now (H.view shelf.old) (H.view shelf.new) }
     ensures unread { H.tells → ((plan : PlainPlan) → HavePlan (H.view shelf.old).files (plain_sources sources.now) (plain_payment payment.now) plan → ⊥) → AsksPayment (plain_sources sources.now) (plain_payment payment.now) (H.view shelf.old) (H.view shelf.new) }
     ensures all_read { result ≢ Status.ReadFault → (H.view shelf.new).reads ≡ (H.view shelf.old).reads }
+    ensures all_put { TellsWhole result → TookAll (O.view out.old) (O.view out.new) }
 {
     match accepted(alloc, sources, payment, report, shelf) {
         Ok(text) => put_report(text.as_bytes(), Status::Done, out),
@@ -68,8 +70,9 @@ pub fn check<H: Shelf, O: Sink>(
     // Where no count rose, the status is that of what the files come to, or want of memory.
     ensures complete { H.tells → NoneFailed (plain_sources sources.now) (plain_payment payment.now) report.now (H.view shelf.old) (H.view shelf.new) (O.view out.old) (O.view out.new) → (o : Outcome) → ComesTo (H.view shelf.old).files (plain_sources sources.now) (plain_payment payment.now) report.now o → (result ≡ status_of o) ⊎ (result ≡ Status.Memory) }
 
-    // A read that failed is told as that, and as nothing else.
+    // A read that failed is told as that, and as nothing else; an output that failed is never told as an acceptance.
     ensures all_read { result ≢ Status.ReadFault → (H.view shelf.new).reads ≡ (H.view shelf.old).reads }
+    ensures all_put { TellsWhole result → TookAll (O.view out.old) (O.view out.new) }
 
     // Nothing is written.
     ensures frame { OnlyReads H.tells (H.view shelf.old) (H.view shelf.new) }

@@ -5,6 +5,7 @@ ghost use Rattle.fund_base.specs.Causes.{Asks, CountsNeverFall, OnlyReads};
 ghost use Rattle.fund_files.specs.Cause.{FileCause};
 ghost use Rattle.fund_files.specs.FileStops.{IsWalletCause, StopsChain, is_of_wallet};
 ghost use Rattle.command_end.specs.Names.{plain_sources};
+ghost use Rattle.command_end.specs.Printed.{TellsWhole, TookAll};
 ghost use Rattle.command_coins.specs.Answer.{IsStopped};
 ghost use Rattle.command_coins.specs.Due.{name_of};
 ghost use Rattle.command_coins.specs.Statuses.{AsksToUnread, Ends, IsListed};
@@ -68,8 +69,9 @@ pub fn coins<H: Shelf, O: Sink>(
 ) -> Status
     // By the status: what was found in the files, and what the sink has got.
     ensures ends { Ends H.tells O.tells (plain_sources sources.now) (H.view shelf.old) (H.view shelf.new) (O.view out.old) (O.view out.new) result }
-    // A read that failed is told as that, and as nothing else.
+    // A read that failed is told as that, and as nothing else; an output that failed is never told as a listing.
     ensures all_read { result ≢ Status.ReadFault → (H.view shelf.new).reads ≡ (H.view shelf.old).reads }
+    ensures all_put { TellsWhole result → TookAll (O.view out.old) (O.view out.new) }
     // Nothing is written.
     ensures frame { OnlyReads H.tells (H.view shelf.old) (H.view shelf.new) }
 

@@ -1,6 +1,6 @@
 -- How the command ends, by how its parts do.
 use Rattle.std.proofs.Common.{◌≡◌, ◌∙◌, ℕ, List, inl, inr, refl, sym, ap, subst}
-use Rattle.std.specs.Prelude.{◌⊎◌}
+use Rattle.std.specs.Prelude.{◌⊎◌, ◌++◌, codes}
 use Rattle.fund_base.specs.Causes.{ShelfView, SinkView, Rose}
 use Rattle.fund_files.specs.Cause as causes
 use Rattle.fund_files.specs.Cause.{FileCause, cause_of}
@@ -8,18 +8,20 @@ use Rattle.fund_files.specs.FileStops as chain_stops
 use Rattle.fund_files.specs.declared.refusal.FileRefusal.{FileRefusal}
 use Rattle.fund_files.specs.declared.stop.Stop.{Stop as ChainStop}
 use Rattle.fund_files.specs.declared.stop.Stop.TheVariants as chains
+use Rattle.command_coins.proofs.EndsLaws as chain_laws
 use Rattle.command_coins.specs.Answer as chain_answers
+use Rattle.command_end.proofs.WholeLaws.{answered_stops, not_whole, wanting_stops}
 use Rattle.command_end.specs.AnswerLines.{IsWanting}
 use Rattle.command_end.specs.Lines.{GotLine, fault_line, file_refusal_words, status_of_file}
 use Rattle.command_end.specs.Names.{Sources}
-use Rattle.command_end.specs.Printed.{IsPut}
+use Rattle.command_end.specs.Printed.{IsPut, TellsWhole}
 use Rattle.command_end.specs.declared.status.Status.{Status}
 use Rattle.command_end.specs.declared.status.Status.TheVariants as statuses
 use Rattle.command_complete.proofs.OutcomeLaws.{one_outcome}
 use Rattle.command_complete.specs.Due.{BadPsbt, ComesTo, Completed, IsACompletion, Outcome, Refused, TooLong, status_of}
 use Rattle.command_complete.specs.Statuses.{Ends, IsPrinted, NoneFailed, NoneUnread}
 use Rattle.command_complete.specs.Stops.{StopsFor}
-use Rattle.command_complete.specs.Words.{IsStopped}
+use Rattle.command_complete.specs.Words.{IsStopped, refusal_words}
 use Rattle.command_complete.specs.declared.stop.Stop.{Stop}
 use Rattle.command_complete.specs.declared.stop.Stop.TheVariants as stops
 
@@ -111,3 +113,11 @@ module _ (told_files told : Type 0) (s : Sources) (name : List ℕ) (shelf shelf
 
     pub ends_complete : NoneFailed s name shelf shelf' sink sink' → (result : Status) → Ends told_files told s name shelf shelf' sink sink' result → (result ≡ status_of o) ⊎ (result ≡ statuses.Memory)
     ends_complete none result h = or_less result (ends_due none.reads result h) (λ a rose. none.sinks rose)
+
+-- no stop is told as a PSBT made whole
+pub stop_untold : (told : Type 0) (s : Sources) (name : List ℕ) (stop : Stop) (sink sink' : SinkView) (result : Status) → IsStopped told s name stop sink sink' result → TellsWhole result → ⊥
+stop_untold told s name (stops.Chain stop) sink sink' result a whole = chain_laws.stop_untold told s stop sink sink' result a whole
+stop_untold told s name stops.Read sink sink' result a whole = answered_stops told (codes "read " ++ name) statuses.ReadFault sink sink' result (λ w. w) a whole
+stop_untold told s name stops.TooLong sink sink' result a whole = not_whole statuses.Limit result (λ w. w) a.0 whole
+stop_untold told s name (stops.Refused refusal) sink sink' result a whole = answered_stops told (refusal_words refusal) statuses.Input sink sink' result (λ w. w) a whole
+stop_untold told s name stops.Memory sink sink' result a whole = wanting_stops told sink sink' result a whole

@@ -6,6 +6,7 @@ ghost use Rattle.coin_book.specs.History.{History};
 ghost use Rattle.fund_files.specs.Cause.{FileCause};
 ghost use Rattle.fund_files.specs.FileStops.{IsWalletCause};
 ghost use Rattle.command_end.specs.Names.{plain_sources};
+ghost use Rattle.command_end.specs.Printed.{TellsWhole, TookAll};
 ghost use Rattle.command_complete.specs.Asked.{AsksChain, AsksInOrder, AsksToUnread};
 ghost use Rattle.command_complete.specs.Due.{ComesTo, HasBook, IsACompletion, Outcome, status_of};
 ghost use Rattle.command_complete.specs.Statuses.{Ends, NoneFailed, NoneUnread};
@@ -28,6 +29,7 @@ fn printed<H: Shelf, O: Sink>(
     ensures frame { OnlyReads H.tells (H.view shelf.old) (H.view shelf.new) }
     ensures counts { CountsNeverFall (O.view out.old) (O.view out.new) }
     ensures all_read { result ≢ Status.ReadFault → (H.view shelf.new).reads ≡ (H.view shelf.old).reads }
+    ensures all_put { TellsWhole result → TookAll (O.view out.old) (O.view out.new) }
     ensures asked { H.tells → AsksInOrder (plain_sources sources.now) psbt.now (H.view shelf.old) (H.view shelf.new) }
     ensures unread_last { H.tells → result ≡ Status.ReadFault → AsksToUnread (plain_sources sources.now) psbt.now (H.view shelf.old) (H.view shelf.new) }
     ensures refused_alone { H.tells → (cause : FileCause) → IsWalletCause ((H.view shelf.old).files sources.now.wallet.now) cause → Asks (sources.now.wallet.now ∷ []) (H.view shelf.old).asked (H.view shelf.new).asked }
@@ -61,9 +63,11 @@ pub fn complete<H: Shelf, O: Sink>(
     // Where no count rose, the status is that of what the files come to, or want of memory.
     ensures complete { H.tells → NoneFailed (plain_sources sources.now) psbt.now (H.view shelf.old) (H.view shelf.new) (O.view out.old) (O.view out.new) → (o : Outcome) → ComesTo (H.view shelf.old).files (plain_sources sources.now) psbt.now o → (result ≡ status_of o) ⊎ (result ≡ Status.Memory) }
 
-    // Nothing is written; and a read that failed is told as that, and as nothing else.
+    // Nothing is written; a read that failed is told as that, and as nothing else; and an output that failed is never told as
+    // a PSBT made whole.
     ensures frame { OnlyReads H.tells (H.view shelf.old) (H.view shelf.new) }
     ensures all_read { result ≢ Status.ReadFault → (H.view shelf.new).reads ≡ (H.view shelf.old).reads }
+    ensures all_put { TellsWhole result → TookAll (O.view out.old) (O.view out.new) }
     ensures counts { CountsNeverFall (O.view out.old) (O.view out.new) }
 
     // It asks for the wallet file, the block file and the PSBT file, in this order, and for no other name: for none after

@@ -3,16 +3,18 @@ use Rattle.std.specs.Prelude.{ℕ, ◌≡◌, List, [], ◌∷◌, ◌++◌, Boo
 use Rattle.std.proofs.Common.{refl, sym, ap, ◌∙◌, subst, inl, inr}
 use Rattle.fund_base.specs.Causes.{Asks, HasPart, Rose, ShelfView, SinkView}
 use Rattle.fund_base.proofs.Outside.{rose_earlier}
+use Rattle.command_end.proofs.WholeLaws.{not_whole, wanting_stops}
 use Rattle.command_end.specs.AnswerLines.{IsWanting}
 use Rattle.command_end.specs.Lines.{GotLine, fault_line}
+use Rattle.command_end.specs.Printed.{TellsWhole}
 use Rattle.command_end.specs.declared.status.Status.{Status}
 use Rattle.command_end.specs.declared.status.Status.TheVariants as statuses
 use Rattle.desk_machine.specs.State.{PlainDesk}
-use Rattle.desk_script.specs.Line.{line_of, wanted}
+use Rattle.desk_script.specs.Line.{Line, line_of, wanted}
 use Rattle.desk_script.specs.Script.{lines_of}
 use Rattle.command_desk.specs.Asked.{file_in}
 use Rattle.command_desk.specs.Course.{Answers, IsCommandLine, IsLong, file_name, long_word}
-use Rattle.command_desk.specs.Halts.{EndsAt, HaltsLine, HasPutPart, IsUnreadLine}
+use Rattle.command_desk.specs.Halts.{EndsAt, EndsFirst, HaltsLine, HasPutPart, IsUnreadLine, status_of}
 use Rattle.command_desk.specs.Running.{GotBefore, RunsOn, StandsAt, StopsAt, StopsInside}
 use Rattle.command_desk.specs.declared.halt.Halt.{Halt}
 use Rattle.command_desk.specs.declared.halt.Halt.TheVariants as halts
@@ -121,3 +123,23 @@ module _ (told_files told : Type 0) (text : List ℕ) (d : PlainDesk) (shelf : S
   pub halt_ends : (halt : Halt) (result : Status) → HaltsLine told_files told (line_of words) now shelf' shelf'' sink' sink'' halt → EndsAt told (line_of words) halt is_first sink'' sink''' result → RunsOn told_files told [] text d shelf shelf'' sink sink''' result
   unfolding EndsAs
   halt_ends halt result x e = by_first is_first refl halt result x e
+
+-- ---- no line that isn't done is told as done
+
+status_untold : (halt : Halt) → TellsWhole (status_of halt) → ⊥
+status_untold halts.Unread whole = whole
+status_untold halts.TooLong whole = whole
+status_untold halts.Unwritten whole = whole
+status_untold halts.Full whole = whole
+status_untold halts.Memory whole = whole
+
+first_untold : (told : Type 0) (line : Line) (halt : Halt) (sink sink' : SinkView) (result : Status) → EndsFirst told line halt sink sink' result → TellsWhole result → ⊥
+first_untold told line halts.Unread sink sink' result a whole = not_whole statuses.ReadFault result (λ w. w) a.0 whole
+first_untold told line halts.TooLong sink sink' result a whole = not_whole statuses.Limit result (λ w. w) a.0 whole
+first_untold told line halts.Unwritten sink sink' result a whole = not_whole statuses.WriteFault result (λ w. w) a.0 whole
+first_untold told line halts.Full sink sink' result a whole = not_whole statuses.Memory result (λ w. w) a.0 whole
+first_untold told line halts.Memory sink sink' result a whole = wanting_stops told sink sink' result a whole
+
+pub end_untold : (told : Type 0) (line : Line) (halt : Halt) (is_first : Bool) (sink sink' : SinkView) (result : Status) → EndsAt told line halt is_first sink sink' result → TellsWhole result → ⊥
+end_untold told line halt true sink sink' result a whole = first_untold told line halt sink sink' result a whole
+end_untold told line halt false sink sink' result a whole = not_whole (status_of halt) result (status_untold halt) a.0 whole

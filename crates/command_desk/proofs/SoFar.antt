@@ -5,6 +5,8 @@ use Rattle.std.proofs.lemmas.List.{append-nil}
 use Rattle.fund_base.specs.Causes.{Asks, CountsNeverFall, OnlyReads, ShelfView, SinkView}
 use Rattle.fund_base.proofs.Asking.{asks_first, asks_then}
 use Rattle.fund_files.proofs.FrameLaws.{only_reads_on}
+use Rattle.command_end.proofs.WholeLaws.{took_on}
+use Rattle.command_end.specs.Printed.{TookAll}
 use Rattle.desk_machine.specs.State.{PlainDesk}
 use Rattle.desk_script.specs.Line.{line_of, wanted}
 use Rattle.desk_script.specs.Script.{lines_of}
@@ -32,6 +34,7 @@ pub record SoFar (told_files told : Type 0) (text : List ℕ) (d : PlainDesk) (s
   pub frame : OnlyReads told_files shelf shelf'
   pub all_read : shelf'.reads ≡ shelf.reads
   pub counts : CountsNeverFall sink sink'
+  pub took : TookAll sink sink'
 
 some_before : (front : List (List ℕ)) (line : List ℕ) → (l : List ℕ) × (lines : List (List ℕ)) × (front ++ line ∷ [] ≡ l ∷ lines)
 some_before [] line = (line, [], refl)
@@ -60,8 +63,8 @@ module _ (told_files told : Type 0) (text : List ℕ) (d : PlainDesk) (shelf : S
   }
 
   pub so_far_more : (e : PlainDesk) (shelf'' : ShelfView) (sink'' : SinkView) → IsDoneLine told_files told shelf'.files (line_of words) now e sink' sink'' → (told_files → Asks (file_in (wanted (line_of words))) shelf'.asked shelf''.asked)
-      → OnlyReads told_files shelf' shelf'' → shelf''.reads ≡ shelf'.reads → CountsNeverFall sink' sink'' → SoFar told_files told text d shelf sink behind e false shelf'' sink''
-  so_far_more e shelf'' sink'' done asked frame all_read counts = record {
+      → OnlyReads told_files shelf' shelf'' → shelf''.reads ≡ shelf'.reads → CountsNeverFall sink' sink'' → TookAll sink' sink'' → SoFar told_files told text d shelf sink behind e false shelf'' sink''
+  so_far_more e shelf'' sink'' done asked frame all_read counts took = record {
     front = h.front ++ words ∷ [];
     printed = h.printed ++ done.printed;
     parts = h.parts ∙ ap (λ (ls : List (List ℕ)). h.front ++ ls) next ∙ sym (append_assoc h.front (words ∷ []) (lines_of behind));
@@ -72,6 +75,7 @@ module _ (told_files told : Type 0) (text : List ℕ) (d : PlainDesk) (shelf : S
     frame = only_reads_on told_files shelf shelf' shelf'' h.frame frame;
     all_read = all_read ∙ h.all_read;
     counts = record { faults = omega (arith, h.counts.faults, counts.faults); refusals = omega (arith, h.counts.refusals, counts.refusals) };
+    took = took_on sink sink' sink'' h.took took;
   }
 
 -- no line is left

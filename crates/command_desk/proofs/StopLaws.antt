@@ -13,10 +13,13 @@ use Rattle.fund_files.specs.declared.refusal.FileRefusal.{FileRefusal}
 use Rattle.fund_files.specs.declared.refusal.FileRefusal.TheVariants as refusals
 use Rattle.fund_files.specs.declared.stop.Stop as reads
 use Rattle.fund_files.specs.declared.stop.Stop.TheVariants as reading
+use Rattle.command_coins.proofs.EndsLaws as chains
 use Rattle.command_coins.specs.Answer as listings
+use Rattle.command_end.proofs.WholeLaws.{not_whole, wanting_stops}
 use Rattle.command_end.specs.AnswerLines.{IsWanting}
 use Rattle.command_end.specs.Lines.{GotLine, fault_line, file_refusal_words, status_of_file}
 use Rattle.command_end.specs.Names.{Sources}
+use Rattle.command_end.specs.Printed.{TellsWhole}
 use Rattle.command_end.specs.declared.status.Status.{Status}
 use Rattle.command_end.specs.declared.status.Status.TheVariants as statuses
 use Rattle.command_desk.specs.Asked.{NoneBehind, first_names}
@@ -94,3 +97,10 @@ module _ (told_files told : Type 0) (s : Sources) (script : List ℕ) (shelf she
   stop_ends stops.Unread result h a = subst EndsAs (sym a.0) (inl (inr (h.0, h.1, h.2, a.1)))
   stop_ends stops.TooLong result h a = subst EndsAs (sym a.0) (inl (inr (h, a.1)))
   stop_ends stops.Memory result h w = wanting_ends result w
+
+-- no stop is told as done
+pub stop_untold : (told : Type 0) (s : Sources) (script : List ℕ) (stop : Stop) (sink sink' : SinkView) (result : Status) → IsStopped told s script stop sink sink' result → TellsWhole result → ⊥
+stop_untold told s script (stops.Chain stop) sink sink' result a whole = chains.stop_untold told s stop sink sink' result a whole
+stop_untold told s script stops.Unread sink sink' result a whole = not_whole statuses.ReadFault result (λ w. w) a.0 whole
+stop_untold told s script stops.TooLong sink sink' result a whole = not_whole statuses.Limit result (λ w. w) a.0 whole
+stop_untold told s script stops.Memory sink sink' result a whole = wanting_stops told sink sink' result a whole

@@ -3,6 +3,7 @@
 ghost use Rattle.std.specs.Prelude.{◌≡◌, ◌≢◌, ◌⊎◌, ◌++◌};
 ghost use Rattle.fund_base.specs.Causes.{Asks, CountsNeverFall, OnlyReads};
 ghost use Rattle.command_end.specs.Names.{plain_sources};
+ghost use Rattle.command_end.specs.Printed.{TellsWhole, TookAll};
 ghost use Rattle.desk_script.specs.Script.{lines_of};
 ghost use Rattle.command_desk.specs.Asked.{NoneBehind, files_in, first_names};
 ghost use Rattle.command_desk.specs.Due.{IsRefusal, due_of, status_of};
@@ -27,6 +28,7 @@ fn run_desk<H: Shelf, O: Sink>(
     ensures frame { OnlyReads H.tells (H.view shelf.old) (H.view shelf.new) }
     ensures counts { CountsNeverFall (O.view out.old) (O.view out.new) }
     ensures all_read { result ≢ Status.ReadFault → (H.view shelf.new).reads ≡ (H.view shelf.old).reads }
+    ensures all_put { TellsWhole result → TookAll (O.view out.old) (O.view out.new) }
     ensures asked { H.tells → Asks (first_names (plain_sources sources.now) script.now ++ files_in (lines_of ((H.view shelf.old).files script.now))) (H.view shelf.old).asked (H.view shelf.new).asked }
     ensures none_behind { H.tells → NoneBehind (plain_sources sources.now) script.now (H.view shelf.old) (H.view shelf.new) }
 {
@@ -61,8 +63,9 @@ pub fn desk<H: Shelf, O: Sink>(
     // Where no count rose, the status is that of what the files come to, or want of memory.
     ensures complete { H.tells → NoneFailed (plain_sources sources.now) script.now (H.view shelf.old) (H.view shelf.new) (O.view out.old) (O.view out.new) → (result ≡ status_of (due_of (H.view shelf.old).files (plain_sources sources.now) script.now)) ⊎ (result ≡ Status.Memory) }
 
-    // A read that failed is told as that, and as nothing else.
+    // A read that failed is told as that, and as nothing else; an output that failed is never told as done.
     ensures all_read { result ≢ Status.ReadFault → (H.view shelf.new).reads ≡ (H.view shelf.old).reads }
+    ensures all_put { TellsWhole result → TookAll (O.view out.old) (O.view out.new) }
 
     // Nothing is written.
     ensures frame { OnlyReads H.tells (H.view shelf.old) (H.view shelf.new) }

@@ -2,6 +2,7 @@
 
 ghost use Rattle.std.specs.Prelude.{◌≡◌, ◌≢◌, ◌++◌, IfErr, IfOk, IfSome, OnErr, OnOk, option_map, string_bytes};
 ghost use Rattle.fund_base.specs.Causes.{Asks, CountsNeverFall, OnlyReads};
+ghost use Rattle.command_end.specs.Printed.{TookAll};
 ghost use Rattle.desk_machine.specs.Commands.{IsCommand, plain_command};
 ghost use Rattle.desk_machine.specs.Machine.{step_of};
 ghost use Rattle.desk_machine.specs.Replies.{plain_reply};
@@ -50,6 +51,7 @@ fn reply_to(
 fn put<O: Sink>(text: &[u8], out: &mut O) -> Result<(), Halt>
     ensures all { O.tells → OnOk result ((O.view out.new).written ≡ (O.view out.old).written ++ text.now) }
     ensures halt { IfErr result (HaltsPutting O.tells text.now (O.view out.old) (O.view out.new)) }
+    ensures all_put { OnOk result (TookAll (O.view out.old) (O.view out.new)) }
     ensures counts { CountsNeverFall (O.view out.old) (O.view out.new) }
 {
     match put_all(out, text) {
@@ -69,6 +71,7 @@ fn reply_by<O: Sink>(
     requires { IfSome command.now (λ c. IsCommand (plain_command c)) }
     ensures done { OnOk result (IsReplied O.tells (plain_line line.now) (option_map plain_command command.now) desk.old desk.new (O.view out.old) (O.view out.new)) }
     ensures halt { IfErr result (HaltsReplying O.tells (plain_line line.now) (option_map plain_command command.now) desk.old (O.view out.old) (O.view out.new)) }
+    ensures all_put { OnOk result (TookAll (O.view out.old) (O.view out.new)) }
     ensures counts { CountsNeverFall (O.view out.old) (O.view out.new) }
 {
     match command {
@@ -93,6 +96,7 @@ pub fn do_line<H: Shelf, O: Sink>(
     ensures halt { IfErr result (HaltsLine H.tells O.tells (plain_line line.now) desk.old (H.view shelf.old) (H.view shelf.new) (O.view out.old) (O.view out.new)) }
     ensures asked { H.tells → Asks (file_in (wanted (plain_line line.now))) (H.view shelf.old).asked (H.view shelf.new).asked }
     ensures all_read { result ≢ Err Halt.Unread → (H.view shelf.new).reads ≡ (H.view shelf.old).reads }
+    ensures all_put { OnOk result (TookAll (O.view out.old) (O.view out.new)) }
     ensures frame { OnlyReads H.tells (H.view shelf.old) (H.view shelf.new) }
     ensures counts { CountsNeverFall (O.view out.old) (O.view out.new) }
 {

@@ -2,6 +2,7 @@
 
 ghost use Rattle.std.specs.Prelude.{◌≡◌, ◌≢◌, []};
 ghost use Rattle.fund_base.specs.Causes.{Asks, CountsNeverFall, OnlyReads};
+ghost use Rattle.command_end.specs.Printed.{TellsWhole, TookAll};
 ghost use Rattle.desk_script.specs.Script.{lines_of};
 ghost use Rattle.command_desk.specs.Asked.{files_in};
 ghost use Rattle.command_desk.specs.Running.{RunsOn};
@@ -26,6 +27,7 @@ pub fn run_lines<H: Shelf, O: Sink>(
     ensures runs { RunsOn H.tells O.tells [] script.now desk.old (H.view shelf.old) (H.view shelf.new) (O.view out.old) (O.view out.new) result }
     ensures asked { H.tells → Asks (files_in (lines_of script.now)) (H.view shelf.old).asked (H.view shelf.new).asked }
     ensures all_read { result ≢ Status.ReadFault → (H.view shelf.new).reads ≡ (H.view shelf.old).reads }
+    ensures all_put { TellsWhole result → TookAll (O.view out.old) (O.view out.new) }
     ensures frame { OnlyReads H.tells (H.view shelf.old) (H.view shelf.new) }
     ensures counts { CountsNeverFall (O.view out.old) (O.view out.new) }
 {

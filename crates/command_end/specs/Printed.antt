@@ -9,6 +9,26 @@ use Rattle.command_end.specs.Lines.{GotLine, fault_line}
 abbrev pub IsEnd : Status → Type 0
 IsEnd status = (status ≡ statuses.Done) ⊎ (status ≡ statuses.NoSelection)
 
+-- a status that tells that a report, a listing, a summary or all replies are printed whole
+abbrev pub TellsWhole : Status → Type 0
+TellsWhole statuses.Done = Unit {0}
+TellsWhole statuses.NoSelection = Unit {0}
+TellsWhole statuses.Unfinished = Unit {0}
+TellsWhole statuses.Usage = ⊥
+TellsWhole statuses.Input = ⊥
+TellsWhole statuses.ReadFault = ⊥
+TellsWhole statuses.WriteFault = ⊥
+TellsWhole statuses.KeepFault = ⊥
+TellsWhole statuses.Memory = ⊥
+TellsWhole statuses.Saved = ⊥
+TellsWhole statuses.Limit = ⊥
+TellsWhole statuses.CheckRefused = ⊥
+
+-- Between two moments of a sink no put failed and none found no memory.
+pub record TookAll (before now : SinkView) : Type 0 where
+  pub faults : now.faults ≡ before.faults
+  pub refusals : now.refusals ≡ before.refusals
+
 -- the report is put whole, or the sink failed or found no memory and has got a part of it
 abbrev pub IsPut : Type 0 → List ℕ → Status → SinkView → SinkView → Status → Type 0
 IsPut told report status old new result =

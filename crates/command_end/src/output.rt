@@ -4,7 +4,7 @@ ghost use Rattle.std.specs.Prelude.{◌≡◌, ◌≢◌, ◌⊎◌, ◌++◌, c
 ghost use Rattle.fund_base.specs.Causes.{CountsNeverFall, NeverFall, SameElsewhere};
 ghost use Rattle.command_end.specs.AnswerLines.{IsAnswered};
 ghost use Rattle.command_end.specs.Lines.{GotLine, fault_line};
-ghost use Rattle.command_end.specs.Printed.{IsEnd, IsPut, IsUnwritten, IsWithoutMemory};
+ghost use Rattle.command_end.specs.Printed.{IsEnd, IsPut, IsUnwritten, IsWithoutMemory, TookAll};
 
 use crate::named::put_named;
 use crate::status::Status;
@@ -76,9 +76,11 @@ fn refuse_write<O: Sink>(alloc: Global, log: &str, out: &mut O) -> Status
     Status::WriteFault
 }
 
-/// Puts the report or the listing, and answers the status, or that of a sink that failed or found no memory.
+/// Puts the report or the listing, and answers the status, or that of a sink that failed or found no memory. A put that
+/// failed is told, even if what was left has been put since.
 pub fn put_report<O: Sink>(report: &[u8], status: Status, out: &mut O) -> Status
     ensures ends { IsPut O.tells report.now status (O.view out.old) (O.view out.new) result }
+    ensures all_put { result ≢ Status.WriteFault → result ≢ Status.Memory → TookAll (O.view out.old) (O.view out.new) }
     ensures counts { CountsNeverFall (O.view out.old) (O.view out.new) }
 {
     match put_all(out, report) {
@@ -109,8 +111,9 @@ pub fn finish<H: Shelf, O: Sink>(
     ensures write_fault { result ≡ Status.WriteFault → IsEnd status → IsUnwritten H.tells O.tells log.now text.now report.now (H.view shelf.old) (H.view shelf.new) (O.view out.old) (O.view out.new) }
     ensures memory { result ≡ Status.Memory → IsEnd status → IsWithoutMemory H.tells O.tells log.now text.now report.now (H.view shelf.old) (H.view shelf.new) (O.view out.old) (O.view out.new) }
 
-    // A write that failed is told as that, and as nothing else.
+    // A write that failed is told as that, and as nothing else; and an output that failed is never told as success.
     ensures all_written { result ≢ Status.WriteFault → (H.view shelf.new).writes ≡ (H.view shelf.old).writes }
+    ensures all_put { result ≢ Status.WriteFault → result ≢ Status.Memory → TookAll (O.view out.old) (O.view out.new) }
 
     // What stays.
     ensures others { H.tells → SameElsewhere log.now (H.view shelf.old).files (H.view shelf.new).files }

@@ -1,6 +1,6 @@
 -- How the writing and the printing end is how the command ends.
 use Rattle.std.proofs.Common.{◌≡◌, ◌∙◌, ◌++◌, ℕ, List, Option, Some, None, inl, inr, refl, sym, ap, subst, arith}
-use Rattle.std.specs.Prelude.{◌⊎◌}
+use Rattle.std.specs.Prelude.{◌⊎◌, codes}
 use Rattle.fund_base.proofs.Outside.{rose_earlier}
 use Rattle.fund_base.specs.Causes.{OnlyReads, ShelfView, SinkView, Rose}
 use Rattle.block_feed.specs.Block.{ChainBlock}
@@ -26,13 +26,14 @@ use Rattle.command_end.specs.declared.status.Status.{Status}
 use Rattle.command_end.specs.declared.status.Status.TheVariants as statuses
 use Rattle.command_fund.specs.Statuses.{Ends, EndsUnwritten, EndsWithoutMemory, IsLogLost, IsReport, IsUnfinished}
 use Rattle.command_fund.specs.Due.{Refused, due_of, plan_of}
-use Rattle.command_end.specs.Printed.{IsEnd, IsPut, IsUnwritten, IsWithoutMemory}
+use Rattle.command_end.specs.Printed.{IsEnd, IsPut, IsUnwritten, IsWithoutMemory, TellsWhole}
 use Rattle.command_end.specs.Names.{Sources}
 use Rattle.command_fund.specs.Names.{Payment}
 use Rattle.fund_steps.specs.declared.fault.PlanFault.{PlanFault}
 use Rattle.fund_steps.specs.declared.fault.PlanFault.TheVariants as plans
 use Rattle.fund_files.specs.Cause.{FileCause}
 use Rattle.fund_files.specs.Cause as files
+use Rattle.command_end.proofs.WholeLaws.{answered_stops, file_stops, not_whole, wanting_stops}
 use Rattle.command_end.specs.AnswerLines.{IsWanting}
 use Rattle.command_end.specs.Lines.{GotLine, fault_line, status_of_file}
 use Rattle.command_fund.specs.Cause.{Cause, Files, Bump, Plan, cause_of, status_of_cause, status_of_plan}
@@ -86,15 +87,12 @@ finish_ends told_files told told_jobs s p job keeper report log status shelf mid
 left_is : (told_files told_jobs : Type 0) (files : List ℕ → List ℕ) (s : Sources) (p : Payment) (job : Option (List ℕ)) (left : Left) (keeper keeper' : KeeperView) (w : PlainWallet) (blocks : List ChainBlock) (r : PlainRequest) → (told_files → AreInputs files s p w blocks r)
     → IsLeftAt (held_of w blocks) r left.plan → AreSteps (steps_of (plan_of (held_of w blocks) r)) → IsSavedAnew told_files told_jobs files s p left job keeper keeper' → told_jobs → IsLeft told_files files s p (plan_of (held_of w blocks) r) r.tries job keeper keeper'
 left_is told_files told_jobs files s p None left keeper keeper' w blocks r inputs at steps saved t = ap (λ (k : KeeperView). k.jobs) saved
-left_is told_files told_jobs files s p (Some job) left keeper keeper' w blocks r inputs at steps saved t = (
-  (saved t).0,
-  λ f.
-      let i = inputs f in
-      let within : AreWithin files s p = record { wallet = omega (arith, i.chain.wallet.fits); blocks = i.chain.blocks.fits; request = omega (arith, i.request.fits) } in
-      let behind : IsSavedBehind (digest_in files s p) (moved (new_of (plan_of (held_of w blocks) r)) r.tries) 0 0 (keeper.jobs job) (keeper'.jobs job) =
-      subst (λ (x : PlanState). IsSavedBehind (digest_in files s p) x 0 0 (keeper.jobs job) (keeper'.jobs job)) at.stands ((saved t).1 f within) in
-      (first_kept (plan_of (held_of w blocks) r) r.tries (digest_in files s p) (keeper.jobs job) (keeper'.jobs job) steps behind, behind),
-)
+left_is told_files told_jobs files s p (Some job) left keeper keeper' w blocks r inputs at steps saved t =
+    let plan = plan_of (held_of w blocks) r in
+    let digest = (saved t).1.0 in
+    let within : told_files → AreWithin files s p = λ f. record { wallet = omega (arith, (inputs f).chain.wallet.fits); blocks = (inputs f).chain.blocks.fits; request = omega (arith, (inputs f).request.fits) } in
+    let behind : IsSavedBehind digest (moved (new_of plan) r.tries) 0 0 (keeper.jobs job) (keeper'.jobs job) = subst (λ (x : PlanState). IsSavedBehind digest x 0 0 (keeper.jobs job) (keeper'.jobs job)) at.stands (saved t).1.2 in
+    ((saved t).0, (digest, (λ f. (saved t).1.1 f (within f)), first_kept plan r.tries digest (keeper.jobs job) (keeper'.jobs job) steps behind, behind))
 
 -- the files before one are in order, where all are
 pub reached : (files : List ℕ → List ℕ) (s : Sources) (p : Payment) (w : PlainWallet) (blocks : List ChainBlock) (r : PlainRequest) (file : File) → AreInputs files s p w blocks r → Reaches files s file
@@ -129,7 +127,7 @@ module _ (told_files told told_jobs : Type 0) (s : Sources) (p : Payment) (job :
         where
           by : (o : Option (List ℕ)) → IsSavedAnew told_files told_jobs middle.files s p left o keeper keeper' → IsSavedAnew told_files told_jobs shelf.files s p left o keeper keeper'
           by None a = a
-          by (Some name) a = λ t. ((a t).0, λ f. subst (λ (files : List ℕ → List ℕ). AreWithin files s p → IsSavedBehind (digest_in files s p) left.plan 0 0 (keeper.jobs name) (keeper'.jobs name)) (read.same f) ((a t).1 f))
+          by (Some name) a = λ t. ((a t).0, ((a t).1.0, (λ f. subst (λ (files : List ℕ → List ℕ). AreWithin files s p → (a t).1.0 ≡ digest_in files s p) (read.same f) ((a t).1.1 f)), (a t).1.2))
   leave_ends steps at (inr h) = not_left_ends h.0 h.1
 
 -- ---- a stop
@@ -171,3 +169,22 @@ stop_ends told_files told told_jobs s p job keeper (stops.Refused refusal) shelf
 stop_ends told_files told told_jobs s p job keeper (stops.Refused refusal) shelf shelf' sink sink' result h same (inr w) = wanting_ends told_files told told_jobs s p job keeper shelf shelf' sink sink' result same w
 stop_ends told_files told told_jobs s p job keeper stops.Keep shelf shelf' sink sink' result h same w = absurd h
 stop_ends told_files told told_jobs s p job keeper stops.Memory shelf shelf' sink sink' result h same w = wanting_ends told_files told told_jobs s p job keeper shelf shelf' sink sink' result same w
+
+-- ---- no stop is told as printed whole
+
+plan_untold : (fault : PlanFault) → TellsWhole (status_of_plan fault) → ⊥
+plan_untold (plans.Total sum) whole = whole
+plan_untold (plans.NotEligible point) whole = whole
+plan_untold (plans.TooMany number n) whole = whole
+plan_untold plans.Memory whole = whole
+
+pub cause_untold : (cause : Cause) → TellsWhole (status_of_cause cause) → ⊥
+cause_untold (Files cause) whole = file_stops cause whole
+cause_untold (Bump fault) whole = whole
+cause_untold (Plan fault) whole = plan_untold fault whole
+
+pub stop_untold : (told : Type 0) (s : Sources) (p : Payment) (stop : Stop) (sink sink' : SinkView) (result : Status) → IsStopped told s p stop sink sink' result → TellsWhole result → ⊥
+stop_untold told s p (stops.Read file) sink sink' result h whole = answered_stops told (codes "read " ++ name_of s p file) statuses.ReadFault sink sink' result (λ w. w) h whole
+stop_untold told s p (stops.Refused refusal) sink sink' result h whole = answered_stops told (refusal_words refusal) (status_of_cause (cause_of refusal)) sink sink' result (cause_untold (cause_of refusal)) h whole
+stop_untold told s p stops.Keep sink sink' result h whole = not_whole statuses.KeepFault result (λ w. w) h.0 whole
+stop_untold told s p stops.Memory sink sink' result h whole = wanting_stops told sink sink' result h whole

@@ -12,12 +12,14 @@ use Rattle.command_fund.specs.Digest.{digest_in}
 use Rattle.command_fund.specs.Names.{Payment}
 
 -- What is kept of a run of the files that is unfinished after so many tries: without a job nothing; otherwise this job, as
--- the run was left, and in one part, whatever was kept of it before. Other jobs are as before.
+-- the run was left, and in one part, whatever was kept of it before, with the digest of the files where they are told. Other
+-- jobs are as before.
 abbrev pub IsLeft : Type 0 → (List ℕ → List ℕ) → Sources → Payment → PlainPlan → (tries : ℕ) → Option (List ℕ) → KeeperView → KeeperView → Type 0
 IsLeft told_files files s p plan n None keeper keeper' = keeper'.jobs ≡ keeper.jobs
 IsLeft told_files files s p plan n (Some job) keeper keeper' =
     SameForOthers job keeper.jobs keeper'.jobs
-    × (told_files → IsKeptAt plan (digest_in files s p) n (keeper'.jobs job) × IsSavedBehind (digest_in files s p) (moved (new_of plan) n) 0 0 (keeper.jobs job) (keeper'.jobs job))
+    × ((digest : List ℕ) × (told_files → digest ≡ digest_in files s p) × IsKeptAt plan digest n (keeper'.jobs job)
+    × IsSavedBehind digest (moved (new_of plan) n) 0 0 (keeper.jobs job) (keeper'.jobs job))
 
 -- a status with which a job may have been saved: the run is unfinished, or it was, and the report wasn't printed whole
 abbrev pub MaySave : Status → Type 0

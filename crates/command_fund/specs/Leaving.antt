@@ -19,7 +19,7 @@ abbrev pub IsSavedAnew : Type 0 → Type 0 → (List ℕ → List ℕ) → Sourc
 IsSavedAnew told_files told_jobs files s p left None keeper keeper' = keeper' ≡ keeper
 IsSavedAnew told_files told_jobs files s p left (Some job) keeper keeper' = told_jobs →
     SameForOthers job keeper.jobs keeper'.jobs
-    × (told_files → AreWithin files s p → IsSavedBehind (digest_in files s p) left.plan 0 0 (keeper.jobs job) (keeper'.jobs job))
+    × ((digest : List ℕ) × (told_files → AreWithin files s p → digest ≡ digest_in files s p) × IsSavedBehind digest left.plan 0 0 (keeper.jobs job) (keeper'.jobs job))
 
 -- Nothing was kept: a read for the digest failed, or the keeper did, or there was not enough memory; with its line.
 abbrev pub IsNotLeft : Type 0 → Sources → Payment → Option (List ℕ) → ShelfView → ShelfView → SinkView → SinkView → KeeperView → KeeperView → Status → Type 0

@@ -5,6 +5,7 @@ ghost use Rattle.fund_base.specs.Causes.{CountsNeverFall, NeverFall, OnlyReads, 
 ghost use Rattle.fund_files.specs.declared.refusal.File.{File};
 ghost use Rattle.kept_job.specs.SavingRules.{CanBeKept};
 ghost use Rattle.command_end.specs.Names.{plain_sources};
+ghost use Rattle.command_end.specs.Printed.{TellsWhole, TookAll};
 ghost use Rattle.command_fund.specs.Inputs.{AsksInOrder, AsksTwice, NoneBehind};
 ghost use Rattle.command_fund.specs.Jobs.{KeepsJobs};
 ghost use Rattle.command_fund.specs.Leaving.{HasLeft};
@@ -64,6 +65,7 @@ fn leave<H: Shelf, O: Sink, K: Keeper>(
     ensures asked { H.tells → AsksInOrder (plain_sources sources.now) (plain_payment payment.now) (H.view shelf.old) (H.view shelf.new) }
     ensures unasked { job.entry ≡ None → (H.view shelf.new) ≡ (H.view shelf.old) }
     ensures all_read { result ≢ Status.ReadFault → (H.view shelf.new).reads ≡ (H.view shelf.old).reads }
+    ensures all_put { TellsWhole result → TookAll (O.view out.old) (O.view out.new) }
     ensures counts { CountsNeverFall (O.view out.old) (O.view out.new) }
     ensures unfailed { result ≢ Status.KeepFault → (K.view keeper.new).faults ≡ (K.view keeper.old).faults }
     ensures faults { (K.view keeper.old).faults ≤ (K.view keeper.new).faults }
@@ -115,8 +117,9 @@ pub fn fund<H: Shelf, O: Sink, K: Keeper>(
     // A read that failed is told as that, and as nothing else.
     ensures all_read { result ≢ Status.ReadFault → (H.view shelf.new).reads ≡ (H.view shelf.old).reads }
 
-    // So is a write that failed.
+    // So is a write that failed; and an output that failed is never told as success.
     ensures all_written { result ≢ Status.WriteFault → (H.view shelf.new).writes ≡ (H.view shelf.old).writes }
+    ensures all_put { TellsWhole result → TookAll (O.view out.old) (O.view out.new) }
 
     // A failure of the keeper is told as that, and as nothing else.
     ensures unfailed { result ≢ Status.KeepFault → (K.view keeper.new).faults ≡ (K.view keeper.old).faults }

@@ -1,6 +1,6 @@
 //! A run that is unfinished is kept as a job.
 
-ghost use Rattle.std.specs.Prelude.{◌≡◌, ◌≢◌, ◌≤◌, IfErr, OnErr, OnOk};
+ghost use Rattle.std.specs.Prelude.{◌≡◌, ◌≢◌, ◌≤◌, ℕ, List, IfErr, OnErr, OnOk};
 ghost use Rattle.fund_base.specs.Causes.{OnlyReads};
 ghost use Rattle.fund_files.specs.declared.refusal.File.{File};
 ghost use Rattle.fund_outside.specs.Kept.{SameForOthers};
@@ -33,8 +33,8 @@ pub fn keep_anew<H: Shelf, K: Keeper>(
     keeper: &mut K,
 ) -> Result<(), Stop>
     requires { CanBeKept plan.now 1 }
-    ensures kept { H.tells → K.tells → OnOk result (AreWithin (H.view shelf.old).files (plain_sources sources.now) (plain_payment payment.now) →
-        IsSavedBehind (digest_in (H.view shelf.old).files (plain_sources sources.now) (plain_payment payment.now)) plan.now 0 0 ((K.view keeper.old).jobs job.now) ((K.view keeper.new).jobs job.now)) }
+    ensures kept { K.tells → OnOk result ((digest : List ℕ) × (H.tells → AreWithin (H.view shelf.old).files (plain_sources sources.now) (plain_payment payment.now) →
+        digest ≡ digest_in (H.view shelf.old).files (plain_sources sources.now) (plain_payment payment.now)) × IsSavedBehind digest plan.now 0 0 ((K.view keeper.old).jobs job.now) ((K.view keeper.new).jobs job.now)) }
     ensures others { K.tells → SameForOthers job.now (K.view keeper.old).jobs (K.view keeper.new).jobs }
     ensures same { K.tells → OnErr result ((K.view keeper.new).jobs ≡ (K.view keeper.old).jobs) }
     ensures frame { OnlyReads H.tells (H.view shelf.old) (H.view shelf.new) }

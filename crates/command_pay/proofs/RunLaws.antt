@@ -10,6 +10,7 @@ use Rattle.request_making.specs.Written.{request_bytes}
 use Rattle.request_text.specs.RequestText.{request_of}
 use Rattle.command_end.specs.Lines.{GotLine, fault_line}
 use Rattle.command_end.specs.Names.{Sources}
+use Rattle.command_end.specs.Printed.{TellsWhole, TookAll}
 use Rattle.command_end.specs.declared.status.Status.{Status}
 use Rattle.command_end.specs.declared.status.Status.TheVariants as statuses
 use Rattle.command_fund.specs.Names.{Payment}
@@ -55,6 +56,7 @@ pub record Promises (told : Type 0) (o : Option Command) (shelf shelf' : ShelfVi
   pub kept : told → IsBeforeTheLog result → shelf'.files ≡ shelf.files
   pub all_read : result ≢ statuses.ReadFault → shelf'.reads ≡ shelf.reads
   pub all_written : result ≢ statuses.WriteFault → shelf'.writes ≡ shelf.writes
+  pub all_put : TellsWhole result → TookAll sink sink'
 
 -- the promise of the command that the words are
 held : (P : Command → Type 0) (o : Option Command) (c : Command) → o ≡ Some c → IfSome o P → P c
@@ -111,8 +113,8 @@ none_unwritten told a false o shelf shelf' sink sink' keeper keeper' result is n
 -- The whole.
 pub is_run : (told : Type 0) (a : Asked) (files : ShelfView) (request said log : List ℕ) (o : Option Command) (shelf shelf' : ShelfView) (sink sink' : SinkView) (keeper keeper' : KeeperView) (result : Status) → Promises told o shelf shelf' sink sink' keeper keeper' result
     → o ≡ where_stands (names_stand (sources_of a) held_names) (command_for a) → shelf ≡ beside files request → sink ≡ empty_sink → keeper ≡ no_jobs → request_of request ≡ asked_of a.payments.items a.coins.items a.settings → request ≡ request_bytes a.payments.items a.coins.items a.settings → said ≡ sink'.written → log ≡ shelf'.files log_name → result ≢ statuses.WriteFault
-    → IsRun told a files result said log
-is_run told a files request said log o shelf shelf' sink sink' keeper keeper' result promises words shelf_is sink_is keeper_is asks bytes said_is log_is unlost =
+    → sink'.faults ≡ 0 → keeper'.faults ≡ 0 → IsRun told a files result said log
+is_run told a files request said log o shelf shelf' sink sink' keeper keeper' result promises words shelf_is sink_is keeper_is asks bytes said_is log_is unlost sink_sound keeper_sound =
     let by_shelf : Promises told o (beside files request) shelf' sink sink' keeper keeper' result = subst (λ (x : ShelfView). Promises told o x shelf' sink sink' keeper keeper' result) shelf_is promises in
     let by_sink : Promises told o (beside files request) shelf' empty_sink sink' keeper keeper' result = subst (λ (x : SinkView). Promises told o (beside files request) shelf' x sink' keeper keeper' result) sink_is by_shelf in
     let h : Promises told o (beside files request) shelf' empty_sink sink' no_jobs keeper' result = subst (λ (x : KeeperView). Promises told o (beside files request) shelf' empty_sink sink' x keeper' result) keeper_is by_sink in
@@ -137,6 +139,9 @@ is_run told a files request said log o shelf shelf' sink sink' keeper keeper' re
       all_read = h.all_read;
       none_unwritten = unlost;
       all_written = h.all_written unlost;
+      all_put = h.all_put;
+      sink_sound = sink_sound;
+      keeper_sound = keeper_sound;
       said_is = said_is;
       log_is = log_is;
     }

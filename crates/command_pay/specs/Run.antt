@@ -10,6 +10,7 @@ use Rattle.request_making.specs.Written.{request_bytes}
 use Rattle.request_text.specs.RequestText.{request_of}
 use Rattle.command_end.specs.Lines.{GotLine, fault_line}
 use Rattle.command_end.specs.Names.{Sources}
+use Rattle.command_end.specs.Printed.{TellsWhole, TookAll}
 use Rattle.command_end.specs.declared.status.Status.{Status}
 use Rattle.command_end.specs.declared.status.Status.TheVariants as statuses
 use Rattle.command_fund.specs.Names.{Payment}
@@ -46,9 +47,10 @@ abbrev pub no_jobs : KeeperView
 no_jobs = record { jobs = λ _. None; faults = 0 }
 
 -- A run of the command `fund`, over the files with one more: the request, which says exactly what is asked, by the bytes of
--- the request file of it. It had this status, these bytes were printed, and this is the log that it left. All that is promised of that command is true of it: how it ends by
--- its status, what it asks for, and which status is due. Its words are no command exactly where a name of a file is empty, or is
--- that of the log. Its log and what it prints are held in memory, so that no write of it fails.
+-- the request file of it. It had this status, these bytes were printed, and this is the log that it left. All that is promised
+-- of that command is true of it: how it ends by its status, what it asks for, and which status is due. Its words are no command
+-- exactly where a name of a file is empty, or is that of the log. Its log and what it prints are held in memory, so that no
+-- write of it fails, and no job is kept, so that no keeper does.
 pub record IsRun (told : Type 0) (a : Asked) (files : ShelfView) (status : Status) (said log : List ℕ) : Type 0 where
   pub request : List ℕ
   pub asks : request_of request ≡ asked_of a.payments.items a.coins.items a.settings
@@ -68,6 +70,9 @@ pub record IsRun (told : Type 0) (a : Asked) (files : ShelfView) (status : Statu
   pub all_read : status ≢ statuses.ReadFault → shelf.reads ≡ (beside files request).reads
   pub none_unwritten : status ≢ statuses.WriteFault
   pub all_written : shelf.writes ≡ (beside files request).writes
+  pub all_put : TellsWhole status → TookAll empty_sink sink
+  pub sink_sound : sink.faults ≡ 0
+  pub keeper_sound : keeper.faults ≡ 0
   pub said_is : said ≡ sink.written
   pub log_is : log ≡ shelf.files log_name
 

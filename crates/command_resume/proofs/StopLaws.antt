@@ -10,11 +10,14 @@ use Rattle.fund_steps.specs.declared.fault.PlanFault.TheVariants as plans
 use Rattle.kept_job.specs.Refused.{IsOfJob}
 use Rattle.kept_job.specs.declared.fault.KeptFault.{KeptFault}
 use Rattle.kept_job.specs.declared.fault.KeptFault.TheVariants as faults
+use Rattle.command_end.proofs.WholeLaws.{answered_stops}
 use Rattle.command_end.specs.AnswerLines.{IsWanting}
 use Rattle.command_end.specs.Lines.{GotLine, fault_line, status_of_file}
 use Rattle.command_end.specs.Names.{Sources}
+use Rattle.command_end.specs.Printed.{TellsWhole}
 use Rattle.command_end.specs.declared.status.Status.{Status}
 use Rattle.command_end.specs.declared.status.Status.TheVariants as statuses
+use Rattle.command_fund.proofs.Finished as fund_laws
 use Rattle.command_fund.specs.Cause.{Cause, Files, Bump, Plan, cause_of, status_of_cause, status_of_plan}
 use Rattle.command_fund.specs.Meant.{IsDue}
 use Rattle.command_fund.specs.Names.{Payment}
@@ -107,3 +110,22 @@ module _ (told_files told told_jobs : Type 0) (s : Sources) (p : Payment) (job :
   stop_ends (stops.Kept fault) shelf shelf' sink sink' keeper keeper' result h same kept (inl a) =
       subst (λ (x : Status). Ends told_files told told_jobs s p job shelf shelf' sink sink' keeper keeper' x) (sym a.0) (kept_by fault shelf shelf' sink sink' keeper keeper' h same kept a.1)
   stop_ends (stops.Kept fault) shelf shelf' sink sink' keeper keeper' result h same kept (inr w) = wanting_ends shelf shelf' sink sink' keeper keeper' result same kept w
+
+-- ---- no stop is told as printed whole
+
+kept_untold : (fault : KeptFault) → TellsWhole (kept_status fault) → ⊥
+kept_untold faults.NoJob whole = whole
+kept_untold (faults.Form place) whole = whole
+kept_untold (faults.JobElse a b) whole = whole
+kept_untold faults.Spent whole = whole
+kept_untold (faults.Part n) whole = whole
+kept_untold faults.LongLog whole = whole
+kept_untold (faults.Section i) whole = whole
+kept_untold faults.IllFormed whole = whole
+kept_untold (faults.Log i f) whole = whole
+kept_untold faults.Failed whole = whole
+kept_untold faults.Memory whole = whole
+
+pub stop_untold : (told : Type 0) (s : Sources) (p : Payment) (stop : Stop) (sink sink' : SinkView) (result : Status) → IsStopped told s p stop sink sink' result → TellsWhole result → ⊥
+stop_untold told s p (stops.Funding stop) sink sink' result h whole = fund_laws.stop_untold told s p stop sink sink' result h whole
+stop_untold told s p (stops.Kept fault) sink sink' result h whole = answered_stops told (kept_words fault) (kept_status fault) sink sink' result (kept_untold fault) h whole

@@ -3,6 +3,7 @@
 ghost use Rattle.std.specs.Prelude.{◌≡◌, ◌≢◌, ◌≤◌, Some};
 ghost use Rattle.fund_base.specs.Causes.{CountsNeverFall, NeverFall, SameElsewhere};
 ghost use Rattle.command_end.specs.Names.{plain_sources};
+ghost use Rattle.command_end.specs.Printed.{TellsWhole, TookAll};
 ghost use Rattle.command_fund.specs.Inputs.{AsksTwice, NoneBehind};
 ghost use Rattle.command_fund.specs.Jobs.{KeepsJobs};
 ghost use Rattle.command_fund.specs.Names.{plain_payment};
@@ -31,6 +32,7 @@ fn leave<O: Sink, K: Keeper>(
     requires { CanBeLeft left.now }
     ensures left { HasLeft O.tells K.tells job.now left.now (O.view out.old) (O.view out.new) (K.view keeper.old) (K.view keeper.new) result }
     ensures jobs { K.tells → KeepsJobs (Some job.now) result (K.view keeper.old) (K.view keeper.new) }
+    ensures all_put { TellsWhole result → TookAll (O.view out.old) (O.view out.new) }
     ensures counts { CountsNeverFall (O.view out.old) (O.view out.new) }
     ensures unfailed { result ≢ Status.KeepFault → (K.view keeper.new).faults ≡ (K.view keeper.old).faults }
     ensures faults { (K.view keeper.old).faults ≤ (K.view keeper.new).faults }
@@ -75,8 +77,9 @@ pub fn resume<H: Shelf, O: Sink, K: Keeper>(
     // A read that failed is told as that, and as nothing else.
     ensures all_read { result ≢ Status.ReadFault → (H.view shelf.new).reads ≡ (H.view shelf.old).reads }
 
-    // So is a write that failed.
+    // So is a write that failed; and an output that failed is never told as success.
     ensures all_written { result ≢ Status.WriteFault → (H.view shelf.new).writes ≡ (H.view shelf.old).writes }
+    ensures all_put { TellsWhole result → TookAll (O.view out.old) (O.view out.new) }
 
     // A failure of the keeper is told as that, and as nothing else.
     ensures unfailed { result ≢ Status.KeepFault → (K.view keeper.new).faults ≡ (K.view keeper.old).faults }

@@ -2,11 +2,13 @@
 use Rattle.std.proofs.Common.{◌≡◌, ◌∙◌, ◌++◌, ℕ, List, inl, inr, refl, sym, ap, subst}
 use Rattle.std.specs.Prelude.{◌⊎◌}
 use Rattle.fund_base.specs.Causes.{SinkView}
+use Rattle.command_end.proofs.WholeLaws.{answered_stops, wanting_stops}
 use Rattle.command_end.specs.AnswerLines.{IsAnswered, IsWanting}
 use Rattle.command_end.specs.Lines.{GotLine, fault_line}
-use Rattle.command_end.specs.Printed.{IsPut}
+use Rattle.command_end.specs.Printed.{IsPut, TellsWhole}
 use Rattle.command_end.specs.declared.status.Status.{Status}
 use Rattle.command_end.specs.declared.status.Status.TheVariants as statuses
+use Rattle.command_fund.proofs.Finished.{cause_untold}
 use Rattle.command_fund.specs.Cause.{cause_of, status_of_cause}
 use Rattle.command_fund.specs.Words.{refusal_words}
 use Rattle.command_fund.specs.declared.refusal.Refusal.{Refusal}
@@ -59,3 +61,10 @@ stop_ends told number count (stops.Read file) sink sink' result h answered = abs
 stop_ends told number count (stops.Refused refusal) sink sink' result h answered = collided told number count refusal sink sink' result h answered
 stop_ends told number count stops.Keep sink sink' result h answered = absurd h
 stop_ends told number count stops.Memory sink sink' result h answered = wanting told number count sink sink' result answered
+
+-- no stop is told as a summary that is printed whole
+pub stop_untold : (told : Type 0) (stop : Stop) (sink sink' : SinkView) (result : Status) → IsStopped told stop sink sink' result → TellsWhole result → ⊥
+stop_untold told (stops.Read file) sink sink' result answered whole = answered
+stop_untold told (stops.Refused refusal) sink sink' result answered whole = answered_stops told (refusal_words refusal) (status_of_cause (cause_of refusal)) sink sink' result (cause_untold (cause_of refusal)) answered whole
+stop_untold told stops.Keep sink sink' result answered whole = answered
+stop_untold told stops.Memory sink sink' result answered whole = wanting_stops told sink sink' result answered whole

@@ -2,6 +2,7 @@
 
 ghost use Rattle.std.specs.Prelude.{◌≤◌};
 ghost use Rattle.fund_base.specs.Causes.{CountsNeverFall};
+ghost use Rattle.command_end.specs.Printed.{TellsWhole, TookAll};
 ghost use Rattle.command_work.specs.Statuses.{Ends};
 ghost use Rattle.command_work.specs.Stops.{IsStopped, ReadsNone};
 
@@ -38,6 +39,8 @@ pub fn work<O: Sink>(alloc: Global, number: u64, count: u32, out: &mut O) -> Sta
     requires most { count ≤ 10_000 }
     // By the status: what the run on the workload came to, and what the sink has got.
     ensures ends { Ends O.tells number count (O.view out.old) (O.view out.new) result }
+    // An output that failed is never told as success.
+    ensures all_put { TellsWhole result → TookAll (O.view out.old) (O.view out.new) }
     ensures counts { CountsNeverFall (O.view out.old) (O.view out.new) }
 {
     match run_load(alloc, number, count) {

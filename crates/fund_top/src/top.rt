@@ -2,6 +2,7 @@
 
 ghost use Rattle.std.specs.Prelude.{◌≡◌, ◌≢◌, ◌↔◌, ◌⊎◌, Some, None, codes, IfSome};
 ghost use Rattle.command_end.specs.Lines.{GotLine, fault_line};
+ghost use Rattle.command_end.specs.Printed.{TellsWhole, TookAll};
 ghost use Rattle.command_check.specs.Statuses.{EndsAccepted};
 ghost use Rattle.command_coins.specs.Statuses.{EndsListed};
 ghost use Rattle.command_desk.specs.Statuses.{EndsRunning};
@@ -50,6 +51,7 @@ fn act<H: Shelf, O: Sink, K: Keeper>(
     ensures unfailed { result ≢ Status.KeepFault → (K.view keeper.new).faults ≡ (K.view keeper.old).faults }
     ensures all_read { result ≢ Status.ReadFault → (H.view shelf.new).reads ≡ (H.view shelf.old).reads }
     ensures all_written { result ≢ Status.WriteFault → (H.view shelf.new).writes ≡ (H.view shelf.old).writes }
+    ensures all_put { TellsWhole result → TookAll (O.view out.old) (O.view out.new) }
 {
     match command {
         Command::Coins(sources) => coins(alloc, sources, shelf, out),
@@ -143,11 +145,12 @@ pub fn run<H: Shelf, O: Sink, K: Keeper>(
     ensures check_refused { result ≡ Status.CheckRefused → IfSome (command_of words.now.items) (λ c. EndsBroken H.tells O.tells c (H.view shelf.old) (O.view out.old) (O.view out.new)) }
 
     // Faults: only where a count rose. A failure of a read, of a write of the log or of the keeper is told as that, and as
-    // nothing else.
+    // nothing else. An output that failed is never told as success: as done, no selection or unfinished.
     ensures read_fault { result ≡ Status.ReadFault → IfSome (command_of words.now.items) (λ c. EndsUnread H.tells O.tells c (H.view shelf.old) (H.view shelf.new) (O.view out.old) (O.view out.new)) }
     ensures all_read { result ≢ Status.ReadFault → (H.view shelf.new).reads ≡ (H.view shelf.old).reads }
     ensures write_fault { result ≡ Status.WriteFault → IfSome (command_of words.now.items) (λ c. EndsUnwritten H.tells O.tells K.tells c (H.view shelf.old) (H.view shelf.new) (O.view out.old) (O.view out.new) (K.view keeper.old) (K.view keeper.new)) }
     ensures all_written { result ≢ Status.WriteFault → (H.view shelf.new).writes ≡ (H.view shelf.old).writes }
+    ensures all_put { TellsWhole result → TookAll (O.view out.old) (O.view out.new) }
     ensures keep_fault { result ≡ Status.KeepFault → IfSome (command_of words.now.items) (λ c. EndsUnkept H.tells O.tells c (H.view shelf.old) (O.view out.old) (O.view out.new) (K.view keeper.old) (K.view keeper.new)) }
     ensures unfailed { result ≢ Status.KeepFault → (K.view keeper.new).faults ≡ (K.view keeper.old).faults }
     ensures memory { result ≡ Status.Memory → IfSome (command_of words.now.items) (λ c. EndsWithoutMemory H.tells O.tells K.tells c (H.view shelf.old) (H.view shelf.new) (O.view out.old) (O.view out.new) (K.view keeper.old) (K.view keeper.new)) }

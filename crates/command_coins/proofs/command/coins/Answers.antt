@@ -1,7 +1,8 @@
 use Rattle.std.proofs.Common.{string_bytes}
+use Rattle.command_end.proofs.WholeLaws.{put_whole}
 use Rattle.command_end.specs.Names.{plain_sources}
 use Rattle.command_coins.proofs.AskingLaws.{printed_read, stopped_asks}
-use Rattle.command_coins.proofs.EndsLaws.{stop_ends}
+use Rattle.command_coins.proofs.EndsLaws.{stop_ends, stop_untold}
 use Rattle.command_coins.proofs.ListingLaws.{listing_ends}
 use Rattle.command_coins.proofs.command.coins.Goals as goal
 
@@ -27,3 +28,10 @@ returns-in-Err-clause-all_read g c = λ other. c.in-Err.ensures.all_read (λ fil
 pub returns-in-Err-clause-ends : goal.returns-in-Err-clause-ends
 returns-in-Err-clause-ends g c =
     stop_ends _ _ (plain_sources c.args.sources.now) c.in-Err.stop (g.H.Shelf.view c.args.shelf.now) (g.H.Shelf.view c.listed.new.shelf) (g.O.Sink.view c.args.out.now) (g.O.Sink.view c.answer.new.out) c.answer.result c.in-Err.ensures.stop c.answer.ensures.line
+
+pub returns-in-Ok-clause-all_put : goal.returns-in-Ok-clause-all_put
+returns-in-Ok-clause-all_put g c = put_whole (g.O.Sink.view c.args.out.now) (g.O.Sink.view c.put_report.new.out) c.put_report.result c.put_report.ensures.all_put
+
+pub returns-in-Err-clause-all_put : goal.returns-in-Err-clause-all_put
+returns-in-Err-clause-all_put g c = λ whole.
+    absurd (stop_untold _ (plain_sources c.args.sources.now) c.in-Err.stop (g.O.Sink.view c.args.out.now) (g.O.Sink.view c.answer.new.out) c.answer.result c.answer.ensures.line whole)

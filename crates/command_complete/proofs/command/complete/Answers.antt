@@ -18,3 +18,6 @@ returns-clause-unread_last g c = c.printed.ensures.unread_last
 
 pub returns-clause-refused_alone : goal.returns-clause-refused_alone
 returns-clause-refused_alone g c = c.printed.ensures.refused_alone
+
+pub returns-clause-all_put : goal.returns-clause-all_put
+returns-clause-all_put g c = c.printed.ensures.all_put

@@ -1,6 +1,7 @@
 use Rattle.command_coins.proofs.AskingLaws.{printed_read}
 use Rattle.command_complete.proofs.AskingLaws.{stop_asks}
-use Rattle.command_complete.proofs.EndsLaws.{printed_ends, stop_ends}
+use Rattle.command_complete.proofs.EndsLaws.{printed_ends, stop_ends, stop_untold}
+use Rattle.command_end.proofs.WholeLaws.{put_whole}
 use Rattle.command_end.specs.Names.{plain_sources}
 use Rattle.command_complete.proofs.command.printed.Goals as goal
 
@@ -33,3 +34,10 @@ returns-in-Ok-clause-refused_alone g c = c.in-Ok.ensures.refused_alone
 
 pub returns-in-Err-clause-refused_alone : goal.returns-in-Err-clause-refused_alone
 returns-in-Err-clause-refused_alone g c = c.in-Err.ensures.refused_alone
+
+pub returns-in-Ok-clause-all_put : goal.returns-in-Ok-clause-all_put
+returns-in-Ok-clause-all_put g c = put_whole (g.O.Sink.view c.args.out.now) (g.O.Sink.view c.put_report.new.out) c.put_report.result c.put_report.ensures.all_put
+
+pub returns-in-Err-clause-all_put : goal.returns-in-Err-clause-all_put
+returns-in-Err-clause-all_put g c = λ whole.
+    absurd (stop_untold _ (plain_sources c.args.sources.now) c.args.psbt.now c.in-Err.stop (g.O.Sink.view c.args.out.now) (g.O.Sink.view c.answer.new.out) c.answer.result c.answer.ensures.line whole)

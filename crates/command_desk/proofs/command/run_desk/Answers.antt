@@ -2,7 +2,7 @@ use Rattle.std.proofs.Common.{◌∙◌}
 use Rattle.fund_files.proofs.FrameLaws.{only_reads_on}
 use Rattle.command_end.specs.Names.{plain_sources}
 use Rattle.command_desk.proofs.EndsLaws.{read_alone, run_asked, run_behind, run_ends, stop_asked}
-use Rattle.command_desk.proofs.StopLaws.{stop_ends}
+use Rattle.command_desk.proofs.StopLaws.{stop_ends, stop_untold}
 use Rattle.command_desk.proofs.command.run_desk.Goals as goal
 
 pub returns-in-Ok-clause-ends : goal.returns-in-Ok-clause-ends
@@ -33,3 +33,10 @@ returns-in-Err-clause-ends g c =
 
 pub returns-in-Err-clause-asked : goal.returns-in-Err-clause-asked
 returns-in-Err-clause-asked g c = λ t. stop_asked (plain_sources c.args.sources.now) c.args.script.now (g.H.Shelf.view c.args.shelf.now) (g.H.Shelf.view c.read_start.new.shelf) (c.read_start.ensures.asked t)
+
+pub returns-in-Ok-clause-all_put : goal.returns-in-Ok-clause-all_put
+returns-in-Ok-clause-all_put g c = c.run_lines.ensures.all_put
+
+pub returns-in-Err-clause-all_put : goal.returns-in-Err-clause-all_put
+returns-in-Err-clause-all_put g c = λ whole.
+    absurd (stop_untold g.O.Sink.tells (plain_sources c.args.sources.now) c.args.script.now c.in-Err.stop (g.O.Sink.view c.args.out.now) (g.O.Sink.view c.answer.new.out) c.answer.result c.answer.ensures.line whole)

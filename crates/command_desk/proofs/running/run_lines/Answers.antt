@@ -2,11 +2,12 @@ use Rattle.std.proofs.Common.{◌∙◌, rules, subst, sym}
 use Rattle.fund_base.specs.Causes.{Asks}
 use Rattle.fund_files.proofs.FrameLaws.{only_reads_on}
 use Rattle.desk_script.proofs.LineLaws.{says_of}
+use Rattle.desk_script.specs.Lent.{plain_line}
 use Rattle.desk_script.specs.Line.{Line, Says, wanted}
 use Rattle.command_desk.specs.Asked.{file_in}
 use Rattle.command_desk.specs.Halts.{EndsAt, HaltsLine, IsDoneLine}
 use Rattle.command_desk.specs.declared.halt.Halt.TheVariants as halts
-use Rattle.command_desk.proofs.HaltLaws.{halt_ends}
+use Rattle.command_desk.proofs.HaltLaws.{end_untold, halt_ends}
 use Rattle.command_desk.proofs.LineLaws.{not_unread}
 use Rattle.command_desk.proofs.SoFar.{asked_all, asked_whole, no_lines, so_far_all, so_far_more}
 use Rattle.command_desk.proofs.running.run_lines.Goals as goal
@@ -40,7 +41,7 @@ lines-preserved g c =
     c.lines.invariant c.next_line.ensures.parts c.do_line.new.desk (g.H.Shelf.view c.do_line.new.shelf) (g.O.Sink.view c.do_line.new.out)
     (subst (λ (l : Line). IsDoneLine g.H.Shelf.tells g.O.Sink.tells (g.H.Shelf.view c.lines.shelf).files l c.lines.desk c.do_line.new.desk (g.O.Sink.view c.lines.out) (g.O.Sink.view c.do_line.new.out)) c.parse-line.ensures c.in_default.ensures.done)
     (subst (λ (l : Line). g.H.Shelf.tells → Asks (file_in (wanted l)) (g.H.Shelf.view c.lines.shelf).asked (g.H.Shelf.view c.do_line.new.shelf).asked) c.parse-line.ensures c.do_line.ensures.asked) c.do_line.ensures.frame
-    (c.do_line.ensures.all_read (λ is. c.in_default.not-Err halts.Unread is)) c.do_line.ensures.counts
+    (c.do_line.ensures.all_read (λ is. c.in_default.not-Err halts.Unread is)) c.do_line.ensures.counts c.in_default.ensures.all_put
 
 pub returns-clause-runs : goal.returns-clause-runs
 returns-clause-runs g c =
@@ -51,3 +52,9 @@ pub returns-clause-asked : goal.returns-clause-asked
 returns-clause-asked g c =
     asked_whole g.H.Shelf.tells g.O.Sink.tells c.args.script.now c.args.desk.now (g.H.Shelf.view c.args.shelf.now) (g.O.Sink.view c.args.out.now) c.lines.rest.now c.lines.desk c.lines.is_first (g.H.Shelf.view c.lines.shelf) (g.O.Sink.view c.lines.out)
     c.lines.invariant (no_lines c.lines.rest.now (search rules))
+
+pub returns-in-Err-clause-all_put : goal.returns-in-Err-clause-all_put
+returns-in-Err-clause-all_put g c = λ whole. absurd (end_untold g.O.Sink.tells (plain_line c.parse-line.result) c.in-Err.halt c.lines.is_first (g.O.Sink.view c.do_line.new.out) (g.O.Sink.view c.end_at.new.out) c.end_at.result c.end_at.ensures.ends whole)
+
+pub returns-clause-all_put : goal.returns-clause-all_put
+returns-clause-all_put g c = λ whole. c.lines.invariant.took

@@ -1,9 +1,10 @@
 use Rattle.std.proofs.Common.{◌∙◌, ℕ, List, inl, inr, refl, ap, arith}
 use Rattle.fund_base.specs.Causes.{ShelfView}
+use Rattle.command_end.proofs.WholeLaws.{put_whole}
 use Rattle.command_end.specs.Names.{plain_sources}
 use Rattle.command_end.specs.declared.status.Status.TheVariants as statuses
 use Rattle.command_fund.specs.Names.{plain_job, plain_payment}
-use Rattle.command_fund.proofs.Finished.{finish_ends, leave_ends, stop_ends}
+use Rattle.command_fund.proofs.Finished.{finish_ends, leave_ends, stop_ends, stop_untold}
 use Rattle.command_fund.proofs.InputLaws.{inputs_behind}
 use Rattle.command_fund.proofs.LeavingLaws.{asked_on, asked_once, asked_twice, left_otherwise, same_jobs}
 use Rattle.command_fund.proofs.command.fund.Goals as goal
@@ -139,3 +140,18 @@ returns-in-Ok-Funded-clause-all_written g c = λ other. c.finish-in-Ok-Funded.en
 
 pub returns-in-Err-clause-all_written : goal.returns-in-Err-clause-all_written
 returns-in-Err-clause-all_written g c = λ other. c.outcome.ensures.frame.writes
+
+-- ---- failed puts
+
+pub returns-in-Ok-Unfinished-clause-all_put : goal.returns-in-Ok-Unfinished-clause-all_put
+returns-in-Ok-Unfinished-clause-all_put g c = c.leave.ensures.all_put
+
+pub returns-in-Ok-NoSelection-clause-all_put : goal.returns-in-Ok-NoSelection-clause-all_put
+returns-in-Ok-NoSelection-clause-all_put g c = put_whole (g.O.Sink.view c.args.out.now) (g.O.Sink.view c.finish.new.out) c.finish.result c.finish.ensures.all_put
+
+pub returns-in-Ok-Funded-clause-all_put : goal.returns-in-Ok-Funded-clause-all_put
+returns-in-Ok-Funded-clause-all_put g c = put_whole (g.O.Sink.view c.args.out.now) (g.O.Sink.view c.finish-in-Ok-Funded.new.out) c.finish-in-Ok-Funded.result c.finish-in-Ok-Funded.ensures.all_put
+
+pub returns-in-Err-clause-all_put : goal.returns-in-Err-clause-all_put
+returns-in-Err-clause-all_put g c = λ whole.
+    absurd (stop_untold _ (plain_sources c.args.sources.now) (plain_payment c.args.payment.now) c.in-Err.stop (g.O.Sink.view c.args.out.now) (g.O.Sink.view c.answer.new.out) c.answer.result c.answer.ensures.line whole)

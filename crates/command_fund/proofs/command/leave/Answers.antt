@@ -1,6 +1,8 @@
 use Rattle.std.proofs.Common.{◌≡◌, Result, Err, inl, inr, refl}
+use Rattle.command_end.proofs.WholeLaws.{put_whole}
 use Rattle.command_end.specs.Names.{plain_sources}
 use Rattle.command_fund.specs.Names.{plain_payment}
+use Rattle.command_fund.proofs.Finished.{stop_untold}
 use Rattle.command_fund.proofs.LeavingLaws.{not_left, put_jobs, same_jobs}
 use Rattle.command_fund.specs.declared.refusal.Stop.{Stop}
 use Rattle.command_fund.proofs.command.leave.Goals as goal
@@ -10,7 +12,7 @@ same_stop a b e = cc
 
 pub returns-in-Ok-clause-left : goal.returns-in-Ok-clause-left
 returns-in-Ok-clause-left g c =
-    rw c.in-Some.is (inl (rw c.deref.ensures.value at c.put_report.ensures.ends, λ k. (c.keep_anew.ensures.others k, λ t within. c.in-Ok.ensures.kept t k within)))
+    rw c.in-Some.is (inl (rw c.deref.ensures.value at c.put_report.ensures.ends, λ k. (c.keep_anew.ensures.others k, c.in-Ok.ensures.kept k)))
 
 pub returns-in-Ok-clause-jobs : goal.returns-in-Ok-clause-jobs
 returns-in-Ok-clause-jobs g c = λ k.
@@ -47,3 +49,15 @@ returns-in-Err-clause-all_read g c = λ other. c.in-Err.ensures.all_read (λ fil
 
 pub returns-in-None-clause-all_read : goal.returns-in-None-clause-all_read
 returns-in-None-clause-all_read g c = λ other. refl
+
+-- ---- failed puts
+
+pub returns-in-Ok-clause-all_put : goal.returns-in-Ok-clause-all_put
+returns-in-Ok-clause-all_put g c = put_whole (g.O.Sink.view c.args.out.now) (g.O.Sink.view c.put_report.new.out) c.put_report.result c.put_report.ensures.all_put
+
+pub returns-in-Err-clause-all_put : goal.returns-in-Err-clause-all_put
+returns-in-Err-clause-all_put g c = λ whole.
+    absurd (stop_untold _ (plain_sources c.args.sources.now) (plain_payment c.args.payment.now) c.in-Err.stop (g.O.Sink.view c.args.out.now) (g.O.Sink.view c.answer.new.out) c.answer.result c.answer.ensures.line whole)
+
+pub returns-in-None-clause-all_put : goal.returns-in-None-clause-all_put
+returns-in-None-clause-all_put g c = put_whole (g.O.Sink.view c.args.out.now) (g.O.Sink.view c.put_report-in-None.new.out) c.put_report-in-None.result c.put_report-in-None.ensures.all_put

@@ -22,8 +22,7 @@ returns-in_err-keep-clause-stop g c =
     rw (p.1, p.2) (keeper_keeps (plain_sources c.args.sources.now) (plain_payment c.args.payment.now) (g.H.Shelf.view c.args.shelf.now) (g.H.Shelf.view c.read_digest.new.shelf) (g.K.Keeper.view c.args.keeper.now) (g.K.Keeper.view c.keep.new.keeper) c.in_err-keep.field-0.0 (λ e. c.in_err-keep.ensures.cause (ap (λ (x : KeepFault). Err x) e)))
 
 pub returns-clause-kept : goal.returns-clause-kept
-returns-clause-kept g c = λ t k within.
-    subst (λ (d : List ℕ). IsSavedBehind d c.args.plan.now 0 0 ((g.K.Keeper.view c.args.keeper.now).jobs c.args.job.now) ((g.K.Keeper.view c.keep.new.keeper).jobs c.args.job.now)) (c.in_ok-digest.ensures.digest t within) (c.in_ok-keep.ensures.kept k)
+returns-clause-kept g c = λ k. (_, c.in_ok-digest.ensures.digest, c.in_ok-keep.ensures.kept k)
 
 pub returns-in_err-keep-clause-unfailed : goal.returns-in_err-keep-clause-unfailed
 returns-in_err-keep-clause-unfailed g c =

@@ -49,11 +49,12 @@ returns-clause-run g c =
       kept = e.kept;
       all_read = e.all_read;
       all_written = e.all_written;
+      all_put = e.all_put;
     } in
     let apart : c.run-status.result ≢ statuses.WriteFault = none_unwritten g.H.Shelf.tells asked (names_stand (sources_of asked) held_names) o shelf shelf' sink sink' keeper keeper' c.run-status.result c.in-Ok.ensures.words e.usage.1 refl refl refl refl e.write_fault in
     run_told g.H.Shelf.tells asked (g.H.Shelf.view c.args.files) c.run-status.result c.written.result.now c.log.result.now c.run_of-ended.result c.run_of-ended.ensures.status c.run_of-ended.ensures.said c.run_of-ended.ensures.log
     (is_run g.H.Shelf.tells asked (g.H.Shelf.view c.args.files) c.in-Ok.due.request.items c.written.result.now c.log.result.now o shelf shelf' sink sink' keeper keeper' c.run-status.result promises
-    c.in-Ok.ensures.words c.new-shelf.ensures c.new-out.ensures c.new-keeper.ensures.view c.in-Ok.ensures.asks c.in-Ok.ensures.bytes c.written.ensures c.log.ensures apart)
+    c.in-Ok.ensures.words c.new-shelf.ensures c.new-out.ensures c.new-keeper.ensures.view c.in-Ok.ensures.asks c.in-Ok.ensures.bytes c.written.ensures c.log.ensures apart refl refl)
 
 pub returns-clause-files : goal.returns-clause-files
 returns-clause-files g c =

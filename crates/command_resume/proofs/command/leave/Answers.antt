@@ -1,4 +1,6 @@
 use Rattle.std.proofs.Common.{inl, inr, refl}
+use Rattle.command_end.proofs.WholeLaws.{not_whole, put_whole}
+use Rattle.command_end.specs.declared.status.Status.TheVariants as statuses
 use Rattle.command_fund.proofs.LeavingLaws.{put_jobs, same_jobs}
 use Rattle.command_resume.proofs.command.leave.Goals as goal
 
@@ -26,3 +28,14 @@ returns-in-Err-Memory-clause-left g c =
 
 pub returns-in-Err-Memory-clause-jobs : goal.returns-in-Err-Memory-clause-jobs
 returns-in-Err-Memory-clause-jobs g c = λ k. same_jobs _ _ (g.K.Keeper.view c.args.keeper.now) (g.K.Keeper.view c.keep.new.keeper) (c.in-Err-Memory.ensures.same k)
+
+-- ---- failed puts
+
+pub returns-in-Ok-clause-all_put : goal.returns-in-Ok-clause-all_put
+returns-in-Ok-clause-all_put g c = put_whole (g.O.Sink.view c.args.out.now) (g.O.Sink.view c.put_report.new.out) c.put_report.result c.put_report.ensures.all_put
+
+pub returns-in-Err-Failed-clause-all_put : goal.returns-in-Err-Failed-clause-all_put
+returns-in-Err-Failed-clause-all_put g c = λ whole. absurd (not_whole statuses.KeepFault c.refuse_keep.result (λ w. w) c.refuse_keep.ensures.is whole)
+
+pub returns-in-Err-Memory-clause-all_put : goal.returns-in-Err-Memory-clause-all_put
+returns-in-Err-Memory-clause-all_put g c = λ whole. absurd (not_whole statuses.Memory c.want_of_memory.result (λ w. w) c.want_of_memory.ensures.is whole)

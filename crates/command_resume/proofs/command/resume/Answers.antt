@@ -1,11 +1,12 @@
 use Rattle.std.proofs.Common.{◌≡◌, ◌∙◌, Result, Err, inl, inr, refl}
+use Rattle.command_end.proofs.WholeLaws.{put_whole}
 use Rattle.command_end.specs.Names.{plain_sources}
 use Rattle.command_end.specs.declared.status.Status.TheVariants as statuses
 use Rattle.command_fund.specs.Names.{plain_payment}
 use Rattle.command_fund.proofs.InputLaws.{inputs_behind}
 use Rattle.command_fund.proofs.LeavingLaws.{same_jobs}
 use Rattle.command_resume.proofs.Finished.{asked_on, finish_ends, jobs_on, leave_ends}
-use Rattle.command_resume.proofs.StopLaws.{stop_ends}
+use Rattle.command_resume.proofs.StopLaws.{stop_ends, stop_untold}
 use Rattle.command_resume.specs.declared.resuming.Ending.{Ending}
 use Rattle.command_resume.specs.declared.stop.Stop.{Stop}
 use Rattle.command_resume.proofs.command.resume.Goals as goal
@@ -112,3 +113,18 @@ returns-in-Ok-Funded-clause-all_written g c = λ other. c.finish-in-Ok-Funded.en
 
 pub returns-in-Err-clause-all_written : goal.returns-in-Err-clause-all_written
 returns-in-Err-clause-all_written g c = λ other. c.go_on.ensures.frame.writes
+
+-- ---- failed puts
+
+pub returns-in-Ok-Unfinished-clause-all_put : goal.returns-in-Ok-Unfinished-clause-all_put
+returns-in-Ok-Unfinished-clause-all_put g c = c.leave.ensures.all_put
+
+pub returns-in-Ok-NoSelection-clause-all_put : goal.returns-in-Ok-NoSelection-clause-all_put
+returns-in-Ok-NoSelection-clause-all_put g c = put_whole (g.O.Sink.view c.args.out.now) (g.O.Sink.view c.finish.new.out) c.finish.result c.finish.ensures.all_put
+
+pub returns-in-Ok-Funded-clause-all_put : goal.returns-in-Ok-Funded-clause-all_put
+returns-in-Ok-Funded-clause-all_put g c = put_whole (g.O.Sink.view c.args.out.now) (g.O.Sink.view c.finish-in-Ok-Funded.new.out) c.finish-in-Ok-Funded.result c.finish-in-Ok-Funded.ensures.all_put
+
+pub returns-in-Err-clause-all_put : goal.returns-in-Err-clause-all_put
+returns-in-Err-clause-all_put g c = λ whole.
+    absurd (stop_untold _ (plain_sources c.args.sources.now) (plain_payment c.args.payment.now) c.in-Err.stop (g.O.Sink.view c.args.out.now) (g.O.Sink.view c.answer.new.out) c.answer.result c.answer.ensures.line whole)

@@ -56,3 +56,23 @@ returns-in-Desk-clause-ends g c =
 
 pub returns-in-Desk-clause-asked : goal.returns-in-Desk-clause-asked
 returns-in-Desk-clause-asked g c = rw c.in-Desk.is (λ told. (c.desk.ensures.asked told, c.desk.ensures.none_behind told))
+
+-- ---- failed puts
+
+pub returns-in-Coins-clause-all_put : goal.returns-in-Coins-clause-all_put
+returns-in-Coins-clause-all_put g c = c.coins.ensures.all_put
+
+pub returns-in-Fund-clause-all_put : goal.returns-in-Fund-clause-all_put
+returns-in-Fund-clause-all_put g c = c.fund.ensures.all_put
+
+pub returns-in-Resume-clause-all_put : goal.returns-in-Resume-clause-all_put
+returns-in-Resume-clause-all_put g c = c.resume.ensures.all_put
+
+pub returns-in-Check-clause-all_put : goal.returns-in-Check-clause-all_put
+returns-in-Check-clause-all_put g c = c.check.ensures.all_put
+
+pub returns-in-Work-clause-all_put : goal.returns-in-Work-clause-all_put
+returns-in-Work-clause-all_put g c = c.work.ensures.all_put
+
+pub returns-in-Desk-clause-all_put : goal.returns-in-Desk-clause-all_put
+returns-in-Desk-clause-all_put g c = c.desk.ensures.all_put

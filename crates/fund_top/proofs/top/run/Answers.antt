@@ -44,3 +44,9 @@ returns-in-Some-clause-uninterrupted g c =
     λ f u j.
     subst (λ (o : Option Command). WhereResuming o (λ s p job. GoesOnUninterrupted s p job shelf shelf' sink sink' keeper keeper' c.act.result)) (c.in-Some.ensures.command ∙ ap command_of c.as_slice.ensures.value)
     (ends_uninterrupted _ _ _ (plain c.in-Some.command) shelf shelf' sink sink' keeper keeper' c.act.result c.act.ensures.ends f u j)
+
+pub returns-in-None-clause-all_put : goal.returns-in-None-clause-all_put
+returns-in-None-clause-all_put g c = λ whole. absurd whole
+
+pub returns-in-Some-clause-all_put : goal.returns-in-Some-clause-all_put
+returns-in-Some-clause-all_put g c = c.act.ensures.all_put
