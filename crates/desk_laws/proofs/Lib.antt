@@ -1,0 +1,10 @@
+pub mod DeskLaws
+pub mod HeldLaws
+pub mod JobLaws
+pub mod OpenLaws
+pub mod PlanLaws
+pub mod ReadLaws
+pub mod RequestLaws
+pub mod StandLaws
+pub mod StepsLaws
+pub mod TurnLaws

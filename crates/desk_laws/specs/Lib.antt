@@ -1,0 +1,3 @@
+pub mod Claimed
+pub mod Opened
+pub mod Refused
