@@ -142,6 +142,11 @@ unpaid_checked files files' s p name report log n k h =
 
 -- ---- what a payment from files wrote
 
+pub funded_reads : (files : List ℕ → List ℕ) (s : Sources) (p : Payment) (report log : List ℕ) (k : IsFunded files s p report log) → IsReportText report (kinds.Funded (reported_of files s p report log k))
+funded_reads files s p report log k =
+    subst (λ (f : List ℕ). IsReportText f (kinds.Funded (reported_of files s p report log k))) (sym k.reports)
+    (paid_reads (history_of k.wallet k.blocks) (plan_of (held_of k.wallet k.blocks) k.asked) k.asked.tries k.funded k.plan k.steps k.outcome k.pays k.psbt)
+
 pub funded_checked : (files files' : List ℕ → List ℕ) (s : Sources) (p : Payment) (name report log : List ℕ) (k : IsFunded files s p report log) → IsWithin report → StandWithLog files files' s p name report log
     → ComesTo files' s p name (Accepted (kinds.Funded (reported_of files s p report log k)))
 funded_checked files files' s p name report log k short h =

@@ -2,6 +2,7 @@
 
 ghost use Rattle.std.specs.Prelude.{ℕ, List};
 ghost use Rattle.fund_plan.specs.Outcome.{tries_at};
+ghost use Rattle.fund_report.specs.ReportText.{IsReportText};
 ghost use Rattle.fund_report.specs.declared.report.Report.TheVariants as kinds;
 ghost use Rattle.fund_files.specs.Chain.{held_of};
 ghost use Rattle.command_check.specs.Due.{Accepted, ComesTo};
@@ -19,4 +20,10 @@ pub fn written_reports_are_accepted()
     ensures funded { (files files' : List ℕ → List ℕ) (s : Sources) (p : Payment) (name report log : List ℕ) (k : IsFunded files s p report log) → IsWithin report → StandWithLog files files' s p name report log → ComesTo files' s p name (Accepted (kinds.Funded (reported_of files s p report log k))) }
     ensures none { (files files' : List ℕ → List ℕ) (s : Sources) (p : Payment) (name report log : List ℕ) (k : IsNotFunded files s p report log) → StandWithLog files files' s p name report log → ComesTo files' s p name (Accepted (kinds.NoSelection (tries_at (plan_of (held_of k.wallet k.blocks) k.asked) k.asked.tries))) }
     ensures unfinished { (files files' : List ℕ → List ℕ) (s : Sources) (p : Payment) (name report : List ℕ) (k : IsUnfinished files s p report) → StandsBeside files files' s p name report → ComesTo files' s p name (Accepted (kinds.Unfinished (tries_at (plan_of (held_of k.wallet k.blocks) k.asked) k.asked.tries) k.used_up.step.row k.used_up.step.stage)) }
+{}
+
+/// The law of reports of payments: what a payment from files printed is a report that can be read, however long it is, and it
+/// tells of that payment.
+pub fn paid_reports_can_be_read()
+    ensures { (files : List ℕ → List ℕ) (s : Sources) (p : Payment) (report log : List ℕ) (k : IsFunded files s p report log) → IsReportText report (kinds.Funded (reported_of files s p report log k)) }
 {}

@@ -4,4 +4,4 @@
 
 mod laws;
 
-pub use laws::written_reports_are_accepted;
+pub use laws::{paid_reports_can_be_read, written_reports_are_accepted};
