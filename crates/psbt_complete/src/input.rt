@@ -64,7 +64,7 @@ fn copy_paid(alloc: Global, paid: &Option<TxOut>) -> Result<Option<TxOut>, Memor
 }
 
 /// What is known of the output that the input of this index spends, with the whole transaction that is due beside it; or
-/// what is wrong with the input. It is never out of memory for another cause.
+/// what is wrong with the input. Out of memory may come in the place of either.
 pub fn completed_input(
     alloc: Global,
     book: &Book,

@@ -49,7 +49,7 @@ pub fn complete(alloc: Global, book: &Book, psbt: &Psbt) -> Result<Psbt, Complet
     // It is the same but for the whole transactions, and a PSBT.
     ensures completed { IfOk result (λ q. IsCompleted book.now psbt.now q) }
     ensures psbt { IfOk result IsPsbt }
-    // What is wrong with the first input with which something is; out of memory comes for no such cause.
+    // What is wrong with the first input with which something is. Out of memory may come in its place.
     ensures fault { IfErr result (λ e. e ≢ CompleteFault.Memory → IsFirstFault book.now (known_of psbt.now) e) }
 {
     completions_are_psbts();
