@@ -19,6 +19,7 @@ import struct
 import subprocess
 import sys
 import tempfile
+import typing
 
 ALPHABET = "qpzry9x8gf2tvdw0s3jn54khce6mua7l"
 ROWS = [  # number, depth of own and of foreign groups, ancestors, descendants, partial groups, unsafe coins
@@ -40,18 +41,37 @@ def compact(data, at):
     return int.from_bytes(data[at + 1:at + 1 + size], "little"), at + 1 + size
 
 
+def size_of(number):
+    """The CompactSize of a number below 2 to the power of 32."""
+    size = 1 if number < 253 else 2 if number < 65536 else 4
+    return {1: b"", 2: b"\xfd", 4: b"\xfe"}[size] + number.to_bytes(size, "little")
+
+
+class Tx(typing.NamedTuple):
+    """A transaction: the outpoints that it spends, its outputs, the place after it, its bytes, its weight by BIP 141, and whether
+    it signals by BIP 125 that it may be replaced."""
+
+    txid: bytes
+    inputs: list
+    outputs: list
+    end: int
+    whole: bytes
+    weight: int
+    signals: bool
+
+
 def read_tx(data, at=0):
-    """A transaction's txid, the outpoints that it spends, its outputs, and the place after it."""
     start, segregated = at, data[at + 4] == 0
     assert not segregated or data[at + 5] == 1, "the flag of witnesses"
     at += 6 if segregated else 4
     body = at
     count, at = compact(data, at)
-    inputs, outputs = [], []
+    inputs, outputs, signals = [], [], False
     for _ in range(count):
         inputs.append((data[at:at + 32], int.from_bytes(data[at + 32:at + 36], "little")))
         length, at = compact(data, at + 36)
         at += length + 4
+        signals = signals or int.from_bytes(data[at - 4:at], "little") < 0xFFFFFFFE
     many, at = compact(data, at)
     for _ in range(many):
         length, script = compact(data, at + 8)
@@ -64,7 +84,9 @@ def read_tx(data, at=0):
             length, at = compact(data, at)
             at += length
     bare += data[at:at + 4]
-    return hashlib.sha256(hashlib.sha256(bare).digest()).digest(), inputs, outputs, at + 4
+    whole = data[start:at + 4]
+    txid = hashlib.sha256(hashlib.sha256(bare).digest()).digest()
+    return Tx(txid, inputs, outputs, at + 4, whole, 3 * len(bare) + len(whole), signals)
 
 
 def read_blocks(data):
@@ -103,8 +125,13 @@ def point_of(text):
     return bytes.fromhex(txid)[::-1], int(index)
 
 
+def shown_point(point):
+    return f"{point[0][::-1].hex()}:{point[1]}"
+
+
 class Chain:
-    """What the wallet and the block file come to: the candidates, in the order in which they came to be."""
+    """What the wallet and the block file come to: the states, the coins, those that were coins before, and the candidates, in the
+    order in which they came to be."""
 
     def __init__(self, wallet, blocks):
         self.confirmed = [(read_tx(bytes.fromhex(one["tx"])), one["height"]) for one in wallet.get("earlier", [])]
@@ -119,6 +146,7 @@ class Chain:
         self.places = {tx[0]: place for place, tx in enumerate(self.pending)}
         self.abandoned = {bytes.fromhex(txid)[::-1] for txid in wallet.get("abandoned", [])}
         self.states()
+        self.coins, self.repeated = {}, []
         self.candidates = self.find(wallet)
 
     def kin(self, place):
@@ -135,12 +163,13 @@ class Chain:
     def given_up(self, place):
         """Confirmed, conflicted or abandoned; or None."""
         kin = self.kin(place)
-        points = {point for one in kin for point in self.pending[one][1]}
-        if self.pending[place][0] in self.heights:
-            return "confirmed"
-        if any(point in points for tx, _ in self.confirmed for point in tx[1]):
-            return "conflicted"
-        return "abandoned" if any(self.pending[one][0] in self.abandoned for one in kin) else None
+        points = {point for one in kin for point in self.pending[one].inputs}
+        if self.pending[place].txid in self.heights:
+            return f"confirmed {self.heights[self.pending[place].txid]}"
+        for tx, _ in self.confirmed:
+            if not points.isdisjoint(tx.inputs):
+                return f"conflicted {tx.txid[::-1].hex()}"
+        return "abandoned" if any(self.pending[one].txid in self.abandoned for one in kin) else None
 
     def replacer(self, place, first):
         for one in self.kin(place):
@@ -152,7 +181,10 @@ class Chain:
     def states(self):
         first = [self.given_up(place) for place in range(len(self.pending))]
         by = {place: self.replacer(place, first) for place, state in enumerate(first) if state is None}
-        self.state = [state or ("pending" if by[place] is None else "replaced") for place, state in enumerate(first)]
+        self.state = [state or "pending" for state in first]
+        for place, later in by.items():
+            if later is not None:
+                self.state[place] = f"replaced {self.pending[later].txid[::-1].hex()}"
         self.replacers = set(by.values())
 
     def is_safe(self, place, own):
@@ -166,17 +198,19 @@ class Chain:
         made += [(tx, 0, place) for place, tx in enumerate(self.pending) if tx[0] not in self.heights]
         coins = []
         for tx, depth, place in made:
-            for index, (value, script) in enumerate(tx[2]):
+            for index, (value, script) in enumerate(tx.outputs):
                 if script in weights:
                     coins.append({"point": (tx[0], index), "value": value, "script": script, "weight": weights[script],
-                                  "depth": depth, "place": place, "inputs": tx[1]})
-        points = {coin["point"] for coin in coins}
+                                  "depth": depth, "place": place, "inputs": tx.inputs, "whole": tx.whole})
+        for coin in coins:
+            if self.coins.setdefault(coin["point"], coin) is not coin:
+                self.repeated.append(coin["point"])
         alive = [place for place, state in enumerate(self.state) if state == "pending"]
         spent = {point for tx, _ in self.confirmed for point in tx[1]}
         spent |= {point for place in alive for point in self.pending[place][1]} | {point_of(one) for one in wallet.get("locked", [])}
 
         def own(place):
-            return all(point in points for point in self.pending[place][1])
+            return all(point in self.coins for point in self.pending[place].inputs)
 
         found = []
         for coin in coins:
@@ -184,7 +218,7 @@ class Chain:
             is_young = coin["inputs"] == [COINBASE] and coin["depth"] < 101
             if coin["point"] in spent or is_young or (place is not None and place not in alive):
                 continue
-            coin["mine"] = all(point in points for point in coin["inputs"])
+            coin["mine"] = all(point in self.coins for point in coin["inputs"])
             coin["safe"] = place is None or self.is_safe(place, own)
             coin["ancestors"] = 0 if place is None else len([one for one in self.kin(place) if one in alive])
             coin["descendants"] = 0 if place is None else len([one for one in alive if place in self.kin(one)])
@@ -211,15 +245,20 @@ def output_size(script):
     return 8 + length_of(len(script)) + len(script)
 
 
+def is_program(script):
+    return 4 <= len(script) <= 42 and (script[0] == 0 or 0x51 <= script[0] <= 0x60) and script[1] == len(script) - 2
+
+
 def dust(script):
     if script[:1] == b"\x6a" or len(script) > 10_000:
         return 0
-    program = 4 <= len(script) <= 42 and (script[0] == 0 or 0x51 <= script[0] <= 0x60) and script[1] == len(script) - 2
-    return fee(3000, output_size(script) + (67 if program else 148))
+    return fee(3000, output_size(script) + (67 if is_program(script) else 148))
 
 
 class Request:
-    """A request on a chain: its rates, what it needs, its listed coins."""
+    """A request on a chain: its rates, what it needs, what is spent in any case, and what may be added."""
+
+    burden = 0
 
     def __init__(self, request, wallet, chain):
         self.given = request
@@ -228,18 +267,23 @@ class Request:
         self.recipients = [(bytes.fromhex(one["script"]) if "script" in one else script_of(one["address"]), one["amount"])
                            for one in request["recipients"]]
         self.paid = sum(amount for _, amount in self.recipients)
-        listed = [point_of(coin) for coin in request.get("coins", [])]
-        unsafe = request.get("include_unsafe", False)
-        self.presets = [coin for coin in chain.candidates if coin["point"] in listed and (coin["safe"] or unsafe)]
-        self.is_refused = len(self.presets) < len(listed)
-        self.rest = [coin for coin in chain.candidates if coin["point"] not in listed and self.brings(coin) > 0]
-        self.preset_weight = sum(coin["weight"] for coin in self.presets)
-        change = bytes.fromhex(wallet["change"]["script"])
+        self.change = change = bytes.fromhex(wallet["change"]["script"])
         self.change_size = output_size(change)
         self.change_fee = fee(self.rate, self.change_size)
         self.change_spend = input_fee(request.get("discard", 10_000), wallet["change"]["weight"])
         self.least = max(dust(change), self.change_spend + 1)
         self.aim = max(self.least, request.get("change_target", 50_000))
+        listed, unsafe = [point_of(coin) for coin in request.get("coins", [])], request.get("include_unsafe", False)
+        self.take([coin for coin in chain.candidates if coin["point"] in listed and (coin["safe"] or unsafe)], chain.candidates)
+        points = [coin["point"] for coin in self.presets]
+        self.lost = [point for point in listed if point not in points]
+
+    def take(self, presets, candidates):
+        """Spends these in any case, and adds of those."""
+        points = [coin["point"] for coin in presets]
+        self.presets, self.candidates = presets, candidates
+        self.rest = [coin for coin in candidates if coin["point"] not in points and self.brings(coin) > 0]
+        self.preset_weight = sum(coin["weight"] for coin in presets)
 
     def brings(self, coin):
         return coin["value"] - input_fee(self.rate, coin["weight"])
@@ -251,7 +295,7 @@ class Request:
         """The base weight with so many coins at hand, and what is needed beyond the listed coins."""
         outputs = sum(output_size(script) for script, _ in self.recipients)
         base = 4 * (4 + (1 if coins <= 252 else 3) + length_of(len(self.recipients) + 1) + outputs + 4) + 2
-        needed = self.paid + fee(self.rate, -(-base // 4)) - sum(map(self.brings, self.presets))
+        needed = self.paid + fee(self.rate, -(-base // 4)) + self.burden - sum(map(self.brings, self.presets))
         return base, needed if self.presets else max(1, needed)
 
     def alone(self):
@@ -302,7 +346,7 @@ class Problem:
     """What a stage looks for among the groups of a row."""
 
     def __init__(self, request, groups, stage):
-        base, needed = request.terms(len(request.presets) + sum(map(len, groups)))
+        self.terms = base, needed = request.terms(len(request.presets) + sum(map(len, groups)))
         self.items = [(sum(map(request.brings, group)), sum(coin["weight"] for coin in group), sum(map(request.cost, group)))
                       for group in groups]
         self.changeless = stage == "changeless"
@@ -433,6 +477,24 @@ def steps(request):
             yield row[0], groups, [(stage, Problem(request, groups, stage)) for stage in column]
 
 
+def searches(request, answers):
+    """The searches to which a run comes, the first ones having these answers: row, stage and problem. It ends with the first column
+    that has a result."""
+    if request.alone() is not None:
+        return
+    seed, known = bytes.fromhex(request.given.get("seed", "00" * 32)), iter(answers)
+    for row, _, column in steps(request):
+        found = False
+        for stage, problem in column:
+            if stage == "draw":
+                found = found or problem.drawn(seed) is not None
+                continue
+            yield row, stage, problem
+            found = found or next(known, None) is not None
+        if found:
+            return
+
+
 def answer(request):
     """Mark, row, stage, coins and change; `none`; or None where there are too many groups to try each choice."""
     alone = request.alone()
@@ -466,46 +528,35 @@ def sections_of(log):
 
 def check_log(request, log, mark, tries):
     """Whether the log has the searches that are due, each accepted with its answer, and as many tries as are reported."""
-    sections, seed = list(sections_of(log)), bytes.fromhex(request.given.get("seed", "00" * 32))
+    sections = list(sections_of(log))
     due = iter(sections)
-    if mark == "given" or request.alone() is not None or request.method == "manual":
-        assert not sections and tries == 0, "searches where none is due"
-        return
-    for row, _, column in steps(request):
-        found = False
-        for stage, problem in column:
-            if stage == "draw":
-                found = found or problem.drawn(seed) is not None
-                continue
-            section = next(due, None)
-            if section is None:
-                assert mark == "partial", "a search is missing"
-                return
-            assert section[:3] == (row, stage, problem.digest()), "another search than the one that is due"
-            assert problem.accepts(section[3], section[4]), f"letters that aren't accepted: {section[3]}"
-            found = found or section[4] is not None
-        if found:
-            break
+    for row, stage, problem in searches(request, [section[4] for section in sections]):
+        section = next(due, None)
+        if section is None:
+            assert mark == "partial", "a search is missing"
+            return
+        assert section[:3] == (row, stage, problem.digest()), "another search than the one that is due"
+        assert problem.accepts(section[3], section[4]), f"letters that aren't accepted: {section[3]}"
     assert next(due, None) is None and mark != "partial", "more searches than are due"
     assert sum(section[3].count("I") for section in sections) == tries, "the tries"
 
 
-def judge(wallet, blocks, given, status, printed, log):
-    """What kind of end it is; fails where it isn't the one that is due."""
-    request = Request(given, wallet, Chain(wallet, blocks))
-    if request.is_refused:
-        assert status == 3 and printed.startswith("fault input plan NotEligible "), printed
+def judge(request, status, printed, log):
+    """What kind of end a request comes to; fails where it isn't the one that is due."""
+    if request.lost:
+        assert status == 3 and printed == f"fault input plan NotEligible {shown_point(request.lost[0])}\n", printed
         return "refused"
     lines = [line.split(" ") for line in printed.splitlines()]
     kind = lines[0][-1]
     told = {line[0]: line[-1] for line in lines}
+    budget = request.given.get("tries", 100_000)
     if kind == "unfinished":
-        assert status == 10 and log is None and int(told["tries"]) == given["tries"], printed
+        assert status == 10 and log is None and int(told["tries"]) == budget, printed
         return kind
     check_log(request, log, kind, int(told["tries"]))
     points = sorted(point_of(line[1]) for line in lines if line[0] == "in")
     if kind == "partial":
-        assert {coin["point"] for coin in request.presets} <= set(points) and int(told["tries"]) == given["tries"], printed
+        assert {coin["point"] for coin in request.presets} <= set(points) and int(told["tries"]) == budget, printed
         return kind
     due = answer(request)
     if due is None:
@@ -577,9 +628,10 @@ def stored():
         printed, _, told = printed.rpartition(f"{name}: status ")
         status, _, text = told.partition("\n")
         report, mark, log = text.partition("fund-log 1\n")
-        request = {"tries": 100_000, **json.loads(request)}
+        wallet = json.loads(wallet)
+        asked = Request(json.loads(request), wallet, Chain(wallet, bytes.fromhex(blocks)))
         report = report.removesuffix("no log\n")
-        end = judge(json.loads(wallet), bytes.fromhex(blocks), request, int(status), report, mark + log if mark else None)
+        end = judge(asked, int(status), report, mark + log if mark else None)
         ends[end] += 1
     return f"{len(cases)} stored cases", ends
 
@@ -611,7 +663,7 @@ def main():
                 with open(names[3], encoding="utf-8") as file:
                     log = file.read()
             try:
-                ends[judge(wallet, b"", request, run.returncode, run.stdout, log)] += 1
+                ends[judge(Request(request, wallet, Chain(wallet, b"")), run.returncode, run.stdout, log)] += 1
             except AssertionError as wrong:
                 print(f"WRONG, request {number} of seed {seed}: {wrong}\n{json.dumps(wallet)}\n{json.dumps(request)}")
                 return 1

@@ -1,6 +1,7 @@
 """What the scripts that know the pages alone say of a run that tests/mutate.py made: tests/input_faults.py of the files,
-tests/answers.py of payments, tests/verdicts.py with tests/text_places.py and tests/psbt_faults.py of reports, tests/desk.py of
-desks; and whether the first job of a desk is funded as `fund` funds it. None where they agree, or have nothing to say."""
+tests/replacements.py of what keeps a payment from being made, tests/answers.py of listings and payments, tests/verdicts.py with
+tests/text_places.py and tests/psbt_faults.py of reports, tests/desk.py of desks; and whether the first job of a desk is funded as
+`fund` funds it. None where they agree, or have nothing to say."""
 
 import collections
 import json
@@ -10,27 +11,20 @@ import desk
 import input_faults
 import psbt_faults
 import text_places
-from answers import judge
+from answers import Chain, judge, shown_point
 from cases import FUND, THREE, with_members
 from desk import command_of, lines_of
+from replacements import asked
 from verdicts import verdict
 
-# what of a run is beyond these scripts: replacements, and what they stumble over
+# what these scripts stumble over
 BEYOND = (KeyError, IndexError, ValueError, TypeError, AttributeError, StopIteration, RecursionError, ZeroDivisionError)
-# what the coins are refused for, before the request is read
-BOOK = b"fault input book "
 # replies after which a job may see other coins than the files have
 TURNING = (b"committed", b"tip", b"seen", b"refused", b"released")
 
 
-def asked(end):
-    """The wallet and the request, where these scripts can judge them."""
-    wallet, request = json.loads(end.given[end.words[1]]), json.loads(end.given[end.words[3]])
-    return None if "bump" in request else (wallet, request)
-
-
 def refusal_of(end):
-    """The line by which wallet, blocks or request are refused, or None."""
+    """The line by which wallet, blocks, coins, request, replacement or plan are refused, or None."""
     wallet, blocks = (end.given[name] for name in end.words[1:3])
     fault = input_faults.fault_of(input_faults.read_wallet, wallet)
     if fault is not None:
@@ -39,9 +33,16 @@ def refusal_of(end):
     fault = input_faults.fault_of(input_faults.read_blocks, blocks, bytes.fromhex(known["hash"])[::-1], known["height"])
     if fault is not None:
         return f"fault input blocks {fault}\n"
-    if end.words[0] in ("fund", "resume", "check") and not end.printed.startswith(BOOK):
-        fault = input_faults.fault_of(input_faults.read_request, end.given[end.words[3]])
-        return None if fault is None else f"fault input request {fault}\n"
+    repeated = Chain(known, blocks).repeated
+    if repeated:
+        return f"fault input book RepeatCoin {shown_point(repeated[0])}\n"
+    if end.words[0] in ("fund", "resume", "check"):
+        given = end.given[end.words[3]]
+        fault = input_faults.fault_of(input_faults.read_request, given)
+        if fault is not None:
+            return f"fault input request {fault}\n"
+        fault = input_faults.fault_of(asked, json.loads(given), known, blocks)
+        return None if fault is None else f"fault input {fault}\n"
     return None
 
 
@@ -54,19 +55,31 @@ def wrong_refusal(end, beside):
     except KeyError:
         return None
     beside["refusals" if due else "files in order"] += 1
-    is_refused = end.printed.startswith((b"fault input wallet ", b"fault input blocks ", b"fault input request "))
-    return None if (end.printed.decode() == due if due else not is_refused) else f"{due} is due"
+    is_so = end.printed.decode() == due if due else not end.printed.startswith(b"fault input ")
+    return None if is_so else f"{due} is due"
+
+
+def wrong_listing(end, beside):
+    """Of a `coins` that wasn't refused: whether it lists what the wallet and the blocks come to."""
+    data, blocks = (end.given[name] for name in end.words[1:3])
+    wallet = json.loads(data)
+    last, height = input_faults.read_blocks(blocks, bytes.fromhex(wallet["hash"])[::-1], wallet["height"])
+    chain, due = Chain(wallet, blocks), f"tip {height} {last[::-1].hex()}\n"
+    due += "".join(f"payment {tx.txid[::-1].hex()} {state}\n" for tx, state in zip(chain.pending, chain.state))
+    for coin in chain.candidates:
+        own, safe = "mine" if coin["mine"] else "foreign", "safe" if coin["safe"] else "unsafe"
+        due += f"coin {shown_point(coin['point'])} {coin['value']} {coin['depth']} {own} {safe} "
+        due += f"{coin['ancestors']} {coin['descendants']}\n"
+    beside["listings"] += 1
+    return None if end.printed.decode() == due else f"by tests/by_pages.py this listing is due: {due}"
 
 
 def wrong_payment(end, beside):
     """Of a `fund` that wasn't refused: whether it ended with the answer that is due, and with a log of it."""
     try:
-        read = asked(end)
-        if read is None:
-            return None
-        wallet, request = read
+        wallet, blocks, given = (end.given[name] for name in end.words[1:4])
         log = end.files[end.words[4]].decode() if end.status != 10 else None
-        kind = judge(wallet, end.given[end.words[2]], {"tries": 100_000, **request}, end.status, end.printed.decode(), log)
+        kind = judge(asked(json.loads(given), json.loads(wallet), blocks), end.status, end.printed.decode(), log)
         beside[f"judged {kind}"] += 1
     except AssertionError as wrong:
         return f"by tests/answers.py {wrong}"
@@ -78,8 +91,6 @@ def wrong_payment(end, beside):
 def wrong_verdict(end, folder, beside):
     """Of a `check`, whose files are in this folder: whether its verdict is the one that is due."""
     try:
-        if asked(end) is None:
-            return None
         got = verdict(folder, end.given["report"].decode("latin-1"))
     except (AssertionError, *BEYOND):
         beside["reports not judged"] += 1

@@ -34,10 +34,18 @@ class Cases:
                 names = [path.name for path in case.iterdir() if path.name not in ("status", "stdout")]
                 self.desks.append(files_of(case, names))
 
-    def make(self, rng, place, number):
-        """Adds reports, jobs and desks that the program makes of so many payments."""
+    def bumps(self):
+        """Those whose request replaces a payment."""
+        found = Cases.__new__(Cases)
+        found.payments = list(filter(is_bump, self.payments))
+        found.reports = list(filter(is_bump, self.reports))
+        found.jobs = [job for job in self.jobs if is_bump(job[0])]
+        return found
+
+    def make(self, rng, place, payments, number):
+        """Adds reports, jobs and desks that the program makes of so many of these payments."""
         for _ in range(number):
-            files = rng.choice(self.payments)
+            files = rng.choice(payments)
             self.desks.append({**files, "script": rng.choice(SCRIPTS)})
             end = place.run(FUND, files)
             tries = [1, 2, 3, 8, 60]
@@ -51,6 +59,13 @@ class Cases:
             end = place.run([*FUND, "job-1"], stopped)
             if end.status == 10:
                 self.jobs.append((stopped, read_jobs(place.folder)[0]["job-1"]))
+
+
+def is_bump(files):
+    try:
+        return "bump" in json.loads(files["request.json"])
+    except (ValueError, TypeError, KeyError):
+        return False
 
 
 def with_members(files, **members):

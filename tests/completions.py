@@ -15,7 +15,7 @@ import os
 import re
 import sys
 
-from answers import compact, read_tx
+from answers import compact, read_tx, size_of
 
 CASES = ["120-coins-in-blocks", "ancestors-25", "both-coins-exact", "coinbase-101-deep", "descendants-3",
          "given-auto", "group-full", "mixed-00", "mixed-07", "mixed-13", "mixed-21", "mixed-28", "mixed-36",
@@ -53,10 +53,6 @@ def maps_of(data):
     return tx, maps
 
 
-def size_of(number):
-    return bytes([number]) if number < 253 else b"\xfd" + number.to_bytes(2, "little") if number < 65536 else b"\xfe" + number.to_bytes(4, "little")
-
-
 def spelled(maps):
     text = b"psbt\xff"
     for one in maps:
@@ -86,7 +82,7 @@ def coins(wallet, blocks):
     scripts = {bytes.fromhex(one["script"]) for one in wallet["scripts"]}
     made = {}
     for data in transactions(wallet, blocks):
-        txid, _, outputs, _ = read_tx(data)
+        txid, _, outputs, *_ = read_tx(data)
         for index, (_, script) in enumerate(outputs):
             if script in scripts:
                 made.setdefault((txid, index), data)

@@ -18,7 +18,7 @@ import os
 import re
 import sys
 
-from answers import Chain, Request, answer, read_blocks, read_tx, tell
+from answers import Chain, Request, answer, read_blocks, read_tx, shown_point, tell
 from verdicts import meets, psbt_of
 
 NAME = re.compile(rb"[A-Za-z0-9-]{1,32}")
@@ -30,10 +30,6 @@ REPLY_FAULTS = ("Kind", "Repeat", "ParentLater", "RepeatCoin", "Full")
 
 def shown(hash_bytes):
     return hash_bytes[::-1].hex()
-
-
-def coin_text(point):
-    return f"{shown(point[0])}:{point[1]}"
 
 
 def twice(data):
@@ -131,7 +127,7 @@ class Desk:
             seen = set(self.made)
             for coin in coins:
                 if coin in seen:
-                    return f"RepeatCoin {coin_text(coin)}"
+                    return f"RepeatCoin {shown_point(coin)}"
                 seen.add(coin)
             self.made, self.blocks, self.tip = seen, self.blocks + text, last
         return None if all_good else "form"
@@ -163,9 +159,8 @@ class Desk:
                 assert reply == f"refused {name} bump", reply
                 return "refused bump"
             job = Job(given, self.wallet, chain)
-            if job.request.is_refused:
-                listed = [coin["point"] for coin in job.request.presets]
-                lost = [coin for coin in map(str.lower, given["coins"]) if coin not in map(coin_text, listed)]
+            lost = list(map(shown_point, job.request.lost))
+            if lost:
                 assert reply == f"refused {name} NotEligible {lost[0]}", f"{lost} are lost: {reply}"
                 return "refused plan"
             assert reply == f"opened {name}", reply
@@ -233,7 +228,7 @@ class Desk:
             words, due = reply.split(" "), getattr(job, "due", None)
             if words[0] == "taken":
                 if due is not None:
-                    assert reply == f"taken {name} {coin_text(self.taken(job, due[3]))}", reply
+                    assert reply == f"taken {name} {shown_point(self.taken(job, due[3]))}", reply
                 return "taken"
             assert words[:2] == ["committed", name] and len(words) == 4, reply
             (_, inputs, outputs, locktime), spent = psbt_of(words[3].encode())

@@ -56,13 +56,43 @@ def module_of(file):
     return "::".join(word for word in path if word not in ("lib", "main", "mod"))
 
 
+def bare(head):
+    """The text without what stands in angle brackets, one within another too."""
+    kept, depth = "", 0
+    for at, letter in enumerate(head):
+        if letter == ">" and head[at - 1] != "-":
+            depth -= 1
+        elif letter == "<":
+            depth += 1
+        elif depth == 0:
+            kept += letter
+    return kept
+
+
 def owner_of(head):
     """The type that an impl is for, with its trait behind it, as a check names both; None where a trait has arguments."""
-    words = re.sub(r"^impl\s*(<[^>]*>)?\s*|\s*(\bwhere\b.*)?\{.*$", "", head)
+    words = re.sub(r"\s*\bwhere\b.*$", "", bare(head.split("{")[0].replace("impl", "", 1)))
     trait, _, name = words.rpartition(" for ")
-    if "<" in trait:
+    if trait and re.search(r"> for ", head):
         return None
-    return re.sub(r"<.*", "", name).strip() + trait.strip()
+    return name.strip() + trait.strip()
+
+
+def reached(folder):
+    """Of each function of a crate the names of those that it calls, also through others."""
+    bodies = {}
+    for root, _, files in os.walk(f"{folder}/src"):
+        for file in files:
+            text = open(f"{root}/{file}").read()
+            heads = [*re.finditer(r"\bfn (\w+)", text)]
+            for head, end in zip(heads, [*(it.start() for it in heads[1:]), len(text)]):
+                bodies[head.group(1)] = bodies.get(head.group(1), "") + text[head.end() : end]
+    calls = {name: {word for word in re.findall(r"\b(\w+)(?=\()", body) if word in bodies} - {name} for name, body in bodies.items()}
+    grows = True
+    while grows:
+        more = {name: called.union(*(calls[it] for it in called)) for name, called in calls.items()}
+        grows, calls = more != calls, more
+    return calls
 
 
 def touched(folder, parts):
@@ -150,12 +180,12 @@ class Check:
         return "; ".join(said)
 
 
-def batches(edits):
-    """Edits in groups of which no two touch one function."""
+def batches(edits, calls):
+    """Edits in groups of which no two touch one function, or two of which one reaches the other: its goals wouldn't be told."""
     groups = []
     for edit in edits:
         for group in groups:
-            if not any(meet(one, other) for one in group[1] for other in edit[2]):
+            if not any(meet(one, other, calls) for one in group[1] for other in edit[2]):
                 group[0].append(edit)
                 group[1].update(edit[2])
                 break
@@ -164,8 +194,9 @@ def batches(edits):
     return [group[0] for group in groups]
 
 
-def meet(one, other):
-    return one == other or one.startswith(other + "::") or other.startswith(one + "::")
+def meet(one, other, calls):
+    a, b = one.split("::")[-1], other.split("::")[-1]
+    return one == other or one.startswith(other + "::") or other.startswith(one + "::") or b in calls.get(a, ()) or a in calls.get(b, ())
 
 
 class Crate:
@@ -231,7 +262,7 @@ def try_crate(name, chosen, jobs, is_proved, is_each):
             if first.status:
                 print(first.out[-2000:])
                 sys.exit(f"{name}: isn't proved before any edit")
-        for group in [[edit] for edit in shared] if is_each else batches(shared):
+        for group in [[edit] for edit in shared] if is_each else batches(shared, reached(crate.folder)):
             taken, proved, left, is_judged = crate.group(group)
             if not is_judged and len(group) > 1:
                 good = [it for it in group if crate.does_compile(it)]

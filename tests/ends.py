@@ -5,7 +5,7 @@ import collections
 import json
 import os
 
-from by_pages import wrong_desk, wrong_first_job, wrong_payment, wrong_refusal, wrong_verdict
+from by_pages import wrong_desk, wrong_first_job, wrong_listing, wrong_payment, wrong_refusal, wrong_verdict
 from cases import FUND, THREE, with_members
 from kept_jobs import MOST_TRIES, digest_of, gone_on, not_saved, read_saved, refusal_of
 from printed import FORMS, LOG, OPEN_LOG, is_command
@@ -14,7 +14,6 @@ from resumes import wrong_end
 from running import OLD_LOG
 from text_places import sections_before_fault
 
-SECOND = 1.0
 TRIES_A_SECOND = 1_000_000
 MOST_STEPS = 60
 LIMITS = {b"wallet": 16_777_216, b"blocks": 1_073_741_824, b"request": 1_048_576, b"script": 16_777_216, b"report": 67_108_864,
@@ -46,10 +45,11 @@ def log_refusal_of(job):
 
 
 class Judge:
-    """Judges ends; `place` is where another command is run beside one that ended."""
+    """Judges ends; `place` is where another command is run beside one that ended, and a run without tries takes so many seconds at
+    most."""
 
-    def __init__(self, place):
-        self.place, self.beside = place, collections.Counter()
+    def __init__(self, place, seconds):
+        self.place, self.seconds, self.beside = place, seconds, collections.Counter()
 
     # ---- by the end alone
 
@@ -58,7 +58,7 @@ class Judge:
         tries = tries_of(end)
         if end.told:
             return "something on the standard error"
-        if isinstance(tries, int) and end.seconds > SECOND + max(0, tries) / TRIES_A_SECOND:
+        if isinstance(tries, int) and end.seconds > self.seconds + max(0, tries) / TRIES_A_SECOND:
             return f"it took {end.seconds:.2f} s"
         if (end.status == 2) != (not is_command(end.words)):
             return "the words are a command, or none"
@@ -174,6 +174,8 @@ class Judge:
         fault = wrong_refusal(end, self.beside)
         if fault is not None:
             return fault
+        if end.words[0] == "coins" and end.status == 0:
+            return wrong_listing(end, self.beside)
         if end.words[0] == "check" and end.status in (0, 12) and end.words[1:] == [*THREE, "report", "log"]:
             return wrong_verdict(end, self.place.folder, self.beside)
         if end.words[0] == "desk" and (end.status == 0 or not end.printed.startswith(b"fault ")):

@@ -1,11 +1,12 @@
 #!/usr/bin/env python3
 """Runs the built program on mutated files, words and kept jobs, over all commands, and holds each end to docs/FORMATS.md.
 
-usage: tests/mutate.py [--seed N] [--runs N] [--cases FOLDER] [--program PATH] [--found FOLDER] [--only KIND..]
+usage: tests/mutate.py [--seed N] [--runs N] [--cases FOLDER] [--program PATH] [--found FOLDER] [--only KIND..] [--seconds S]
 
 What is mutated, one to three times a run: the files of `coins`, `fund`, `check` and `desk`, the report and LOG of `check`, the
 script of `desk`, the words of any command, and what `resume` and `fund .. JOB` find in the job file: its saved text, its parts,
-its tables, and its bytes with those of its log. One run in ten is of a job. They begin with the stored requests of
+its tables, and its bytes with those of its log. One run in ten is of a job, and `bump` are runs of requests that replace a payment:
+those of tests/bumps.py too. They begin with the stored requests of
 crates/rows_fund/data and the example, and with what the program makes of them; with --cases FOLDER also with those of the
 folders fund, bump, check, resume and desk in it, each of which has a folder for each case, with wallet.json, blocks.dat,
 request.json and, by its command, report and log, script with the files that it names, or N.saved and N.part-M of kept jobs.
@@ -15,19 +16,20 @@ Each end is held to this (tests/ends.py):
 - the status is one of the command's, and what is printed has the form of that status, each fault line included
 - `fault usage` comes exactly where the words are no command; `fault read` where that file isn't there; a limit of bytes exactly
   where a file is longer
-- nothing is on the standard error; a run takes no more than a second, and one more for each million tries
+- nothing is on the standard error; a run takes no more than a second, or what --seconds says, and one more for each million tries
 - no file changed but LOG, on status 0 and 11 of `fund` and `resume`, and then it is a whole log
 - no job changed but the named one on status 10, and that as its report says; the others are as they were. A job file that SQLite
   finds unsound, or that has other tables, is refused where it is needed
 - a job is refused for its saved text, its tries and its parts exactly as tests/kept_jobs.py tells, and for its sections and its
   position exactly as tests/resumes.py tells
-- `fund` and `resume` come to what tests/runs.py finds try by try, to the last letter of LOG: replacements and long walks apart
+- `fund` and `resume` come to what tests/runs.py finds try by try, to the last byte of report and LOG: long walks apart
 - `resume` says exhausted, drawn or none only where `fund` of the same files, with tries enough, says so in the same report but
   for its tries; and `check` accepts it with LOG but for its tries. It accepts all that `fund` says
 - a job that `fund` kept comes, step by step, to what one `fund` with all these tries comes to, byte for byte
 - a desk's replies go by tests/replies.py
 - of one end in four, `coins` refuses wallet and blocks by the same line, or lists them
-- wallet, blocks and request are refused for the first of their faults, as tests/input_faults.py finds it, and only then
+- wallet, blocks and request are refused for the first of their faults, as tests/input_faults.py finds it, and only then. So is a
+  payment that can't be replaced or made, as tests/replacements.py tells; and `coins` lists what tests/answers.py finds
 - tests/answers.py says the same of one payment in four, tests/verdicts.py of each report and tests/desk.py of each script, where
   they can judge it: they know the pages alone. The first job of a desk is funded as `fund` funds it
 
@@ -42,6 +44,7 @@ import signal
 import sys
 import tempfile
 
+import bumps
 import mutations
 from cases import FUND, THREE, TOP, Cases
 from ends import Judge
@@ -49,7 +52,7 @@ from kept_jobs import BESIDE, NAME
 from running import Place
 
 PROGRAM = TOP / "crates" / "fund_cli" / "out" / "fund_cli"
-KINDS = {"fund": 36, "coins": 6, "keep": 2, "check": 24, "desk": 14, "words": 4, "work": 4, "resume": 8, "job file": 2}
+KINDS = {"fund": 30, "bump": 6, "coins": 6, "keep": 2, "check": 24, "desk": 14, "words": 4, "work": 4, "resume": 8, "job file": 2}
 WORDS = {"coins": ["coins", *THREE[:2]], "fund": FUND, "keep": [*FUND, "job-1"], "resume": ["resume", *FUND[1:], "job-1"],
          "check": ["check", *THREE, "report", "log"], "desk": ["desk", *THREE[:2], "script"]}
 OTHER = (b"of another job", {0: b"its part", 7: b"another"})
@@ -64,7 +67,7 @@ class Mutants:
     """Makes the runs: words, files, jobs, statements on the job file, and what spoils its bytes."""
 
     def __init__(self, rng, cases):
-        self.rng, self.cases = rng, cases
+        self.rng, self.cases, self.replacing = rng, cases, cases.bumps()
 
     def make(self, kind):
         make = getattr(self, kind.replace(" ", "_"))
@@ -95,10 +98,28 @@ class Mutants:
         return mutations.mutate_json(rng, data) if kind < 0.9 else mutations.mutate_bytes(rng, data)
 
     def coins(self):
+        if self.rng.random() < 0.4:
+            return WORDS["coins"], self.waiting()
         return WORDS["coins"], self.changed(self.rng.choice(self.cases.payments), THREE[:1] * 2 + THREE[1:2])
 
     def fund(self):
         return WORDS["fund"], self.changed(self.rng.choice(self.cases.payments), THREE[:1] * 2 + THREE[1:] + THREE[2:])
+
+    def bump(self):
+        """Of a request that replaces a payment: its files, its report or its job."""
+        rng, cases = self.rng, self.replacing
+        if rng.random() < 0.2:
+            return Mutants(rng, cases).make("check" if rng.random() < 0.6 or not cases.jobs else "resume")
+        files = self.waiting()
+        return WORDS["fund"], self.changed(files, THREE[:1] * 2 + THREE[1:] + THREE[2:]) if rng.random() < 0.3 else files
+
+    def waiting(self):
+        """Files with payments that wait: by chance, or stored ones; with up to three changes of tests/bumps.py."""
+        rng = self.rng
+        files = bumps.case(rng) if rng.random() < 0.5 else rng.choice(self.replacing.payments)
+        for _ in range(rng.choice((0, 1, 1, 2, 3))):
+            files = bumps.changed(rng, files)
+        return files
 
     def keep(self):
         files, job = self.rng.choice(self.cases.jobs)
@@ -182,6 +203,7 @@ def asked_for():
     words.add_argument("--program", type=pathlib.Path, default=PROGRAM)
     words.add_argument("--found", type=pathlib.Path)
     words.add_argument("--only", nargs="*", choices=list(KINDS), default=list(KINDS))
+    words.add_argument("--seconds", type=float, default=1.0)
     return words.parse_args()
 
 
@@ -189,7 +211,8 @@ def try_all(asked, place, judge):
     """Makes the runs, and counts their ends; an interrupt or a SIGTERM ends them early."""
     rng, ends, wrong, longest = random.Random(asked.seed), collections.Counter(), 0, 0.0
     cases = Cases(asked.cases)
-    cases.make(rng, place, 100)
+    cases.make(rng, place, cases.payments, 100)
+    cases.make(rng, place, cases.bumps().payments, 30)
     mutants = Mutants(rng, cases)
     try:
         for run in range(asked.runs):
@@ -212,7 +235,7 @@ def main():
     program = asked.program.resolve()
     signal.signal(signal.SIGTERM, signal.default_int_handler)
     with tempfile.TemporaryDirectory() as folder:
-        judge = Judge(Place(folder, program))
+        judge = Judge(Place(folder, program), asked.seconds)
         ends, wrong, longest = try_all(asked, judge.place, judge)
     for (kind, status, head), count in sorted(ends.items()):
         print(f"{count:6} {kind}, status {status}: {head}")

@@ -1,13 +1,15 @@
 """What `fund` and `resume` come to, by docs/FORMATS.md alone: the line by which a kept job is refused whose parts are a log that
-goes on, and otherwise the report and LOG of the run. The coins and the searches are those of tests/answers.py, the runs those of
-tests/runs.py, the checker that of tests/verdicts.py. For tests/mutate.py."""
+goes on, and otherwise the report and LOG of the run. The coins and the searches are those of tests/answers.py and
+tests/replacements.py, the runs those of tests/runs.py, the checker that of tests/verdicts.py. For tests/mutate.py."""
 
 import json
 import re
 
-from answers import Chain, Request, point_of, steps
+from answers import searches
+from psbt_faults import Fault
+from replacements import asked
 from runs import Run, TooLong
-from verdicts import SECTION, refusal
+from verdicts import SECTION, payment, read_report, refusal
 
 OPEN = re.compile(r"section (\d+) (changeless|lean-big|lean-small) ([0-9a-fA-F]{64})\ntokens ([!-~]*)\Z")
 
@@ -24,25 +26,6 @@ def sections_of(log):
         at = one.end()
     one = OPEN.match(log, at)
     return closed, one and (int(one[1]), one[2], one[3].lower(), one[4])
-
-
-def searches(request, closed):
-    """The searches to which a run comes that has these answers: row, stage and problem. It ends with the first column that has a
-    result."""
-    if request.alone() is not None:
-        return
-    seed, index = bytes.fromhex(request.given.get("seed", "00" * 32)), 0
-    for row, _, column in steps(request):
-        found = False
-        for stage, problem in column:
-            if stage == "draw":
-                found = found or problem.drawn(seed) is not None
-                continue
-            yield row, stage, problem
-            found = found or (index < len(closed) and closed[index][4] is not None)
-            index += 1
-        if found:
-            return
 
 
 def is_rising(places):
@@ -62,7 +45,7 @@ def may_stand(problem, said):
 
 def refused(said, closed, still_open, request):
     """The line by which the job is refused before it goes on, or None."""
-    due, problems = searches(request, closed), []
+    due, problems = searches(request, [section[4] for section in closed]), []
     for index, section in enumerate([*closed, still_open] if still_open else closed):
         row, stage, problem = next(due, (None, None, None))
         if problem is None or section[:3] != (row, stage, problem.digest()):
@@ -78,17 +61,6 @@ def refused(said, closed, still_open, request):
     return None
 
 
-def told_by(printed):
-    """What a report says of its run: mark or kind, row, stage and coins as tests/runs.py has them, and the tries."""
-    lines = [line.split(" ") for line in printed.splitlines()]
-    told = {line[0]: line[-1] for line in lines}
-    kind, tries = lines[0][-1], int(told["tries"])
-    if kind == "none":
-        return (kind,), tries
-    place = (kind, int(told["row"]), told["stage"])
-    return place if kind == "unfinished" else (*place, sorted(point_of(line[1]) for line in lines if line[0] == "in")), tries
-
-
 def wrong_run(end, run, is_resumed):
     """Whether the run came to what it should, with the log that it should have."""
     is_checked = is_resumed and run.outcome[0] in ("exhausted", "drawn", "none")
@@ -97,18 +69,27 @@ def wrong_run(end, run, is_resumed):
         if fault is not None:
             due = f"fault saved SavedFalse Log {index} {fault}\n"
             return None if end.printed.decode() == due else f"by tests/runs.py {due} is due"
-    if end.status not in (0, 10, 11) or told_by(end.printed.decode()) != (tuple(run.outcome), run.tries):
-        return f"by tests/runs.py {run.outcome} is due after {run.tries} tries"
+    due = run.report()
+    if end.status != {"none": 11, "unfinished": 10}.get(run.outcome[0], 0) or end.printed.decode() != due:
+        return f"by tests/runs.py this report is due: {due}"
     is_so = end.status == 10 or end.files[end.words[4]].decode() == run.log()
     return None if is_so else f"by tests/runs.py this log is due: {run.log()}"
 
 
+def wrong_numbers(end, request):
+    """Whether a payment whose run isn't made here pays as its request asks."""
+    report = read_report(end.printed.decode())
+    fault = payment(request, report) if end.status == 0 else None
+    return fault and f"by tests/verdicts.py {fault} is due"
+
+
 def wrong_end(end, job, beside):
     """Whether `fund`, or `resume` of a job that isn't refused for its saved text, its tries or its parts, ended as it should."""
-    wallet, given = json.loads(end.given[end.words[1]]), json.loads(end.given[end.words[3]])
-    if "bump" in given:
-        return None
-    request, kept = Request(given, wallet, Chain(wallet, end.given[end.words[2]])), ()
+    wallet, blocks, given = (end.given[name] for name in end.words[1:4])
+    try:
+        request, kept = asked(json.loads(given), json.loads(wallet), blocks), ()
+    except Fault as fault:
+        return f"fault input {fault} is due"
     if job is not None:
         said, parts = job
         closed, still_open = sections_of(b"".join(parts[number] for number in range(said["parts"])).decode())
@@ -118,9 +99,9 @@ def wrong_end(end, job, beside):
             return None if end.printed.decode() == due else f"by tests/resumes.py {due} is due"
         kept = ((closed, still_open[3], said),)
     try:
-        run = Run(request, given.get("tries", 100_000), *kept)
+        run = Run(request, request.given.get("tries", 100_000), *kept)
     except TooLong:
         beside["runs too long"] += 1
-        return None
-    beside["runs" if job is None else "runs resumed"] += 1
+        return wrong_numbers(end, request)
+    beside[("replacements" if "bump" in request.given else "runs") + ("" if job is None else " resumed")] += 1
     return wrong_run(end, run, job is not None)

@@ -1,8 +1,11 @@
 """Runs by docs/CLOSING_LOG.md and docs/FORMATS.md alone, with each sum from scratch: the walks of the searches, try by try; what
-a run comes to within its tries, from its begin or from a kept position; and its log. The coins and problems are those of
-tests/answers.py. For tests/mutate.py."""
+a run comes to within its tries, from its begin or from a kept position; its log and its report. The coins and problems are those
+of tests/answers.py. For tests/mutate.py."""
 
-from answers import steps
+import base64
+import typing
+
+from answers import is_program, shown_point, size_of, steps
 
 MOST = 10_000_000
 MOST_LETTERS = 4_000
@@ -95,6 +98,38 @@ class Walk:
         self.chosen, self.next, self.done = [], len(self.items), True
 
 
+def string(data):
+    return size_of(len(data)) + data
+
+
+def psbt_of(request, coins, change):
+    """The PSBT of a payment, written with as few pairs as will do."""
+    sequence = 0xFFFFFFFD if request.given.get("replaceable", True) else 0xFFFFFFFE
+    outputs = request.recipients + ([] if change is None else [(request.change, change)])
+    tx = (2).to_bytes(4, "little") + size_of(len(coins))
+    for txid, index in [coin["point"] for coin in coins]:
+        tx += txid + index.to_bytes(4, "little") + b"\0" + sequence.to_bytes(4, "little")
+    tx += size_of(len(outputs)) + b"".join(amount.to_bytes(8, "little") + string(script) for script, amount in outputs)
+    tx += request.given.get("locktime", 0).to_bytes(4, "little")
+    data = b"psbt\xff\x01\x00" + string(tx) + b"\0"
+    for coin in coins:
+        paid = coin["value"].to_bytes(8, "little") + string(coin["script"])
+        data += (b"\x01\x01" + string(paid) if is_program(coin["script"]) else b"\x01\x00" + string(coin["whole"])) + b"\0"
+    return data + b"\0" * len(outputs)
+
+
+class Outcome(typing.NamedTuple):
+    """How a run ends: a mark, `none` or `unfinished`; row and stage; of a payment its coins, its change, and of the request's
+    terms the base and what is needed."""
+
+    kind: str
+    row: int = 0
+    stage: str = "presets"
+    coins: typing.Any = None
+    change: typing.Any = None
+    terms: typing.Any = None
+
+
 class Run:
     """What a request comes to within a budget, from its begin or from the closed sections, the open letters and the position that
     are kept. `sections` has each search that is done, with its problem."""
@@ -105,13 +140,15 @@ class Run:
         self.left = min(budget, MOST - self.tries)
         self.sections, self.outcome = [], None
         alone = request.alone()
-        if alone is not None or request.method == "manual":
-            self.outcome = ("none",) if alone is None or alone == ("none",) else alone[:4]
+        if alone is not None and alone[0] == "given":
+            self.outcome = Outcome("given", 0, "presets", request.presets, alone[4], request.terms(len(request.presets)))
+        elif alone is not None or request.method == "manual":
+            self.outcome = Outcome("none")
         for row, groups, column in steps(request) if self.outcome is None else ():
             self.outcome = self.column(row, groups, column)
             if self.outcome is not None:
                 break
-        self.outcome = self.outcome or ("none",)
+        self.outcome = self.outcome or Outcome("none")
 
     def column(self, row, groups, column):
         found = []
@@ -123,7 +160,7 @@ class Run:
                 if walk is not None and not walk.done:
                     found += self.so_far(walk, order, column)
                     takes = self.request.given.get("when_unfinished", "take") == "take" and found
-                    return self.chosen("partial", row, groups, found) if takes else ("unfinished", row, stage)
+                    return self.chosen("partial", row, groups, found) if takes else Outcome("unfinished", row, stage)
                 places = self.closed[len(self.sections)][4] if walk is None else walk.best
                 letters = self.closed[len(self.sections)][3] if walk is None else walk.letters
                 self.sections.append((row, stage, problem, letters, places))
@@ -160,9 +197,10 @@ class Run:
         def rank(one):
             return one[0].waste(one[3]), -sum(len(groups[place]) for place in one[3]), one[1]
 
-        _, _, stage, places = min(found, key=rank)
-        points = sorted(coin["point"] for coin in self.request.presets + [coin for place in places for coin in groups[place]])
-        return mark or ("drawn" if stage == "draw" else "exhausted"), row, stage, points
+        problem, _, stage, places = min(found, key=rank)
+        coins = self.request.presets + [coin for place in places for coin in groups[place]]
+        change = None if problem.change is None else problem.sums(places)[0] - problem.change
+        return Outcome(mark or ("drawn" if stage == "draw" else "exhausted"), row, stage, coins, change, problem.terms)
 
     def log(self):
         text = "fund-log 1\n"
@@ -170,3 +208,23 @@ class Run:
             answer = "none" if places is None else " ".join(map(str, places))
             text += f"section {row} {stage} {problem.digest()}\ntokens {letters}\nanswer {answer}\n"
         return text + "end\n"
+
+    def report(self):
+        if self.outcome.coins is not None:
+            return self.payment()
+        kind, row, stage, *_ = self.outcome
+        return f"{kind}\ntries {self.tries}\n" + f"row {row}\nstage {stage}\n" * (kind == "unfinished")
+
+    def payment(self):
+        """The report of a payment."""
+        request, (kind, row, stage, coins, change, (base, needed)) = self.request, self.outcome
+        coins = sorted(coins, key=lambda coin: coin["point"])
+        paid = sum(coin["value"] for coin in coins) - request.paid - (change or 0)
+        weight = base + sum(coin["weight"] for coin in coins) + (0 if change is None else 4 * request.change_size)
+        over = sum(map(request.brings, coins)) - sum(map(request.brings, request.presets)) - needed
+        waste = sum(map(request.cost, coins)) + (over if change is None else request.change_fee + request.change_spend)
+        return (f"funded {kind}\nrow {row}\nstage {stage}\ntries {self.tries}\n"
+                + "".join(f"in {shown_point(coin['point'])} {coin['value']}\n" for coin in coins)
+                + f"weight {weight}\nvsize {-(-weight // 4)}\nfee {paid}\nwaste {waste}\n"
+                + f"change {'none' if change is None else change}\n"
+                + f"psbt {base64.b64encode(psbt_of(request, coins, change)).decode()}\n")

@@ -15,7 +15,8 @@ import os
 import re
 import sys
 
-from answers import Chain, Request, compact, fee, input_fee, read_tx, steps
+from answers import compact, fee, input_fee, read_tx, steps
+from replacements import asked
 
 MAX_MONEY = 2_100_000_000_000_000
 STAGES = "presets|changeless|lean-big|draw|lean-small"
@@ -125,7 +126,7 @@ def meets(row, coin):
             and coin["descendants"] <= descendants and (coin["safe"] or unsafe))
 
 
-def payment(request, chain, report):
+def payment(request, report):
     """None where the report keeps its rules, or the first fault."""
     read = psbt_of(report["psbt"])
     if read is None:
@@ -135,7 +136,7 @@ def payment(request, chain, report):
     coins = []
     for point, _, _ in inputs:
         found = [coin for coin in request.presets if coin["point"] == point]
-        found += [coin for coin in chain.candidates if coin["point"] == point and rows and meets(rows[0], coin)]
+        found += [coin for coin in request.candidates if coin["point"] == point and rows and meets(rows[0], coin)]
         if not found:
             return f"Coin {point[0][::-1].hex()}:{point[1]}"
         coins.append(found[0])
@@ -151,14 +152,13 @@ def pays(request, report, rows, version, inputs, outputs, locktime, shown, coins
     at_hand = len(request.presets) + (sum(map(len, request.pool(rows[0]))) if rows else 0)
     base, _ = request.terms(at_hand)
     change = report["change"]
-    script = CHANGE[0]
-    due = [(amount, to) for to, amount in request.recipients] + ([] if change is None else [(change, script)])
+    due = [(amount, to) for to, amount in request.recipients] + ([] if change is None else [(change, request.change)])
     sequence = 0xFFFFFFFD if request.given.get("replaceable", True) else 0xFFFFFFFE
     if version != 2 or locktime != request.given.get("locktime", 0) or outputs != due or any(one[2] != sequence for one in inputs):
         return False
     worth = sum(coin["value"] for coin in coins)
     fees = sum(input_fee(request.rate, coin["weight"]) for coin in coins)
-    needed = request.paid + fee(request.rate, -(-base // 4))
+    needed = request.paid + fee(request.rate, -(-base // 4)) + request.burden
     needed += fees + (0 if request.presets else max(0, 1 - needed))
     if change is None:
         if not (needed <= worth and worth + 1 <= needed + request.change_fee + request.least):
@@ -331,9 +331,6 @@ def read_report(text):
     return {"unfinished": True} if one and int(one[1]) < 2 ** 64 and int(one[2]) <= 255 else None
 
 
-CHANGE = [b""]
-
-
 def read(folder, name):
     path = os.path.join(folder, name)
     if not os.path.exists(path):
@@ -345,15 +342,13 @@ def read(folder, name):
 def verdict(folder, text):
     """The first fault of a report of this text, or None where it is accepted."""
     wallet, given = json.loads(read(folder, "wallet.json")), json.loads(read(folder, "request.json"))
-    chain = Chain(wallet, read(folder, "blocks.dat") or b"")
-    request = Request(given, wallet, chain)
-    CHANGE[0] = bytes.fromhex(wallet["change"]["script"])
+    request = asked(given, wallet, read(folder, "blocks.dat") or b"")
     report = read_report(text)
     if report is None:
         return "Report"
     if "unfinished" in report:
         return None
-    fault = payment(request, chain, report) if "mark" in report else None
+    fault = payment(request, report) if "mark" in report else None
     if fault:
         return fault
     log = read(folder, "log")
