@@ -1,7 +1,7 @@
 //! Reading the block of a record.
 
 ghost use Rattle.std.specs.Prelude.{◌≡◌, ◌≢◌, ◌+◌, ◌≤◌, ◌==◌, ℕ, bytes_eq, length, not, take, drop, map, if◌then◌else◌, IfOk, IsOkAnd, Err, None, Some};
-ghost use Rattle.fund_base.specs.Cursor.{IsBytes, compact_at};
+ghost use Rattle.fund_base.specs.Cursor.{IsBytes, after, compact_at};
 ghost use Rattle.fund_base.specs.Parsing.{Yields, YieldsAll, fault_as, many_at};
 ghost use Rattle.tx_codec.specs.Reading.{tx_at};
 ghost use Rattle.tx_codec.specs.Txid.{txid_of};
@@ -76,6 +76,7 @@ fn all_txs(
 fn counted_txs(alloc: Global, height: u32, cursor: &mut Cursor) -> Result<Vec<Tx>, FeedFault>
     ensures gives { YieldsAll Memory (λ v. v.items) result (counted_txs_at height cursor.old) }
     ensures short { result ≡ Err Memory → IsOkAnd (compact_at cursor.old) (λ count. count.0 ≢ 0) }
+    ensures some { IfOk result (λ _. IsOkAnd (compact_at cursor.old) (λ count. count.0 ≢ 0)) }
     ensures never_read { result ≢ Err Read }
 {
     match cursor.compact() {
@@ -170,6 +171,7 @@ fn block_in(
 ) -> Result<Block, FeedFault>
     ensures gives { YieldsAll Memory (λ b. b) result (block_at previous.now height cursor.old) }
     ensures short { result ≡ Err Memory → (80 ≤ length cursor.old.rest) × (previous_of (take 80 cursor.old.rest) ≡ previous.now) }
+    ensures some { result ≡ Err Memory → IsOkAnd (compact_at (after 80 cursor.old)) (λ count. count.0 ≢ 0) }
     ensures height { IfOk result (λ b. b.height ≡ height) }
     ensures never_read { result ≢ Err Read }
 {

@@ -12,7 +12,7 @@ use Rattle.tx_codec.specs.Transaction.{Transaction}
 use Rattle.tx_codec.specs.declared.tx.TxIn.{TxIn}
 use Rattle.fee_rates.proofs.CompactLaws.{compact_len_is}
 use Rattle.fee_rates.proofs.FeeLaws.{fee_least, vsize_least}
-use Rattle.fee_rates.specs.Fee.{fee_of, vsize_of}
+use Rattle.fee_rates.specs.Fee.{fee_of}
 use Rattle.fee_rates.specs.Terms.{base_of}
 use Rattle.wallet_text.specs.PlainWallet.{PlainWallet}
 use Rattle.wallet_text.specs.WalletRules.{IsWallet}
@@ -24,7 +24,7 @@ use Rattle.payment_states.specs.LeftOut.{confirmed_without_of}
 use Rattle.payment_states.specs.Makers.{HasMaker}
 use Rattle.payment_states.specs.PendingView.{is_listed, tx_at, view_of}
 use Rattle.payment_states.proofs.LeftSteps.{left_fit}
-use Rattle.fee_bump.specs.Bump.{added_of, bare_load, burden_at, fee_in, fees_in, incremental, is_among, least_vsize, payment_place, presets_at, replaced_at, replaced_txids, spent_by, terms_of, weight_of}
+use Rattle.fee_bump.specs.Bump.{bare_load, burden_at, fee_in, fees_in, is_among, least_vsize, payment_place, presets_at, replaced_at, replaced_txids, spent_by, terms_of, weight_of}
 use Rattle.fee_bump.specs.Faults.{fault_of}
 use Rattle.fee_bump.specs.Meant.{CanReplace}
 use Rattle.fee_bump.proofs.CauseLaws.{bump_clear}

@@ -1,6 +1,7 @@
 //! The terms of a replacement, or why there are none.
 
-ghost use Rattle.std.specs.Prelude.{◌≡◌, ◌≢◌, ◌<◌, ◌≤◌, ◌++◌, ◌&&◌, [], Err, IfErr, IfOk, OnOk, All, IsSome, None, Some, bytes_eq, filter, length, map, not, slice_index_or, sum_by, unwrap_or};
+ghost use Rattle.std.specs.Prelude.{◌≡◌, ◌≢◌, ◌<◌, ◌≤◌, ◌++◌, ◌&&◌, [], Ok, Err, IfErr, IfOk, OnOk, All, IsSome, None, Some, bytes_eq, filter, if◌then◌else◌, length, map, not, option_map, slice_index_or, sum_by, unwrap_or};
+ghost use Rattle.std.specs.Option.{option_or};
 ghost use Rattle.indexmap.specs.IndexSet.{contains};
 ghost use Rattle.fund_base.specs.Candidates.{AreCandidates};
 ghost use Rattle.fund_base.specs.Outpoints.{same_outpoint};
@@ -17,7 +18,7 @@ ghost use Rattle.tx_codec.specs.Txid.{txid_of};
 ghost use Rattle.tx_codec.specs.Weight.{weight_of};
 ghost use Rattle.tx_codec.specs.declared.tx.TxOut.{TxOut};
 ghost use Rattle.fee_bump.specs.Bump.{added_of, fee_in, replaced_at, terms_at, terms_of};
-ghost use Rattle.fee_bump.specs.Faults.{count_fault, fault_of, input_fault, pending_fault, signal_fault};
+ghost use Rattle.fee_bump.specs.Faults.{count_fault, fault_of, foreign_in, input_fault, pending_fault, signal_fault};
 ghost use Rattle.fee_bump.specs.declared.fault.BumpFault.TheVariants as faults;
 
 use crate::burden::burden;
@@ -145,7 +146,8 @@ fn terms_for(
 }
 
 /// The terms of a replacement of these transactions, of which the first is the payment at a place and the others are its
-/// Pending descendants, where nothing is foreign, or why there are none.
+/// Pending descendants, or why there are none. It runs out of memory only where no input is foreign and they aren't too
+/// many.
 fn terms(
     alloc: Global,
     book: &Book,
@@ -170,13 +172,17 @@ fn terms(
     requires money { All (λ (t : Transaction). sum_by (λ (x : TxOut). x.value) t.outputs ≤ MAX_MONEY) txs.now }
     requires payment { sum_by (λ (x : TxOut). x.value) (tx_at (view_of wallet.now book.now) place).outputs ≤ MAX_MONEY }
     ensures terms { IfOk result (λ t. t ≡ terms_at wallet.now book.now tip request.now place) }
-    ensures short { result ≡ Err faults.Memory → length txs.now ≤ 100 }
-    ensures fault { IfErr result (λ e. e ≢ faults.Memory → count_fault request.now (length txs.now) (fee_in book.now txs.now (tx_at (view_of wallet.now book.now) place)) (vsize_of (weight_of (tx_at (view_of wallet.now book.now) place))) ≡ Some e) }
-    ensures none { OnOk result (count_fault request.now (length txs.now) (fee_in book.now txs.now (tx_at (view_of wallet.now book.now) place)) (vsize_of (weight_of (tx_at (view_of wallet.now book.now) place))) ≡ None) }
+    ensures short { result ≡ Err faults.Memory → (foreign_in book.now txs.now ≡ None) × (length txs.now ≤ 100) }
+    ensures fault { IfErr result (λ e. e ≢ faults.Memory → option_or (option_map faults.ForeignInput (foreign_in book.now txs.now)) (count_fault request.now (length txs.now) (fee_in book.now txs.now (tx_at (view_of wallet.now book.now) place)) (vsize_of (weight_of (tx_at (view_of wallet.now book.now) place)))) ≡ Some e) }
+    ensures none { OnOk result (option_or (option_map faults.ForeignInput (foreign_in book.now txs.now)) (count_fault request.now (length txs.now) (fee_in book.now txs.now (tx_at (view_of wallet.now book.now) place)) (vsize_of (weight_of (tx_at (view_of wallet.now book.now) place)))) ≡ None) }
     ensures fit { IfOk result (λ t. AreCandidates (t.presets ++ t.candidates)) }
     ensures makers { IfOk result (λ t. All (HasMaker book.now) (t.presets ++ t.candidates)) }
     ensures burden { IfOk result (λ t. t.burden ≤ 1_000_000_000_000_000_000) }
 {
+    match foreign(book, txs, gone) {
+        Some(point) => return Err(BumpFault::ForeignInput(point)),
+        None => {}
+    }
     if txs.len() > MOST_REPLACED {
         return Err(BumpFault::TooManyEvicted(txs.len() as u64));
     }
@@ -217,10 +223,6 @@ fn replacing(
     let txs = replaced(alloc, book, wallet, states, place)?;
     let names = txids(alloc, &txs)?;
     let gone = txid_set(alloc, &txs, &names)?;
-    match foreign(book, &txs, &gone) {
-        Some(point) => return Err(BumpFault::ForeignInput(point)),
-        None => {}
-    }
     let terms = terms(
         alloc, book, wallet, states, tip, request, place, &txs, names, &gone,
     )?;
@@ -250,6 +252,17 @@ fn pending_fault(state: Option<State>) -> Option<BumpFault>
     }
 }
 
+/// That a payment may be replaced by its signals. It never runs out of memory.
+fn check_signals(can_be_replaced: bool) -> Result<(), BumpFault>
+    ensures { result ≡ (if can_be_replaced then Ok tt else Err faults.NotSignalling) }
+{
+    if can_be_replaced {
+        Ok(())
+    } else {
+        Err(BumpFault::NotSignalling)
+    }
+}
+
 /// The terms of a replacement of the payment at a place, which is Pending, or why there are none.
 fn waiting(
     alloc: Global,
@@ -271,10 +284,7 @@ fn waiting(
     ensures makers { IfOk result (λ t. All (HasMaker book.now) (t.presets ++ t.candidates)) }
     ensures burden { IfOk result (λ t. t.burden ≤ 1_000_000_000_000_000_000) }
 {
-    let can = can_be_replaced(alloc, book, wallet, states, place)?;
-    if !can {
-        return Err(BumpFault::NotSignalling);
-    }
+    check_signals(can_be_replaced(alloc, book, wallet, states, place)?)?;
     replacing(alloc, book, wallet, states, tip, request, place)
 }
 

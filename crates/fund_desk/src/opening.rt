@@ -1,10 +1,10 @@
 //! The plan of a job that is opened.
 
-ghost use Rattle.std.specs.Prelude.{◌≡◌, ◌≢◌, IfErr, IfOk, MatchResult, None, Some, Err};
+ghost use Rattle.std.specs.Prelude.{◌≡◌, ◌≢◌, IfErr, IfOk, MatchResult, None, OnErr, Some, Ok, Err};
 ghost use Rattle.fund_files.specs.Chain.{IsHeld};
 ghost use Rattle.fund_plan.specs.Outcome.{beginning_of};
 ghost use Rattle.fund_steps.specs.Faults.{fault_of};
-ghost use Rattle.desk_machine.specs.Machine.{plan_for, plan_in};
+ghost use Rattle.desk_machine.specs.Machine.{plan_by, plan_for, plan_in};
 ghost use Rattle.fund_desk.specs.Opening.{IsMade};
 ghost use Rattle.desk_machine.specs.Replies.{plain_refusal};
 ghost use Rattle.desk_machine.specs.State.{desk_of};
@@ -53,6 +53,28 @@ fn plan_of(
     }
 }
 
+/// A request that was read, and its plan; or why there is none. The error is out of memory, which comes of no request that
+/// replaces a payment.
+fn made_of(
+    alloc: Global,
+    held: &Held,
+    committed: &[Committed],
+    request: Request,
+) -> Result<Result<Made, Refusal>, Memory>
+    requires held { IsHeld held.now }
+    ensures made { IfOk result (λ r. MatchResult r (IsMade (plan_by (desk_of held.now committed.now) (Ok request))) (λ refusal. plan_by (desk_of held.now committed.now) (Ok request) ≡ Err (plain_refusal refusal))) }
+    ensures memory { OnErr result (request.bump ≡ None) }
+{
+    if request.bump.is_some() {
+        return Ok(Err(Refusal::Bump));
+    }
+    match plan_of(alloc, held, committed, &request) {
+        Ok(plan) => Ok(Ok(Made { request, plan })),
+        Err(PlanFault::Memory) => Err(Memory),
+        Err(fault) => Ok(Err(Refusal::Plan(fault))),
+    }
+}
+
 /// The request of a file of these bytes, and its plan; or why there is none. The error is out of memory.
 pub fn make(
     alloc: Global,
@@ -63,17 +85,9 @@ pub fn make(
     requires held { IsHeld held.now }
     ensures made { IfOk result (λ r. MatchResult r (IsMade (plan_for (desk_of held.now committed.now) bytes.now)) (λ refusal. plan_for (desk_of held.now committed.now) bytes.now ≡ Err (plain_refusal refusal))) }
 {
-    let request = match read_request(alloc, bytes) {
-        Ok(request) => request,
-        Err(RequestFault::Memory) => return Err(Memory),
-        Err(fault) => return Ok(Err(Refusal::Request(fault))),
-    };
-    if request.bump.is_some() {
-        return Ok(Err(Refusal::Bump));
-    }
-    match plan_of(alloc, held, committed, &request) {
-        Ok(plan) => Ok(Ok(Made { request, plan })),
-        Err(PlanFault::Memory) => Err(Memory),
-        Err(fault) => Ok(Err(Refusal::Plan(fault))),
+    match read_request(alloc, bytes) {
+        Ok(request) => made_of(alloc, held, committed, request),
+        Err(RequestFault::Memory) => Err(Memory),
+        Err(fault) => Ok(Err(Refusal::Request(fault))),
     }
 }

@@ -1,9 +1,10 @@
 //! A pending transaction of a command, read and added.
 
-ghost use Rattle.std.specs.Prelude.{◌≡◌, ◌≢◌, ◌%◌, IfOk, Ok, OnErr, OnOk, length};
+ghost use Rattle.std.specs.Prelude.{◌≡◌, ◌≢◌, ◌%◌, IfOk, Ok, OnErr, OnOk, false, length};
 ghost use Rattle.fund_files.specs.Chain.{IsHeld};
 ghost use Rattle.tx_codec.specs.TransactionText.{IsTransaction};
-ghost use Rattle.desk_machine.specs.Machine.{add_pending, pending_by_tx, whole_tx};
+ghost use Rattle.tx_codec.specs.Txid.{txid_of};
+ghost use Rattle.desk_machine.specs.Machine.{add_pending, is_later, is_repeat, pending_by_tx, whole_tx};
 ghost use Rattle.desk_machine.specs.Replies.{BadHex, BadTx, Refused, plain_reply};
 
 use crate::chain::{add_pending, is_later, is_repeat};
@@ -19,6 +20,8 @@ use tx_codec::{Tx, TxFault, read_whole_tx, txid};
 fn add_tx(held: &mut Held, tx: Tx) -> Result<Reply, Memory>
     requires held { IsHeld held.old }
     requires text { IsTransaction tx }
+    ensures fresh { OnErr result (is_repeat held.old.wallet.pending (txid_of tx) ≡ false) }
+    ensures first { OnErr result (is_later held.old.wallet.pending tx ≡ false) }
     ensures reply { IfOk result (λ r. plain_reply r ≡ (pending_by_tx held.old (Ok tx)).reply) }
     ensures next { OnOk result (held.new ≡ (pending_by_tx held.old (Ok tx)).held) }
     ensures held { IsHeld held.new }

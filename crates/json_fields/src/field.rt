@@ -1,6 +1,7 @@
-//! Values of one kind: numbers, flags, texts, hex, hashes, coins and lists.
+//! Values of one kind: numbers, flags, texts, hex, hashes, coins and lists. But for the bytes of hex, a value of its kind is
+//! given without memory, which is taken to tell a fault alone.
 
-ghost use Rattle.std.specs.Prelude.{◌≡◌, ◌≤◌, ℕ, IfOk, IfSome};
+ghost use Rattle.std.specs.Prelude.{◌≡◌, ◌≤◌, ℕ, IfOk, IfSome, IsOk};
 ghost use Rattle.fund_base.specs.Cursor.{IsBytes};
 ghost use Rattle.fund_base.specs.Parsing.{YieldsAll};
 ghost use Rattle.serde_json.specs.View.{view, items_view};
@@ -18,6 +19,7 @@ use std::alloc::Global;
 pub fn number_of(alloc: Global, value: &Value, name: &str, most: u64) -> Result<u64, FieldFault>
     ensures gives { YieldsAll Memory (λ n. n) result (number_at name.now most (view value.now)) }
     ensures most { IfOk result (λ n. n ≤ most) }
+    ensures given { IsOk (number_at name.now most (view value.now)) → IsOk result }
 {
     match value.as_u64() {
         Some(n) if n <= most => Ok(n),
@@ -27,7 +29,8 @@ pub fn number_of(alloc: Global, value: &Value, name: &str, most: u64) -> Result<
 
 /// The truth value.
 pub fn flag_of(alloc: Global, value: &Value, name: &str) -> Result<bool, FieldFault>
-    ensures { YieldsAll Memory (λ b. b) result (flag_at name.now (view value.now)) }
+    ensures gives { YieldsAll Memory (λ b. b) result (flag_at name.now (view value.now)) }
+    ensures given { IsOk (flag_at name.now (view value.now)) → IsOk result }
 {
     match value.as_bool() {
         Some(flag) => Ok(flag),
@@ -37,7 +40,8 @@ pub fn flag_of(alloc: Global, value: &Value, name: &str) -> Result<bool, FieldFa
 
 /// The text of a string.
 pub fn text_of<'a>(alloc: Global, value: &'a Value, name: &str) -> Result<&'a str, FieldFault>
-    ensures { YieldsAll Memory (λ t. t.now) result (text_at name.now (view value.now)) }
+    ensures gives { YieldsAll Memory (λ t. t.now) result (text_at name.now (view value.now)) }
+    ensures given { IsOk (text_at name.now (view value.now)) → IsOk result }
 {
     match value.as_str() {
         Some(text) => Ok(text),
@@ -51,7 +55,8 @@ pub fn entries_of<'a>(
     value: &'a Value,
     name: &str,
 ) -> Result<&'a [Value], FieldFault>
-    ensures { YieldsAll Memory (λ v. items_view v.now) result (entries_at name.now (view value.now)) }
+    ensures gives { YieldsAll Memory (λ v. items_view v.now) result (entries_at name.now (view value.now)) }
+    ensures given { IsOk (entries_at name.now (view value.now)) → IsOk result }
 {
     match value.as_array() {
         Some(entries) => Ok(entries.as_slice()),
@@ -97,6 +102,7 @@ fn hash_in(text: &str) -> Option<[u8; 32]>
 pub fn hash_of(alloc: Global, value: &Value, name: &str) -> Result<[u8; 32], FieldFault>
     ensures gives { YieldsAll Memory (λ h. h) result (hash_at name.now (view value.now)) }
     ensures is { IfOk result IsHash }
+    ensures given { IsOk (hash_at name.now (view value.now)) → IsOk result }
 {
     let text = text_of(alloc, value, name)?;
     match hash_in(text) {
@@ -109,6 +115,7 @@ pub fn hash_of(alloc: Global, value: &Value, name: &str) -> Result<[u8; 32], Fie
 pub fn txid_of(alloc: Global, value: &Value, name: &str) -> Result<Txid, FieldFault>
     ensures gives { YieldsAll Memory (λ t. t) result (hash_at name.now (view value.now)) }
     ensures is { IfOk result IsHash }
+    ensures given { IsOk (hash_at name.now (view value.now)) → IsOk result }
 {
     let hash = hash_of(alloc, value, name)?;
     Ok(Txid(hash))
@@ -144,6 +151,7 @@ fn coin_in(text: &str) -> Option<OutPoint>
 pub fn coin_of(alloc: Global, value: &Value, name: &str) -> Result<OutPoint, FieldFault>
     ensures gives { YieldsAll Memory (λ c. c) result (coin_at name.now (view value.now)) }
     ensures is { IfOk result IsPoint }
+    ensures given { IsOk (coin_at name.now (view value.now)) → IsOk result }
 {
     let text = text_of(alloc, value, name)?;
     match coin_in(text) {

@@ -1,6 +1,6 @@
 //! The value that a file is, its objects and their members.
 
-ghost use Rattle.std.specs.Prelude.{◌≡◌, ℕ, List, find, not, bytes_eq, is_none, option_map, string_bytes};
+ghost use Rattle.std.specs.Prelude.{◌≡◌, ℕ, List, IsOk, find, not, bytes_eq, is_none, option_map, string_bytes};
 ghost use Rattle.std.specs.Borrow.{Bor};
 ghost use Rattle.std.specs.BTreeMap.{IsOrdered, keys};
 ghost use Rattle.std.specs.List.{list_any};
@@ -87,7 +87,9 @@ pub fn object_of(
     known: &[&str],
     required: &[&str],
 ) -> Result<(), FieldFault>
-    ensures { YieldsAll Memory (λ _. tt) result (object_at whole.now (texts known.now) (texts required.now) (view value.now)) }
+    ensures gives { YieldsAll Memory (λ _. tt) result (object_at whole.now (texts known.now) (texts required.now) (view value.now)) }
+    // Memory is taken to tell a fault alone.
+    ensures given { IsOk (object_at whole.now (texts known.now) (texts required.now) (view value.now)) → IsOk result }
 {
     let Some(members) = value.as_object() else {
         return Err(FieldFault::kind(alloc, whole));
@@ -104,7 +106,8 @@ pub fn object_of(
 /// The member of this name, or [`FieldFault::Missing`].
 #[tactic(auto, unfolding(crate::specs::Fields::member_at))]
 pub fn member_of<'a>(alloc: Global, value: &'a Value, name: &str) -> Result<&'a Value, FieldFault>
-    ensures { YieldsAll Memory (λ v. view v.now) result (member_at name.now (view value.now)) }
+    ensures gives { YieldsAll Memory (λ v. view v.now) result (member_at name.now (view value.now)) }
+    ensures given { IsOk (member_at name.now (view value.now)) → IsOk result }
 {
     match value.get(name) {
         Some(member) => Ok(member),

@@ -141,6 +141,8 @@ fn keyed_of<'a>(
 ) -> Result<Pair<'a>, PsbtFault>
     ensures gives { Yields OutOfMemory (λ p. p) cursor.new result (keyed_at part before.now place len cursor.old) }
     ensures short { result ≡ Err OutOfMemory → IsOkAnd (take_at len cursor.old) (λ key. has_key key.0 before.now ≡ false) }
+    ensures input { result ≡ Err OutOfMemory → part ≡ Input }
+    ensures meant { result ≡ Err OutOfMemory → IsOkAnd (take_at len cursor.old) (λ key. IsOkAnd (kind_in part place cursor.old.place key.0) (λ kind. (kind ≡ 0) ⊎ (kind ≡ 1))) }
 {
     let key_place = cursor.place();
     let key = cursor.take(len)?;

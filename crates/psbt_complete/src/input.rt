@@ -1,10 +1,11 @@
 //! An input of a PSBT made whole.
 
-ghost use Rattle.std.specs.Prelude.{◌≡◌, ◌≢◌, ◌↔◌, IfErr, IfOk, IfSome, IsTrue, Some, slice_get};
+ghost use Rattle.std.specs.Prelude.{◌≡◌, ◌≢◌, ◌↔◌, Err, IfErr, IfOk, IfSome, IsTrue, Some, slice_get};
+ghost use Rattle.std.specs.Option.{option_copied};
 ghost use Rattle.fund_files.specs.Chain.{HasTexts};
 ghost use Rattle.psbt_codec.specs.Psbt.{IsSpent};
 ghost use Rattle.psbt_complete.specs.Completed.{IsCompletedInput, due_for};
-ghost use Rattle.psbt_complete.specs.Faults.{IsInputFault};
+ghost use Rattle.psbt_complete.specs.Faults.{CanBeCompleted, IsInputFault};
 
 use crate::fault::CompleteFault;
 use coin_book::Book;
@@ -15,17 +16,12 @@ use tx_codec::{Tx, TxIn, TxOut};
 
 /// The whole transaction that is due beside an input: the one that stands there, or else that of the book's coin at the
 /// outpoint that the input spends.
-fn due_for(alloc: Global, book: &Book, input: &TxIn, known: &Spent) -> Result<Option<Tx>, Memory>
-    ensures { IfOk result (λ whole. whole ≡ due_for book.now (input.now, known.now)) }
+fn due_for<'a>(book: &'a Book, input: &TxIn, known: &'a Spent) -> Option<&'a Tx>
+    ensures { option_copied result ≡ due_for book.now (input.now, known.now) }
 {
     match &known.whole {
-        Some(whole) => Ok(Some(whole.copy(alloc)?)),
-        None => {
-            match book.parent(&input.prev) {
-                Some(whole) => Ok(Some(whole.copy(alloc)?)),
-                None => Ok(None),
-            }
-        }
+        Some(whole) => Some(whole),
+        None => book.parent(&input.prev),
     }
 }
 
@@ -64,7 +60,7 @@ fn copy_paid(alloc: Global, paid: &Option<TxOut>) -> Result<Option<TxOut>, Memor
 }
 
 /// What is known of the output that the input of this index spends, with the whole transaction that is due beside it; or
-/// what is wrong with the input. Out of memory may come in the place of either.
+/// what is wrong with the input. Memory is taken for what is copied, so only where nothing is wrong.
 pub fn completed_input(
     alloc: Global,
     book: &Book,
@@ -76,13 +72,15 @@ pub fn completed_input(
     requires spent { IsSpent input.now known.now }
     ensures completed { IfOk result (λ s. IsCompletedInput book.now (input.now, known.now) s) }
     ensures fault { IfErr result (λ e. e ≢ CompleteFault.Memory → IsInputFault book.now index (input.now, known.now) e) }
+    ensures memory { result ≡ Err CompleteFault.Memory → CanBeCompleted book.now (input.now, known.now) }
 {
-    let Some(whole) = due_for(alloc, book, input, known)? else {
+    let Some(whole) = due_for(book, input, known) else {
         return Err(CompleteFault::Missing(index, input.prev));
     };
-    if !has_told(input, &whole, &known.paid) {
+    if !has_told(input, whole, &known.paid) {
         return Err(CompleteFault::OtherOutput(index, input.prev));
     }
+    let whole = whole.copy(alloc)?;
     let paid = copy_paid(alloc, &known.paid)?;
     Ok(Spent {
         whole: Some(whole),

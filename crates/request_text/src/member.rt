@@ -1,13 +1,13 @@
 //! The members of a request other than its lists, each with its own rules, and with its default where it is left out.
 
-ghost use Rattle.std.specs.Prelude.{◌≡◌, ◌≢◌, ◌≤◌, IfErr, IfOk, IfSome, IsSome, is_some, replicate, codes, true};
+ghost use Rattle.std.specs.Prelude.{◌≡◌, ◌≢◌, ◌≤◌, ◌==◌, ◌||◌, IfErr, IfOk, IfSome, IsOk, IsSome, Ok, Err, is_some, nat_lt, replicate, codes, true, if◌then◌else◌};
 ghost use Rattle.serde_json.specs.Find.{get};
 ghost use Rattle.serde_json.specs.View.{view};
 ghost use Rattle.json_fields.specs.Fields.{IsHash, flag_at, number_at};
 ghost use Rattle.json_fields.specs.declared.fault.FieldFault.TheVariants.{Memory as NoMemory};
-ghost use Rattle.request_text.specs.RequestText.{bump_at, field, method_at, method_in, or_else, rate_at, seed_at, take_at, take_in, tries_at};
+ghost use Rattle.request_text.specs.RequestText.{bump_at, field, method_at, method_in, or_else, rate_at, seed_at, take_at, take_in, tries_at, whole_at};
 ghost use Rattle.request_text.specs.Told.{Gives, HasCause};
-ghost use Rattle.request_text.specs.declared.fault.Refusal.TheVariants.{Field as FieldRefusal, RateRange as BadRate};
+ghost use Rattle.request_text.specs.declared.fault.Refusal.TheVariants.{Field as FieldRefusal, RateRange as BadRate, TriesRange as BadTries};
 
 use crate::fault::Refusal;
 use crate::request::Method;
@@ -150,16 +150,25 @@ pub fn seed_or_zeros(alloc: Global, whole: &Value) -> Result<[u8; 32], Refusal>
     Ok(seed)
 }
 
+/// That the number of tries is in its range. It never runs out of memory.
+fn check_tries(tries: u64) -> Result<(), Refusal>
+    ensures { result ≡ (if (tries == 0) || nat_lt 10_000_000 tries then Err BadTries else Ok tt) }
+{
+    if tries == 0 || tries > MAX_TRIES {
+        return Err(Refusal::TriesRange);
+    }
+    Ok(())
+}
+
 #[tactic(auto, unfolding(crate::specs::RequestText::tries_at))]
 fn tries_of(alloc: Global, value: &Value) -> Result<u64, Refusal>
     ensures gives { Gives (λ n. n) result (tries_at (view value.now)) }
+    ensures given { IsOk (whole_at (codes "tries") (view value.now)) → result ≡ tries_at (view value.now) }
     ensures range { IfOk result (λ n. (1 ≤ n) × (n ≤ 10_000_000)) }
     ensures cause { IfErr result HasCause }
 {
     let tries = number_of(alloc, value, "tries", u64::MAX)?;
-    if tries == 0 || tries > MAX_TRIES {
-        return Err(Refusal::TriesRange);
-    }
+    check_tries(tries)?;
     Ok(tries)
 }
 

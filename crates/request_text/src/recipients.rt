@@ -1,6 +1,6 @@
 //! The recipients of a request, each by an address or by a script.
 
-ghost use Rattle.std.specs.Prelude.{◌≡◌, ◌≤◌, ◌<◌, [], All, IfOk, IfErr, IsTrue, ◌↔◌, codes, length, nat_le};
+ghost use Rattle.std.specs.Prelude.{◌≡◌, ◌≤◌, ◌<◌, ◌==◌, [], All, IfOk, IfErr, IsTrue, ◌↔◌, Ok, Err, codes, length, nat_le, nat_lt, if◌then◌else◌};
 ghost use Rattle.serde_json.specs.Find.{get};
 ghost use Rattle.serde_json.specs.View.{view, items_view};
 ghost use Rattle.json_fields.specs.Fields.{each_from};
@@ -10,7 +10,7 @@ ghost use Rattle.request_text.specs.RequestText.{amount_at, field, index_of, one
 ghost use Rattle.request_text.specs.Told.{Gives, HasCause};
 ghost use Rattle.segwit_addr.specs.Reading.{decode_of};
 ghost use Rattle.fund_base.specs.Parsing.{YieldsAll, fault_as};
-ghost use Rattle.request_text.specs.declared.fault.Refusal.TheVariants.{Address as BadAddress};
+ghost use Rattle.request_text.specs.declared.fault.Refusal.TheVariants.{Address as BadAddress, NoRecipients as Empty, SumRange};
 
 use crate::bounds::index_of;
 use crate::fault::Refusal;
@@ -44,11 +44,12 @@ fn amount_of(alloc: Global, entry: &Value) -> Result<u64, Refusal>
     Ok(number_of(alloc, amount, "amount", u64::MAX)?)
 }
 
-/// What is paid to the script, by the recipient at this index.
+/// What is paid to the script, by the recipient at this index. It never runs out of memory.
 #[tactic(auto, unfolding(crate::specs::RequestText::paid_at))]
 fn paid(index: u32, script: Script, amount: u64) -> Result<Recipient, Refusal>
     requires some { 1 ≤ length script }
     requires most { length script ≤ 10_000 }
+    ensures exact { result ≡ paid_at index script amount }
     ensures gives { Gives (λ r. r) result (paid_at index script amount) }
     ensures is { IfOk result IsRecipient }
     ensures cause { IfErr result HasCause }
@@ -162,6 +163,19 @@ fn is_money(recipients: &[Recipient]) -> bool
     true
 }
 
+/// That there is a recipient, and that they get at most 21,000,000 bitcoin together. It never runs out of memory.
+fn check_recipients(recipients: &[Recipient]) -> Result<(), Refusal>
+    ensures { result ≡ (if length recipients.now == 0 then Err Empty else if nat_lt 2_100_000_000_000_000 (paid_to recipients.now) then Err SumRange else Ok tt) }
+{
+    if recipients.is_empty() {
+        return Err(Refusal::NoRecipients);
+    }
+    if !is_money(recipients) {
+        return Err(Refusal::SumRange);
+    }
+    Ok(())
+}
+
 /// The recipients, at least one and together at most 21,000,000 bitcoin.
 #[tactic(auto, unfolding(crate::specs::RequestText::recipients_at))]
 pub fn recipients_of(alloc: Global, value: &Value) -> Result<Vec<Recipient>, Refusal>
@@ -172,11 +186,6 @@ pub fn recipients_of(alloc: Global, value: &Value) -> Result<Vec<Recipient>, Ref
     ensures cause { IfErr result HasCause }
 {
     let recipients = recipients_from(alloc, entries_of(alloc, value, "recipients")?)?;
-    if recipients.is_empty() {
-        return Err(Refusal::NoRecipients);
-    }
-    if !is_money(&recipients) {
-        return Err(Refusal::SumRange);
-    }
+    check_recipients(&recipients)?;
     Ok(recipients)
 }

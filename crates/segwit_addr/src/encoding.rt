@@ -1,6 +1,6 @@
 //! Writing addresses: the lower case text of a script's witness program.
 
-ghost use Rattle.std.specs.Prelude.{◌≡◌, ◌↔◌, ◌++◌, ◌∷◌, [], IfOk, IfSome, IsNone, IsFalse, codes};
+ghost use Rattle.std.specs.Prelude.{◌≡◌, ◌↔◌, ◌++◌, ◌∷◌, [], IfOk, IfSome, IsNone, IsFalse, IsTrue, OnErr, codes};
 ghost use Rattle.std.specs.Option.{option_map};
 ghost use Rattle.fund_base.specs.Cursor.{IsBytes};
 ghost use Rattle.segwit_addr.specs.Address.{IsAddress, IsLower, encode_of, is_witness, text_of};
@@ -22,6 +22,8 @@ pub fn encode(alloc: Global, script: &Script) -> Result<Option<Vec<u8>>, Memory>
 
     // Which scripts have an address, and which it is.
     ensures none { IfOk result (λ text. IsNone text ↔ IsFalse (is_witness script.now)) }
+    // Memory is taken for an address that there is.
+    ensures short { OnErr result (IsTrue (is_witness script.now)) }
     ensures exact { IfOk result (λ text. option_map (λ v. v.items) text ≡ encode_of script.now) }
 {
     text_of_script(alloc, bytes_of(script))
@@ -41,6 +43,7 @@ fn bytes_of(script: &Script) -> &[u8]
 fn text_of_script(alloc: Global, bytes: &[u8]) -> Result<Option<Vec<u8>>, Memory>
     ensures exact { IfOk result (λ text. option_map (λ v. v.items) text ≡ encode_of bytes.now) }
     ensures none { IfOk result (λ text. IsNone text ↔ IsFalse (is_witness bytes.now)) }
+    ensures short { OnErr result (IsTrue (is_witness bytes.now)) }
 {
     if !is_witness_program(bytes) {
         return Ok(None);

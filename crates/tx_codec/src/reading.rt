@@ -229,6 +229,7 @@ fn witnessed_of(alloc: Global, version: u32, cursor: &mut Cursor) -> Result<Tx, 
 fn segregated_of(alloc: Global, version: u32, cursor: &mut Cursor) -> Result<Tx, TxFault>
     ensures gives { Yields Memory (λ x. x) cursor.new result (segregated_at version cursor.old) }
     ensures short { result ≡ Err Memory → IsOkAnd (take_at 1 cursor.old) (λ flag. slice_index flag.0 0 ≡ 1) }
+    ensures some { result ≡ Err Memory → IsOkAnd (take_at 1 cursor.old) (λ flag. IsOkAnd (compact_at flag.1) (λ count. count.0 ≢ 0)) }
 {
     let flag = cursor.take(1)?;
     if flag[0] != 1 {
@@ -255,6 +256,7 @@ fn front_of(alloc: Global, cursor: &mut Cursor) -> Result<Tx, TxFault>
     ensures exact { Yields Memory (λ t. t) cursor.new result (tx_at cursor.old) }
     ensures stays { OnErr result (cursor.new ≡ cursor.old) }
     ensures bytes { IsBytes cursor.old.rest }
+    ensures short { result ≡ Err Memory → IsOk (number_at w32 cursor.old) }
 {
     let mut ahead = cursor.fork();
     let tx = tx_of(alloc, &mut ahead)?;
@@ -281,6 +283,7 @@ pub fn read_tx(alloc: Global, cursor: &mut Cursor) -> Result<Tx, TxFault>
 fn whole_of(alloc: Global, bytes: &[u8]) -> Result<Tx, TxFault>
     ensures exact { YieldsAll Memory (λ t. t) result (whole_of Trailing (tx_at (record { rest = bytes.now; place = 0 }))) }
     ensures bytes { IsBytes bytes.now }
+    ensures short { result ≡ Err Memory → IsOk (number_at w32 (record { rest = bytes.now; place = 0 })) }
 {
     let mut cursor = Cursor::new(bytes);
     let tx = tx_of(alloc, &mut cursor)?;
@@ -299,6 +302,9 @@ pub fn read_whole_tx(alloc: Global, bytes: &[u8]) -> Result<Tx, TxFault>
     ensures exact { YieldsAll Memory (λ t. t) result (whole_of Trailing (tx_at (record { rest = bytes.now; place = 0 }))) }
     ensures trailing { (place : ℕ) → result ≡ Err (Trailing place) → IsFollowed IsTransaction bytes.now place }
     ensures followed { (place : ℕ) → IsFollowed IsTransaction bytes.now place → MatchResult result (λ _. ⊥) (λ e. e ≢ Memory → e ≡ Trailing place) }
+
+    // Memory is taken behind the version, whose four bytes stand there.
+    ensures short { result ≡ Err Memory → IsOk (number_at w32 (record { rest = bytes.now; place = 0 })) }
 {
     whole_of(alloc, bytes)
 }
@@ -307,6 +313,7 @@ pub fn read_whole_tx(alloc: Global, bytes: &[u8]) -> Result<Tx, TxFault>
 fn legacy_tx_of(alloc: Global, cursor: &mut Cursor) -> Result<Tx, TxFault>
     ensures gives { Yields Memory (λ x. x) cursor.new result (legacy_tx_at cursor.old) }
     ensures short { result ≡ Err Memory → IsOk (number_at w32 cursor.old) }
+    ensures some { result ≡ Err Memory → IsOkAnd (number_at w32 cursor.old) (λ version. IsOkAnd (compact_at version.1) (λ count. count.0 ≢ 0)) }
 {
     let version = cursor.u32_le()?;
     legacy_of(alloc, version, cursor)

@@ -7,10 +7,10 @@ pub returns-then-needs_seed : goal.returns-then-needs_seed
 unfolding required_in
 returns-then-needs_seed c =
     let needed : needs_seed (view c.args.value.now) ≡ true = sym c.needs_seed.ensures ∙ c.if-needs_seed.true in
-    rw needed c.object_of.ensures
+    rw needed c.object_of.ensures.gives
 
 pub returns-else-needs_seed : goal.returns-else-needs_seed
 unfolding required_in
 returns-else-needs_seed c =
     let needed : needs_seed (view c.args.value.now) ≡ false = sym c.needs_seed.ensures ∙ c.if-needs_seed.false in
-    rw needed c.object_of-else-needs_seed.ensures
+    rw needed c.object_of-else-needs_seed.ensures.gives
