@@ -1,3 +1,5 @@
 pub mod JobFile
 pub mod JobTables
+pub mod Saving
+pub mod Tables
 pub mod Told

@@ -1,4 +1,5 @@
--- What an error of the database is told as.
+-- What an answer of the database is told as.
+use Rattle.std.specs.Prelude.{◌≡◌, Result, Ok, Err}
 use Rattle.fund_outside.specs.declared.keeper.KeepFault.{KeepFault}
 use Rattle.fund_outside.specs.declared.keeper.KeepFault.TheVariants.{Failed, Memory}
 use Rattle.sqlite.specs.declared.error.Error.{Error}
@@ -9,3 +10,12 @@ use Rattle.sqlite.specs.declared.error.ErrorCode.TheVariants.{OutOfMemory}
 abbrev pub told_as : Error → KeepFault
 told_as (SqliteFailure OutOfMemory) = Memory
 told_as _ = Failed
+
+-- what it gave as that
+abbrev pub told_answer : {T : Type 0} → Result T Error → Result T KeepFault
+told_answer (Ok given) = Ok given
+told_answer (Err error) = Err (told_as error)
+
+-- the result tells an answer that is so
+abbrev pub Tells : {T : Type 0} → (Result T Error → Type 0) → Result T KeepFault → Type 0
+Tells IsSo result = (answer : Result _ Error) × IsSo answer × (result ≡ told_answer answer)

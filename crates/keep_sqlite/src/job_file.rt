@@ -1,7 +1,13 @@
 //! Jobs kept in a file of the current folder.
 
-ghost use Rattle.std.specs.Prelude.{◌≡◌, ◌≤◌, None, IsErrOf, OnOk};
+ghost use Rattle.std.specs.Prelude.{◌≡◌, ◌≤◌, [], ◌∷◌, pos, None, IfErr, IfSome, IsErrOf, IsSome, IsTrue, OnOk};
 ghost use Rattle.fund_base.specs.Causes.{Rose, one_more};
+ghost use Rattle.sqlite.specs.Files.{over_files};
+ghost use Rattle.sqlite.specs.Opening.{is_open_error};
+ghost use Rattle.sqlite.specs.declared.types.Value.TheVariants.{Int, Text};
+ghost use Rattle.keep_sqlite.specs.JobFile.{FindsIn, IsTaken};
+ghost use Rattle.keep_sqlite.specs.Tables.{bytes_text, saved_text};
+ghost use Rattle.keep_sqlite.specs.Told.{Tells};
 
 use crate::tables;
 use crate::told::told;
@@ -55,8 +61,10 @@ impl<R: Deref<Target = HostRuntime> + Drop> Drop for SqliteKeeper<R> {
     }
 }
 
-/// Makes the file, empty and its owner's alone, where nothing has its name.
-fn make_private(rt: &HostRuntime) -> Result<(), Error> {
+/// Makes the file, empty and its owner's alone, where nothing has its name. Its errors are among those of an open.
+fn make_private(rt: &HostRuntime) -> Result<(), Error>
+    ensures { IfErr result (λ error. IsTrue (is_open_error error)) }
+{
     let made = OpenOptions::new()
         .write(true)
         .create_new(true)
@@ -72,26 +80,30 @@ fn make_private(rt: &HostRuntime) -> Result<(), Error> {
     }
 }
 
-/// The connection to the file, which is opened where it isn't yet.
-fn opened<'a>(
-    rt: &HostRuntime,
-    connection: &'a mut Option<Connection<FileStore<File>>>,
-) -> Result<&'a mut Connection<FileStore<File>>, Error> {
-    match connection {
-        Some(connection) => Ok(connection),
-        None => {
-            make_private(rt)?;
-            Ok(connection.insert(Connection::open(rt, NAME)?))
-        }
+/// Opens the file where it isn't open yet. A connection that is held stays; where the open fails, none is held.
+fn open(rt: &HostRuntime, connection: &mut Option<Connection<FileStore<File>>>) -> Result<(), Error>
+    ensures taken { OnOk result (IfSome connection.new (IsTaken over_files connection.old)) }
+    ensures held { OnOk result (IsSome connection.new) }
+    ensures unopened { IfErr result (λ error. IsTrue (is_open_error error) × (connection.old ≡ None) × (connection.new ≡ None)) }
+{
+    if connection.is_some() {
+        return Ok(());
     }
+    make_private(rt)?;
+    let made = Connection::open(rt, NAME)?;
+    *connection = Some(made);
+    Ok(())
 }
 
 fn load(
     rt: &HostRuntime,
     connection: &mut Option<Connection<FileStore<File>>>,
     job: &str,
-) -> Result<Option<Vec<u8>>, Error> {
-    tables::load(opened(rt, connection)?, job)
+) -> Result<Option<Vec<u8>>, Error>
+    ensures { FindsIn over_files saved_text (Text job.now ∷ []) connection.old connection.new result }
+{
+    open(rt, connection)?;
+    tables::load(connection.as_mut().unwrap(), job)
 }
 
 fn part(
@@ -99,8 +111,11 @@ fn part(
     connection: &mut Option<Connection<FileStore<File>>>,
     job: &str,
     number: u32,
-) -> Result<Option<Vec<u8>>, Error> {
-    tables::part(opened(rt, connection)?, job, number)
+) -> Result<Option<Vec<u8>>, Error>
+    ensures { FindsIn over_files bytes_text (Text job.now ∷ Int (pos number) ∷ []) connection.old connection.new result }
+{
+    open(rt, connection)?;
+    tables::part(connection.as_mut().unwrap(), job, number)
 }
 
 fn save(
@@ -111,7 +126,8 @@ fn save(
     part: &[u8],
     saved: &[u8],
 ) -> Result<(), Error> {
-    tables::save(opened(rt, connection)?, job, first, part, saved)
+    open(rt, connection)?;
+    tables::save(connection.as_mut().unwrap(), job, first, part, saved)
 }
 
 impl<R: Deref<Target = HostRuntime> + Drop> Keeper for SqliteKeeper<R> {
@@ -129,6 +145,9 @@ impl<R: Deref<Target = HostRuntime> + Drop> Keeper for SqliteKeeper<R> {
 
         // Whatever the database's error is, it is told once.
         ensures counted { IsErrOf result KeepFault.Failed → (view_of self.new).faults ≡ one_more (view_of self.old).faults }
+
+        // What it tells is what the tables show, or why the file can't be opened.
+        ensures told { Tells (FindsIn over_files saved_text (Text job.now ∷ []) self.old.connection self.new.connection) result }
     {
         told(load(&self.rt, &mut self.connection, job), &mut self.faults)
     }
@@ -141,6 +160,9 @@ impl<R: Deref<Target = HostRuntime> + Drop> Keeper for SqliteKeeper<R> {
 
         // Whatever the database's error is, it is told once.
         ensures counted { IsErrOf result KeepFault.Failed → (view_of self.new).faults ≡ one_more (view_of self.old).faults }
+
+        // What it tells is what the tables show, or why the file can't be opened.
+        ensures told { Tells (FindsIn over_files bytes_text (Text job.now ∷ Int (pos number) ∷ []) self.old.connection self.new.connection) result }
     {
         told(
             part(&self.rt, &mut self.connection, job, number),

@@ -1,7 +1,13 @@
 //! Jobs kept in the tables of a database, over any store.
 
-ghost use Rattle.std.specs.Prelude.{◌≡◌, ◌≤◌, None, IsErrOf, OnOk};
+ghost use Rattle.std.specs.Prelude.{◌≡◌, ◌≤◌, [], ◌∷◌, pos, None, IsErrOf, IsTrue, OnErr, OnOk};
 ghost use Rattle.fund_base.specs.Causes.{Rose, one_more};
+ghost use Rattle.sqlite.specs.Held.{state};
+ghost use Rattle.sqlite.specs.State.{HasCleanDisk};
+ghost use Rattle.sqlite.specs.declared.types.Value.TheVariants.{Int, Text};
+ghost use Rattle.keep_sqlite.specs.Saving.{IsAsBefore};
+ghost use Rattle.keep_sqlite.specs.Tables.{Finds, bytes_text, saved_text};
+ghost use Rattle.keep_sqlite.specs.Told.{Tells};
 
 use crate::tables;
 use crate::told::told;
@@ -10,7 +16,9 @@ use sqlite::{Alter, Connection};
 
 /// Jobs kept in the tables `job` and `part` of a database. It tells nothing of which jobs these are. Each call that the
 /// database refuses is counted, but for want of memory; `save` is one transaction, so that after any error, and after
-/// a stop at any moment of it, the tables are as before or as after it.
+/// a stop at any moment of it, the tables are as before or as after it. A load or a part tells what its query shows:
+/// `None` where the tables aren't made or no row is shown, and never in place of an error. That is promised while the
+/// disk returns what was written and nothing else writes the database.
 #[derive(Drop)]
 pub struct JobTables<S: Alter + Drop> {
     connection: Connection<S>,
@@ -45,7 +53,7 @@ impl<S: Alter + Drop> JobTables<S> {
 }
 
 impl<S: Alter + Drop> Keeper for JobTables<S> {
-    ghost use Rattle.keep_sqlite.specs.JobTables.{view_of};
+    ghost use Rattle.keep_sqlite.specs.JobTables.{held_by, view_of};
 
     ghost tells = { ⊥ };
 
@@ -59,6 +67,9 @@ impl<S: Alter + Drop> Keeper for JobTables<S> {
 
         // Whatever the database's error is, it is told once.
         ensures counted { IsErrOf result KeepFault.Failed → (view_of self.new).faults ≡ one_more (view_of self.old).faults }
+
+        // What it tells is what the tables show, where the disk has returned what was written.
+        ensures told { HasCleanDisk (state S.Store (held_by self.new)) → Tells (Finds S.Store saved_text (Text job.now ∷ []) (held_by self.old) (held_by self.new)) result }
     {
         told(tables::load(&mut self.connection, job), &mut self.faults)
     }
@@ -71,6 +82,9 @@ impl<S: Alter + Drop> Keeper for JobTables<S> {
 
         // Whatever the database's error is, it is told once.
         ensures counted { IsErrOf result KeepFault.Failed → (view_of self.new).faults ≡ one_more (view_of self.old).faults }
+
+        // What it tells is what the tables show, where the disk has returned what was written.
+        ensures told { HasCleanDisk (state S.Store (held_by self.new)) → Tells (Finds S.Store bytes_text (Text job.now ∷ Int (pos number) ∷ []) (held_by self.old) (held_by self.new)) result }
     {
         told(
             tables::part(&mut self.connection, job, number),
@@ -86,6 +100,9 @@ impl<S: Alter + Drop> Keeper for JobTables<S> {
 
         // Whatever the database's error is, it is told once.
         ensures counted { IsErrOf result KeepFault.Failed → (view_of self.new).faults ≡ one_more (view_of self.old).faults }
+
+        // After an error the database is as before, where the disk has returned what was written.
+        ensures neither { HasCleanDisk (state S.Store (held_by self.new)) → IsTrue (state S.Store (held_by self.new)).is_open → OnErr result (IsAsBefore S.Store (held_by self.old) (held_by self.new)) }
     {
         told(
             tables::save(&mut self.connection, job, first, part, saved),

@@ -1,6 +1,7 @@
 //! Where jobs are kept between two runs of the program: in the tables of a database, over any store that `sqlite`
-//! takes, and over the job file of the current folder. What the tables hold is told in no contract; when a call fails,
-//! and what that counts, is.
+//! takes, and over the job file of the current folder. Which jobs the tables hold is told in no contract. When a call
+//! fails is, and what that counts. So is that a load or a part tells what its query shows, and that a save that fails
+//! leaves the database as before.
 #![tactic(auto)]
 
 mod job_file;

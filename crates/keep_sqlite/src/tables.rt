@@ -1,5 +1,15 @@
 //! Jobs as rows of two tables: one row a job, and one row a part.
 
+ghost use Rattle.std.specs.Prelude.{◌≡◌, ◌≤◌, [], ◌∷◌, pos, Err, IsTrue, OnErr};
+ghost use Rattle.sqlite.specs.Held.{state};
+ghost use Rattle.sqlite.specs.State.{HasCleanDisk};
+ghost use Rattle.sqlite.specs.Values.{bound};
+ghost use Rattle.sqlite.specs.View.{doubt};
+ghost use Rattle.sqlite.specs.declared.types.Value.TheVariants.{Int, Text};
+ghost use Rattle.keep_sqlite.specs.Saving.{IsAsBefore, StaysInside};
+ghost use Rattle.keep_sqlite.specs.Tables.{AreBytesOf, AreCounted, AreMadeBy, Finds, ShowsBytes, TellsTables, bytes_text, saved_text, tables_made};
+
+use sqlite::types::ValueRef;
 use sqlite::{Alter, Connection, Error, ErrorCode, Row, Transaction, params};
 
 /// A job by its name, and its saved text.
@@ -30,7 +40,9 @@ const KEEP_SAVED: &str =
 
 /// Whether the tables are there, by the counts of objects and of ours. A database with any other object in it, or with
 /// a table of another shape, isn't ours.
-fn are_made(objects: i64, ours: i64) -> Result<bool, Error> {
+fn are_made(objects: i64, ours: i64) -> Result<bool, Error>
+    ensures { result ≡ tables_made objects ours }
+{
     match (objects, ours) {
         (0, _) => Ok(false),
         (2, 2) => Ok(true),
@@ -38,53 +50,116 @@ fn are_made(objects: i64, ours: i64) -> Result<bool, Error> {
     }
 }
 
-/// Whether the database has the tables; an error where it is one of something else.
-fn has_tables<S: Alter>(connection: &mut Connection<S>) -> Result<bool, Error> {
-    let counts = connection.query_row(OBJECTS, params![JOB, PART])?;
+/// Whether the tables are there, by the row of both counts.
+fn are_made_by_row(counts: &Row) -> Result<bool, Error>
+    ensures { AreCounted counts.now result }
+{
     are_made(counts.get(0)?, counts.get(1)?)
 }
 
-/// Makes the tables where they aren't there yet.
-fn make_tables<S: Alter>(transaction: &mut Transaction<'_, S>) -> Result<(), Error> {
-    let counts = transaction.query_row(OBJECTS, params![JOB, PART])?;
-    if are_made(counts.get(0)?, counts.get(1)?)? {
-        return Ok(());
+/// Whether the tables are there, by what the database answers when it is asked for both counts.
+fn are_made_by(answer: Result<Row, Error>) -> Result<bool, Error>
+    ensures { AreMadeBy answer result }
+{
+    match answer {
+        Ok(counts) => are_made_by_row(&counts),
+        Err(error) => Err(error),
     }
-    transaction.execute(JOB, &[])?;
-    transaction.execute(PART, &[])?;
-    Ok(())
 }
 
-/// The bytes that a query shows, where it shows a row.
-fn bytes_of(row: Result<Row, Error>) -> Result<Option<Vec<u8>>, Error> {
-    match row {
+/// Whether the database has the tables; an error where it is one of something else.
+fn has_tables<S: Alter>(connection: &mut Connection<S>) -> Result<bool, Error>
+    ensures told { HasCleanDisk (state S.Store connection.new) → TellsTables S.Store connection.old connection.new result }
+    ensures clean { doubt (state S.Store connection.old).is_clean ≤ doubt (state S.Store connection.new).is_clean }
+{
+    are_made_by(connection.query_row(OBJECTS, params![JOB, PART]))
+}
+
+/// Whether the tables are there, as the transaction sees them.
+fn are_there<S: Alter>(transaction: &mut Transaction<'_, S>) -> Result<bool, Error>
+    ensures same_reference { transaction.new.conn.ghost_name ≡ transaction.old.conn.ghost_name }
+    ensures left { StaysInside S.Store transaction.old.conn.now transaction.new.conn.now result }
+{
+    are_made_by(transaction.query_row(OBJECTS, params![JOB, PART]))
+}
+
+/// Runs a statement in the transaction.
+fn run<S: Alter>(
+    transaction: &mut Transaction<'_, S>,
+    statement: &str,
+    params: &[ValueRef<'_>],
+) -> Result<(), Error>
+    ensures same_reference { transaction.new.conn.ghost_name ≡ transaction.old.conn.ghost_name }
+    ensures left { StaysInside S.Store transaction.old.conn.now transaction.new.conn.now result }
+{
+    match transaction.execute(statement, params) {
+        Ok(_) => Ok(()),
+        Err(error) => Err(error),
+    }
+}
+
+/// Makes the tables where they aren't there yet.
+fn make_tables<S: Alter>(transaction: &mut Transaction<'_, S>) -> Result<(), Error>
+    ensures same_reference { transaction.new.conn.ghost_name ≡ transaction.old.conn.ghost_name }
+    ensures left { StaysInside S.Store transaction.old.conn.now transaction.new.conn.now result }
+{
+    if are_there(transaction)? {
+        return Ok(());
+    }
+    run(transaction, JOB, &[])?;
+    run(transaction, PART, &[])
+}
+
+/// The bytes that a query shows, where it shows a row. That it shows none is `None`, and no other error is.
+fn bytes_of(answer: Result<Row, Error>) -> Result<Option<Vec<u8>>, Error>
+    ensures { AreBytesOf answer result }
+{
+    match answer {
         Ok(row) => Ok(Some(row.get(0)?)),
         Err(Error::QueryReturnedNoRows) => Ok(None),
         Err(error) => Err(error),
     }
 }
 
-/// The saved text of the job.
+/// The bytes that the query shows in the database, where the disk has returned what was written.
+fn shown<S: Alter>(
+    connection: &mut Connection<S>,
+    query: &str,
+    params: &[ValueRef<'_>],
+) -> Result<Option<Vec<u8>>, Error>
+    ensures told { HasCleanDisk (state S.Store connection.new) → ShowsBytes S.Store query.now (bound params.now) connection.old connection.new result }
+    ensures clean { doubt (state S.Store connection.old).is_clean ≤ doubt (state S.Store connection.new).is_clean }
+{
+    bytes_of(connection.query_row(query, params))
+}
+
+/// The saved text of the job; `None` where the tables aren't made or the query shows no row.
 pub(crate) fn load<S: Alter>(
     connection: &mut Connection<S>,
     job: &str,
-) -> Result<Option<Vec<u8>>, Error> {
+) -> Result<Option<Vec<u8>>, Error>
+    ensures told { HasCleanDisk (state S.Store connection.new) → Finds S.Store saved_text (Text job.now ∷ []) connection.old connection.new result }
+    ensures clean { doubt (state S.Store connection.old).is_clean ≤ doubt (state S.Store connection.new).is_clean }
+{
     if !has_tables(connection)? {
         return Ok(None);
     }
-    bytes_of(connection.query_row(SAVED, params![job]))
+    shown(connection, SAVED, params![job])
 }
 
-/// The job's part of that number.
+/// The job's part of that number; `None` where the tables aren't made or the query shows no row.
 pub(crate) fn part<S: Alter>(
     connection: &mut Connection<S>,
     job: &str,
     number: u32,
-) -> Result<Option<Vec<u8>>, Error> {
+) -> Result<Option<Vec<u8>>, Error>
+    ensures told { HasCleanDisk (state S.Store connection.new) → Finds S.Store bytes_text (Text job.now ∷ Int (pos number) ∷ []) connection.old connection.new result }
+    ensures clean { doubt (state S.Store connection.old).is_clean ≤ doubt (state S.Store connection.new).is_clean }
+{
     if !has_tables(connection)? {
         return Ok(None);
     }
-    bytes_of(connection.query_row(BYTES, params![job, number]))
+    shown(connection, BYTES, params![job, number])
 }
 
 /// Writes the rows of a job.
@@ -94,11 +169,28 @@ fn keep<S: Alter>(
     first: u32,
     part: &[u8],
     saved: &[u8],
-) -> Result<(), Error> {
-    transaction.execute(DROP_PARTS, params![job, first])?;
-    transaction.execute(ADD_PART, params![job, part])?;
-    transaction.execute(KEEP_SAVED, params![job, saved])?;
-    Ok(())
+) -> Result<(), Error>
+    ensures same_reference { transaction.new.conn.ghost_name ≡ transaction.old.conn.ghost_name }
+    ensures left { StaysInside S.Store transaction.old.conn.now transaction.new.conn.now result }
+{
+    run(transaction, DROP_PARTS, params![job, first])?;
+    run(transaction, ADD_PART, params![job, part])?;
+    run(transaction, KEEP_SAVED, params![job, saved])
+}
+
+/// Makes the tables where they aren't there yet, and writes the rows of a job.
+fn write<S: Alter>(
+    transaction: &mut Transaction<'_, S>,
+    job: &str,
+    first: u32,
+    part: &[u8],
+    saved: &[u8],
+) -> Result<(), Error>
+    ensures same_reference { transaction.new.conn.ghost_name ≡ transaction.old.conn.ghost_name }
+    ensures left { StaysInside S.Store transaction.old.conn.now transaction.new.conn.now result }
+{
+    make_tables(transaction)?;
+    keep(transaction, job, first, part, saved)
 }
 
 /// Keeps the first parts of the job, at most so many, one more behind them, and its saved text: all in one
@@ -109,12 +201,14 @@ pub(crate) fn save<S: Alter>(
     first: u32,
     part: &[u8],
     saved: &[u8],
-) -> Result<(), Error> {
+) -> Result<(), Error>
+    ensures open { IsTrue connection.old.in_transaction → (result ≡ Err (Error.SqliteFailure ErrorCode.TransactionState)) × (connection.new ≡ connection.old) }
+    ensures neither { HasCleanDisk (state S.Store connection.new) → IsTrue (state S.Store connection.new).is_open → OnErr result (IsAsBefore S.Store connection.old connection.new) }
+{
     if !connection.is_autocommit() {
         return Err(Error::SqliteFailure(ErrorCode::TransactionState));
     }
     let mut transaction = connection.transaction();
-    make_tables(&mut transaction)?;
-    keep(&mut transaction, job, first, part, saved)?;
+    write(&mut transaction, job, first, part, saved)?;
     transaction.commit()
 }
