@@ -4,9 +4,9 @@ use Rattle.std.proofs.Common.{refl, sym, ap, subst, ◌∙◌}
 use Rattle.log_checker.specs.declared.fault.LogFault.{LogFault}
 use Rattle.log_checker.specs.declared.fault.LogFault.TheVariants.{UnknownToken, ReasonFalse, TooLong, Open, AnswerNotMet, BetterMet, AnswerNotAdmissible, Memory}
 use Rattle.log_checker.specs.declared.stepping.Wrong.{Wrong}
-use Rattle.log_checker.specs.declared.stepping.Wrong.TheVariants.{False, Better}
+use Rattle.log_checker.specs.declared.stepping.Wrong.TheVariants.{Unknown, Long, False, Better}
 use Rattle.log_checker.specs.Feeding.{PlainChecker, IsChecker, IsFalse, IsMet, IsOfLetters, IsRefused, RefusesToken, counted, fed, stepped}
-use Rattle.log_checker.specs.Reads.{IsWrong, Steps}
+use Rattle.log_checker.specs.Reads.{IsWrong, Steps, fault_at}
 use Rattle.pick_problem.specs.declared.token.Token.{Token}
 use Rattle.pick_problem.specs.Problem.{PlainProblem}
 use Rattle.pick_problem.specs.Admissible.{IsFit}
@@ -31,6 +31,14 @@ false_token c token open_ wrong b e = (refl, open_, subst (λ (o : Option Token)
 pub better_token : (c : PlainChecker) (token : Token) → c.state.closed ≡ false →
     IsWrong c.problem c.answer c.state token Better → RefusesToken c token (BetterMet c.fed)
 better_token c token open_ wrong b e = (refl, open_, e ∙ ap (λ (k : Token). Some k) wrong.0, wrong.1, wrong.2)
+
+-- what is wrong with a token at an open node is its fault there
+pub wrong_token : (c : PlainChecker) (token : Token) (w : Wrong) → c.state.closed ≡ false →
+    IsWrong c.problem c.answer c.state token w → RefusesToken c token (fault_at w c.fed)
+wrong_token c token Unknown open_ wrong = absurd wrong
+wrong_token c token Long open_ wrong = absurd wrong
+wrong_token c token False open_ wrong = false_token c token open_ wrong
+wrong_token c token Better open_ wrong = better_token c token open_ wrong
 
 pub long_token : (c : PlainChecker) (token : Token) → c.state.closed ≡ true → RefusesToken c token (TooLong c.fed)
 long_token c token shut b e = (refl, shut, subst (λ (o : Option Token). IsSome o) (sym e) refl)
@@ -60,10 +68,6 @@ refused_letters p a s place b Open h = h
 refused_letters p a s place b AnswerNotMet h = h
 refused_letters p a s place b AnswerNotAdmissible h = h
 refused_letters p a s place b Memory h = h
-
-pub of_letters : (c : PlainChecker) (b : ℕ) (token : Token) (f : LogFault) → token_of b ≡ Some token →
-    RefusesToken c token f → IsOfLetters f
-of_letters c b token f e h = refused_letters c.problem c.answer c.state c.fed b f (h b e)
 
 pub letter_taken : (p : PlainProblem) (a : Option (List ℕ)) (s : State) (b : ℕ) (token : Token) →
     token_of b ≡ Some token → IsAllowed p a s token → IsTaken p a s b

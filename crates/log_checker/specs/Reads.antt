@@ -1,8 +1,10 @@
 -- The sums that a reading keeps of the chosen places.
 use Rattle.std.specs.Prelude.{◌≡◌, ℕ, ◌≤◌, Bool, false, List, length, Option, Some, None, IsSomeAnd, Result, MatchResult, bytes_eq, pos, neg_ℤ, ◌≤ℤ◌, vec_capacity}
+use Rattle.log_checker.specs.declared.fault.LogFault.{LogFault}
+use Rattle.log_checker.specs.declared.fault.LogFault.TheVariants.{UnknownToken, ReasonFalse, TooLong, BetterMet}
 use Rattle.log_checker.specs.declared.reading.Reading.{Reading}
 use Rattle.log_checker.specs.declared.stepping.Wrong.{Wrong}
-use Rattle.log_checker.specs.declared.stepping.Wrong.TheVariants.{False, Better}
+use Rattle.log_checker.specs.declared.stepping.Wrong.TheVariants.{Unknown, Long, False, Better}
 use Rattle.log_checker.specs.Feeding.{IsFalse}
 use Rattle.pick_problem.specs.declared.token.Reason.TheVariants.{Hit}
 use Rattle.pick_problem.specs.declared.token.Token.{Token}
@@ -36,8 +38,17 @@ is_answer (Some best) q = bytes_eq q best
 
 -- what is wrong with a token at an open node
 abbrev pub IsWrong : PlainProblem → Option (List ℕ) → State → Token → Wrong → Type 0
+IsWrong p a s token Unknown = ⊥
+IsWrong p a s token Long = ⊥
 IsWrong p a s token False = IsFalse p a s token
 IsWrong p a s token Better = (token ≡ Close Hit) × IsAdmissible p s.chosen × (¬ IsSomeAnd a (λ best. IsNoBetterThan p s.met s.chosen best))
+
+-- the fault of what is wrong with a letter at a place
+abbrev pub fault_at : Wrong → ℕ → LogFault
+fault_at Unknown place = UnknownToken place
+fault_at Long place = TooLong place
+fault_at False place = ReasonFalse place
+fault_at Better place = BetterMet place
 
 -- what a token at an open node leaves: its step where it is allowed, and all as it was where it is wrong
 abbrev pub Steps : {T : Type 0} → PlainProblem → Option (List ℕ) → State → Token → State → Result T Wrong → Type 0

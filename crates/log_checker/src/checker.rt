@@ -1,17 +1,19 @@
 //! The checker of a log.
 
-ghost use Rattle.std.specs.Prelude.{◌≡◌, ◌↔◌, ◌⊎◌, [], ◌∷◌, true, false, Err, IfErr, IfOk, IfSome, IsOk, IsTrue, None, OnOk, option_copied};
+ghost use Rattle.std.specs.Prelude.{◌≡◌, ◌↔◌, ◌⊎◌, [], ◌∷◌, true, false, Err, IfErr, IfOk, IfSome, IsOk, IsTrue, None, OnOk, Some, option_copied};
 ghost use Rattle.log_checker.specs.Feeding.{EndsWell, IsFirstFault, IsMet, IsOfLetters, IsRefused, RefusesToken, Takes, begun, faulted, fed, stepped, stopped};
+ghost use Rattle.log_checker.specs.Reads.{fault_at};
 ghost use Rattle.pick_problem.specs.Admissible.{IsFit};
 ghost use Rattle.pick_problem.specs.Best.{IsBest};
 ghost use Rattle.pick_problem.specs.Letters.{IsTaken};
 ghost use Rattle.pick_problem.specs.Steps.{IsAllowed};
+ghost use Rattle.pick_problem.specs.Tokens.{token_of};
 
 use crate::claim::Claim;
 use crate::fault::LogFault;
 use crate::reading::Reading;
 use crate::stepping::Wrong;
-use pick_problem::{Problem, Token};
+use pick_problem::{Problem, Reason, Token};
 use std::alloc::Global;
 use std::marker::Model;
 
@@ -63,52 +65,73 @@ impl Checker {
     }
 
     /// One token.
-    #[tactic(auto, using(crate::proofs::FeedLaws::step_keeps_checker, crate::proofs::FeedLaws::false_token, crate::proofs::FeedLaws::better_token, crate::proofs::FeedLaws::long_token))]
+    #[tactic(auto, using(crate::proofs::FeedLaws::step_keeps_checker, crate::proofs::FeedLaws::wrong_token, crate::proofs::FeedLaws::long_token))]
     #[inline(always)]
-    fn take(&mut self, token: Token) -> Result<(), LogFault>
+    fn take(&mut self, token: Token) -> Result<(), Wrong>
         requires { self.old.fault ≡ None }
         ensures ok { OnOk result (IsAllowed self.old.problem self.old.answer self.old.state token × (self.new ≡ stepped self.old token)) }
-        ensures err { IfErr result (λ f. RefusesToken self.old token f × (self.new ≡ self.old)) }
+        ensures err { IfErr result (λ w. RefusesToken self.old token (fault_at w self.old.fed) × (self.new ≡ self.old)) }
     {
         if self.reading.closed {
-            return Err(LogFault::TooLong(self.fed));
+            return Err(Wrong::Long);
         }
         match self.reading.step(&self.claim, token) {
             Ok(()) => Ok(()),
-            Err(Wrong::False) => Err(LogFault::ReasonFalse(self.fed)),
-            Err(Wrong::Better) => Err(LogFault::BetterMet(self.fed)),
+            Err(wrong) => Err(wrong),
         }
     }
 
-    /// Keeps a fault, and gives it.
-    fn stop(&mut self, fault: LogFault) -> Result<(), LogFault>
+    /// Keeps a fault.
+    fn keep(&mut self, fault: LogFault)
         requires { IsOfLetters fault }
-        ensures fault { result ≡ Err fault }
-        ensures kept { self.new ≡ faulted self.old fault }
+        ensures { self.new ≡ faulted self.old fault }
     {
         self.fault = Some(fault);
-        Err(fault)
     }
 
-    /// One letter. Its fault is kept.
-    #[tactic(auto, using(crate::proofs::FeedLaws::unknown_letter, crate::proofs::FeedLaws::of_letters, crate::proofs::FeedLaws::letter_taken, crate::proofs::FeedLaws::one_letter))]
+    /// One token, by its letter.
+    #[tactic(auto, using(crate::proofs::FeedLaws::letter_taken, crate::proofs::FeedLaws::one_letter))]
     #[inline(always)]
-    fn read(&mut self, letter: u8) -> Result<(), LogFault>
-        requires { self.old.fault ≡ None }
+    fn follow(&mut self, letter: u8, token: Token) -> Result<(), Wrong>
+        requires fine { self.old.fault ≡ None }
+        requires letter { token_of letter ≡ Some token }
         ensures ok { OnOk result (IsTaken self.old.problem self.old.answer self.old.state letter × (self.new ≡ fed self.old (letter ∷ []))) }
-        ensures err { IfErr result (λ f. IsRefused self.old.problem self.old.answer self.old.state self.old.fed letter f × (self.new ≡ faulted self.old f)) }
+        ensures err { IfErr result (λ w. IsRefused self.old.problem self.old.answer self.old.state self.old.fed letter (fault_at w self.old.fed) × (self.new ≡ self.old)) }
     {
-        let Some(token) = Token::of(letter) else {
-            return self.stop(LogFault::UnknownToken(self.fed));
-        };
-        if let Err(fault) = self.take(token) {
-            return self.stop(fault);
+        if let Err(wrong) = self.take(token) {
+            return Err(wrong);
         }
         self.fed = self.fed.saturating_add(1);
         Ok(())
     }
 
+    /// One letter. Each token has an arm of its own here, so it is known where its step is compiled; with `Token::of`
+    /// each letter would be looked at three times.
+    #[tactic(auto, using(crate::proofs::FeedLaws::unknown_letter))]
+    #[inline(always)]
+    fn read(&mut self, letter: u8) -> Result<(), Wrong>
+        requires { self.old.fault ≡ None }
+        ensures ok { OnOk result (IsTaken self.old.problem self.old.answer self.old.state letter × (self.new ≡ fed self.old (letter ∷ []))) }
+        ensures err { IfErr result (λ w. IsRefused self.old.problem self.old.answer self.old.state self.old.fed letter (fault_at w self.old.fed) × (self.new ≡ self.old)) }
+    {
+        match letter {
+            b'I' => self.follow(letter, Token::Enter),
+            b'T' => self.follow(letter, Token::Pass),
+            b'S' => self.follow(letter, Token::Close(Reason::Short)),
+            b'O' => self.follow(letter, Token::Close(Reason::Over)),
+            b'H' => self.follow(letter, Token::Close(Reason::Heavy)),
+            b'M' => self.follow(letter, Token::Close(Reason::NoRoom)),
+            b'W' => self.follow(letter, Token::Close(Reason::Worse)),
+            b'L' => self.follow(letter, Token::Close(Reason::Heavier)),
+            b'F' => self.follow(letter, Token::Close(Reason::Far)),
+            b'A' => self.follow(letter, Token::Close(Reason::Hit)),
+            _ => Err(Wrong::Unknown),
+        }
+    }
+
     /// Makes the steps of the letters in order, from where the ones before them led. It takes no memory.
+    // Never inlined: in a caller that made the checker, each arm keeps copies of its own of what the loop loads.
+    #[inline(never)]
     pub fn feed(&mut self, tokens: &[u8]) -> Result<(), LogFault>
         // a fault that was found is given again, and nothing is read
         ensures kept { IfSome self.old.fault (λ f. (result ≡ Err f) × (self.new ≡ self.old)) }
@@ -124,7 +147,9 @@ impl Checker {
             return Err(fault);
         }
         for letter in tokens {
-            if let Err(fault) = self.read(*letter) {
+            if let Err(wrong) = self.read(*letter) {
+                let fault = wrong.at(self.fed);
+                self.keep(fault);
                 return Err(fault);
             }
         }

@@ -1,21 +1,40 @@
 //! One token at a node: it makes its step where it is allowed, and else says what is wrong.
 
 ghost use Rattle.std.specs.Prelude.{◌≡◌, ◌≢◌, false};
-ghost use Rattle.log_checker.specs.Reads.{IsReading, Steps, state_of};
+ghost use Rattle.log_checker.specs.Reads.{IsReading, Steps, fault_at, state_of};
 ghost use Rattle.pick_problem.specs.declared.token.Reason.TheVariants.{Hit};
 ghost use Rattle.pick_problem.specs.declared.token.Token.TheVariants.{Close, Enter, Pass};
 
 use crate::claim::Claim;
+use crate::fault::LogFault;
 use crate::reading::Reading;
 use pick_problem::{Reason, Token};
 
-/// What is wrong with a token at an open node.
+/// What is wrong with a letter. A step gives but the last two, of a token at an open node.
 #[derive(Clone, Copy, Debug, PartialEq, Eq)]
 pub enum Wrong {
+    /// It is the letter of no token.
+    Unknown,
+    /// The tree was closed before it.
+    Long,
     /// It isn't allowed there: any but A, or an A below `lo`.
     False,
     /// It is A at an admissible selection that the answer doesn't beat.
     Better,
+}
+
+impl Wrong {
+    /// The fault of a letter at a place.
+    pub fn at(self, place: u64) -> LogFault
+        ensures { result ≡ fault_at self place }
+    {
+        match self {
+            Wrong::Unknown => LogFault::UnknownToken(place),
+            Wrong::Long => LogFault::TooLong(place),
+            Wrong::False => LogFault::ReasonFalse(place),
+            Wrong::Better => LogFault::BetterMet(place),
+        }
+    }
 }
 
 impl Reading {

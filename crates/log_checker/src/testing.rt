@@ -1,5 +1,6 @@
 //! What is asked of a node before it may be closed. Each question is answered from the sums that the reading keeps;
-//! none but the one for the answer itself goes through the chosen places.
+//! none but the one for the answer itself goes through the chosen places. What only A asks is never inlined,
+//! so that the loop over letters stays small.
 
 ghost use Rattle.std.specs.Prelude.{◌≡◌, ◌≢◌, ◌↔◌, ◌<◌, ◌≤◌, ◌+◌, ◌-◌, ◌*◌, ◌||◌, pos, ◌+ℤ◌, IsSomeAnd, IsTrue, Some, length, slice_get};
 ghost use Rattle.log_checker.specs.Reads.{IsReading, is_answer};
@@ -17,6 +18,7 @@ use pick_problem::{Kind, Reason, Score};
 
 impl Reading {
     /// Whether the chosen places are the answer.
+    #[inline(never)]
     pub fn is_answer(&self, claim: &Claim) -> bool
         ensures { result ≡ is_answer claim.now.answer self.now.places.items }
     {
@@ -59,6 +61,7 @@ impl Reading {
 
     /// Whether the chosen places are an admissible selection.
     #[tactic(auto, using(crate::proofs::TestLaws::admissible_changeless, crate::proofs::TestLaws::admissible_lean, crate::proofs::TestLaws::needs_of, crate::proofs::MoveLaws::rises))]
+    #[inline(never)]
     pub fn is_admissible(&self, claim: &Claim) -> bool
         requires { IsReading claim.now.problem self.now }
         ensures { IsTrue result ↔ IsAdmissible claim.now.problem self.now.places.items }
@@ -73,6 +76,7 @@ impl Reading {
     }
 
     /// Whether the chosen places are no better than the answer, given whether that is met with them.
+    #[inline(never)]
     pub fn is_no_better(&self, claim: &Claim, met: bool) -> bool
         requires reading { IsReading claim.now.problem self.now }
         requires met { met ≡ (self.now.met || is_answer claim.now.answer self.now.places.items) }

@@ -1,6 +1,7 @@
-use Rattle.std.proofs.Common.{◌≡◌, ◌<◌, ℕ, length, get_or, refl, ap, subst, ◌∙◌, arith, Err}
+use Rattle.std.proofs.Common.{◌≡◌, ◌<◌, ℕ, length, get_or, refl, sym, ap, subst, ◌∙◌, arith, Err}
 use Rattle.log_checker.specs.declared.fault.LogFault.{LogFault}
-use Rattle.log_checker.specs.Feeding.{IsFirstFault, PlainChecker, Takes}
+use Rattle.log_checker.specs.Feeding.{IsFirstFault, IsRefused, PlainChecker, Takes, faulted}
+use Rattle.log_checker.specs.Reads.{fault_at}
 use Rattle.log_checker.proofs.FaultLaws.{one_first_fault, taken_without_fault}
 use Rattle.log_checker.proofs.PieceLaws.{fed_more, stops_here, takes_all, takes_more}
 use Rattle.log_checker.proofs.checker.Checker.feed.Goals as goal
@@ -9,18 +10,24 @@ use Rattle.log_checker.proofs.checker.Checker.feed.Goals as goal
 pub returns-in-Err-clause-stops : goal.returns-in-Err-clause-stops
 returns-in-Err-clause-stops c = λ none.
     let below : c.loop-letter.letter-index < length c.args.tokens.now = omega arith in
-    stops_here c.args.self.now c.loop-letter.self c.read.new.self c.args.tokens.now c.loop-letter.letter-index (get_or c.args.tokens.now c.loop-letter.letter-index 0)
-    c.in-Err.fault below refl c.loop-letter.invariant.is c.loop-letter.invariant.takes c.in-Err.ensures.err.0 c.in-Err.ensures.err.1
+    let count : c.self-in-Err.inside.fed ≡ c.loop-letter.self.fed = ap (λ (m : PlainChecker). m.fed) (c.self-in-Err.view_is ∙ c.in-Err.ensures.err.1) in
+    let fault : c.at-fault.result ≡ fault_at c.in-Err.wrong c.loop-letter.self.fed = c.at-fault.ensures ∙ ap (fault_at c.in-Err.wrong) count in
+    let letter : ℕ = get_or c.args.tokens.now c.loop-letter.letter-index 0 in
+    let refused : IsRefused c.loop-letter.self.problem c.loop-letter.self.answer c.loop-letter.self.state c.loop-letter.self.fed letter c.at-fault.result =
+    subst (λ (f : LogFault). IsRefused c.loop-letter.self.problem c.loop-letter.self.answer c.loop-letter.self.state c.loop-letter.self.fed letter f) (sym fault) c.in-Err.ensures.err.0 in
+    stops_here c.args.self.now c.loop-letter.self c.keep.new.self c.args.tokens.now c.loop-letter.letter-index letter
+    c.at-fault.result below refl c.loop-letter.invariant.is c.loop-letter.invariant.takes refused
+    (c.keep.ensures ∙ ap (λ (m : PlainChecker). faulted m c.at-fault.result) c.in-Err.ensures.err.1)
 
 pub returns-in-Err-clause-exactly : goal.returns-in-Err-clause-exactly
 returns-in-Err-clause-exactly c = λ none.
-    let here = returns-in-Err-clause-stops c none in (λ e. absurd (cc), λ t. absurd (taken_without_fault c.args.self.now c.args.tokens.now c.in-Err.fault t here.0))
+    let here = returns-in-Err-clause-stops c none in (λ e. absurd (cc), λ t. absurd (taken_without_fault c.args.self.now c.args.tokens.now c.at-fault.result t here.0))
 
 pub returns-in-Err-clause-fault : goal.returns-in-Err-clause-fault
 returns-in-Err-clause-fault c = λ f none.
     let here = returns-in-Err-clause-stops c none in (
-      λ e. let same : c.in-Err.fault ≡ f = cc in subst (λ (g : LogFault). IsFirstFault c.args.self.now c.args.tokens.now g) same here.0,
-      λ x. ap (λ (g : LogFault). Err g) (one_first_fault c.args.self.now c.args.tokens.now c.in-Err.fault f here.0 x),
+      λ e. let same : c.at-fault.result ≡ f = cc in subst (λ (g : LogFault). IsFirstFault c.args.self.now c.args.tokens.now g) same here.0,
+      λ x. ap (λ (g : LogFault). Err g) (one_first_fault c.args.self.now c.args.tokens.now c.at-fault.result f here.0 x),
     )
 
 pub loop-letter-preserved : goal.loop-letter-preserved
