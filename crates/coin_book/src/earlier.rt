@@ -36,7 +36,7 @@ pub fn ledger_of(alloc: Global, weights: &Weights, earlier: &[Earlier]) -> Resul
     ensures exact { Meets result (fault_behind [] (points_in (weigher weights.now.entries) (map confirmed_before earlier.now))) }
 {
     let base = Ledger::new(alloc);
-    let mut ledger = Ledger::new(alloc);
+    let mut ledger = Ledger::with_room(alloc, earlier.len())?;
     for index in 0..earlier.len() {
         let entry = &earlier[index];
         let spend = Spend {

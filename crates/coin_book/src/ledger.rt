@@ -15,9 +15,11 @@ ghost use Rattle.coin_book.specs.declared.fault.BookFault.TheVariants.{Memory as
 use crate::coin::Spend;
 use crate::fault::BookFault;
 use crate::held::Held;
+use crate::merging::append_list;
 use fund_base::{Memory, OutPoint, Txid};
 use indexmap::{IndexMap, IndexSet};
 use std::alloc::Global;
+use std::slice::from_ref;
 use tx_codec::TxIn;
 
 /// The most coins that a book has.
@@ -49,6 +51,19 @@ impl Ledger {
             spends: IndexMap::new(alloc),
             heights: IndexMap::new(alloc),
         }
+    }
+
+    /// A ledger of no transactions, with room for so many that make one coin each and spend one outpoint.
+    pub fn with_room(alloc: Global, count: usize) -> Result<Ledger, Memory>
+        ensures coins { IfOk result (λ l. l.coins.entries ≡ []) }
+        ensures spends { IfOk result (λ l. l.spends.entries ≡ []) }
+        ensures heights { IfOk result (λ l. l.heights.entries ≡ []) }
+    {
+        Ok(Ledger {
+            coins: IndexMap::with_capacity(alloc, count)?,
+            spends: IndexMap::with_capacity(alloc, count)?,
+            heights: IndexMap::with_capacity(alloc, count)?,
+        })
     }
 }
 
@@ -121,43 +136,17 @@ pub fn add_coins(
     Ok(())
 }
 
-/// Takes the spends of an outpoint, and leaves none.
-fn take_list(alloc: Global, spends: &mut SpendLists, point: OutPoint) -> Result<Vec<Spend>, Memory>
-    ensures taken { IfOk result (λ v. v.items ≡ spends_in spends.old.entries point) }
-    ensures others { (o : OutPoint) → OnOk result (spends_in spends.new.entries o ≡ (if same_outpoint point o then [] else spends_in spends.old.entries o)) }
-{
-    match spends.insert(point, Vec::new(alloc))? {
-        Some(list) => Ok(list),
-        None => Ok(Vec::new(alloc)),
-    }
-}
-
-/// Gives an outpoint these spends.
-fn put_list(spends: &mut SpendLists, point: OutPoint, list: Vec<Spend>) -> Result<(), Memory>
-    ensures { (o : OutPoint) → OnOk result (spends_in spends.new.entries o ≡ (if same_outpoint point o then list.items else spends_in spends.old.entries o)) }
-{
-    spends.insert(point, list)?;
-    Ok(())
-}
-
-fn pushed(mut list: Vec<Spend>, spend: &Spend) -> Result<Vec<Spend>, Memory>
-    ensures { IfOk result (λ v. v.items ≡ list.items ++ spend.now ∷ []) }
-{
-    list.push(*spend)?;
-    Ok(list)
-}
-
 /// Adds a spend of one outpoint.
 fn add_spend(
     alloc: Global,
     spends: &mut SpendLists,
-    point: OutPoint,
+    point: &OutPoint,
     spend: &Spend,
 ) -> Result<(), Memory>
-    ensures { (o : OutPoint) → OnOk result (spends_in spends.new.entries o ≡ spends_in spends.old.entries o ++ (if same_outpoint point o then spend.now ∷ [] else [])) }
+    ensures { (o : OutPoint) → OnOk result (spends_in spends.new.entries o ≡ spends_in spends.old.entries o ++ (if same_outpoint point.now o then spend.now ∷ [] else [])) }
 {
-    let list = pushed(take_list(alloc, spends, point)?, spend)?;
-    put_list(spends, point, list)?;
+    let one = from_ref(spend);
+    append_list(alloc, spends, point, one)?;
     Ok(())
 }
 
@@ -174,13 +163,29 @@ fn add_first(
 {
     let fresh = seen.insert(*point)?;
     if fresh {
-        add_spend(alloc, spends, *point, spend)
+        add_spend(alloc, spends, point, spend)
     } else {
         Ok(())
     }
 }
 
-/// Adds the spend of each outpoint that an input spends, once.
+/// Adds the spend of each outpoint that some input spends, once, however many inputs spend it.
+fn add_apart(
+    alloc: Global,
+    spends: &mut SpendLists,
+    inputs: &[TxIn],
+    spend: &Spend,
+) -> Result<(), Memory>
+    ensures { (o : OutPoint) → OnOk result (spends_in spends.new.entries o ≡ spends_in spends.old.entries o ++ (if has_input o inputs.now then spend.now ∷ [] else [])) }
+{
+    let mut seen = IndexSet::with_capacity(alloc, inputs.len())?;
+    for input in inputs {
+        add_first(alloc, spends, &mut seen, &input.prev, spend)?;
+    }
+    Ok(())
+}
+
+/// Adds the spend of each outpoint that an input spends, once. A single input has no other to be told from.
 pub fn add_spends(
     alloc: Global,
     spends: &mut SpendLists,
@@ -189,9 +194,8 @@ pub fn add_spends(
 ) -> Result<(), Memory>
     ensures { (o : OutPoint) → OnOk result (spends_in spends.new.entries o ≡ spends_in spends.old.entries o ++ (if has_input o inputs.now then spend.now ∷ [] else [])) }
 {
-    let mut seen = IndexSet::new(alloc);
-    for input in inputs {
-        add_first(alloc, spends, &mut seen, &input.prev, spend)?;
+    match inputs {
+        [input] => add_spend(alloc, spends, &input.prev, spend),
+        _ => add_apart(alloc, spends, inputs, spend),
     }
-    Ok(())
 }

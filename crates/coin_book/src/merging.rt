@@ -15,7 +15,7 @@ use fund_base::{Memory, OutPoint};
 use std::alloc::Global;
 
 /// Puts spends of an outpoint after those that it has.
-fn append_list(
+pub fn append_list(
     alloc: Global,
     spends: &mut SpendLists,
     point: &OutPoint,

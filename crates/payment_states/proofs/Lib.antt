@@ -1,4 +1,5 @@
 pub mod AbandonedSteps
+pub mod AmongSteps
 pub mod AnySteps
 pub mod BackSteps
 pub mod Below

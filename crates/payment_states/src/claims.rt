@@ -55,6 +55,16 @@ pub fn points_of(alloc: Global, points: &[OutPoint]) -> Result<IndexSet<OutPoint
     Ok(set)
 }
 
+/// Whether the outpoint is among these. Where there are none it isn't looked for.
+pub fn is_among(set: &IndexSet<OutPoint>, point: &OutPoint) -> bool
+    ensures { result ≡ contains same_outpoint set.now point.now }
+{
+    if set.is_empty() {
+        return false;
+    }
+    set.contains(point)
+}
+
 /// Adds the outpoints that these inputs spend.
 fn add_points(set: &mut IndexSet<OutPoint>, inputs: &[TxIn]) -> Result<(), Memory>
     ensures { (o : OutPoint) → OnOk result (contains same_outpoint set.new o ≡ (contains same_outpoint set.old o || has_input o inputs.now)) }

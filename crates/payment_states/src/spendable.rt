@@ -14,7 +14,7 @@ ghost use Rattle.payment_states.specs.Payments.{payments_of};
 ghost use Rattle.payment_states.specs.ByPlace.{chosen_at, place_among};
 
 use crate::candidate::{described, standing};
-use crate::claims::{claimed_of, points_of};
+use crate::claims::{claimed_of, is_among, points_of};
 use crate::own_coins::flag_at;
 use crate::pending_facts::{Facts, facts_of};
 use crate::states::States;
@@ -60,8 +60,8 @@ fn chosen(
     let place = states.place(&coin.coin.txid);
     let live = coin.height.is_some() || flag_at(&facts.pending, place);
     let spent = !book.spends(&coin.coin).is_empty();
-    let is_claimed = claimed.contains(&coin.coin);
-    let is_locked = locked.contains(&coin.coin);
+    let is_claimed = is_among(claimed, &coin.coin);
+    let is_locked = is_among(locked, &coin.coin);
     if may_be_spent(live, spent, is_claimed, is_locked, is_deep(tip, coin)) {
         let stands = standing(
             tip,
@@ -111,7 +111,7 @@ fn all_chosen(
     ensures sound { OnOk result (fault_of book.now ≡ None) }
     ensures chosen { IfOk result (λ v. v.items ≡ filter_map (λ (c : Coin). chosen_at book.now tip facts.now.pending.items facts.now.safe.items facts.now.ancestors.items facts.now.descendants.items (contains same_outpoint claimed.now c.coin) (contains same_outpoint locked.now c.coin) c (place_among states.now c.coin.txid)) (coins_of book.now)) }
 {
-    let mut all = Vec::new(alloc);
+    let mut all = Vec::with_capacity(alloc, book.len())?;
     for number in 0..book.len() {
         match chosen_number(alloc, book, states, facts, claimed, locked, tip, number)? {
             Some(candidate) => all.push(candidate)?,

@@ -8,16 +8,16 @@ ghost use Rattle.wallet_text.specs.WalletText.{told_index, txids_of, earlier_txi
 
 use crate::entries::told_index;
 use crate::fault::{Refusal, WalletFault};
-use crate::seen::Seen;
 use crate::wallet::Earlier;
 use fund_base::{Memory, Txid};
+use indexmap::IndexSet;
 use std::alloc::Global;
 use tx_codec::{Tx, txid};
 
 fn earlier_txids(alloc: Global, earlier: &[Earlier]) -> Result<Vec<Txid>, Memory>
     ensures { IfOk result (λ v. v.items ≡ earlier_txids earlier.now) }
 {
-    let mut txids = Vec::new(alloc);
+    let mut txids = Vec::with_capacity(alloc, earlier.len())?;
     for entry in earlier {
         txids.push(entry.txid())?;
     }
@@ -27,7 +27,7 @@ fn earlier_txids(alloc: Global, earlier: &[Earlier]) -> Result<Vec<Txid>, Memory
 fn pending_txids(alloc: Global, pending: &[Tx]) -> Result<Vec<Txid>, Memory>
     ensures { IfOk result (λ v. v.items ≡ txids_of pending.now) }
 {
-    let mut txids = Vec::new(alloc);
+    let mut txids = Vec::with_capacity(alloc, pending.len())?;
     for tx in pending {
         txids.push(txid(tx))?;
     }
@@ -38,9 +38,9 @@ fn pending_txids(alloc: Global, pending: &[Tx]) -> Result<Vec<Txid>, Memory>
 fn first_repeat(alloc: Global, txids: &[Txid]) -> Result<Option<usize>, Memory>
     ensures { IfOk result (λ r. r ≡ repeat_from [] txids.now) }
 {
-    let mut seen = Seen::new(alloc);
+    let mut seen = IndexSet::with_capacity(alloc, txids.len())?;
     for index in 0..txids.len() {
-        if !seen.insert(alloc, txids[index].bytes())? {
+        if !seen.insert(txids[index])? {
             return Ok(Some(index));
         }
     }
@@ -48,17 +48,22 @@ fn first_repeat(alloc: Global, txids: &[Txid]) -> Result<Option<usize>, Memory>
 }
 
 /// Whether some input spends an output of a transaction of these txids.
-fn spends_one_of(txids: &Seen, tx: &Tx) -> bool
-    ensures { result ≡ spends_one_of txids.now tx.now }
+fn spends_one_of(txids: &IndexSet<Txid>, tx: &Tx) -> bool
+    ensures { result ≡ spends_one_of txids.now.keys tx.now }
 {
     tx.inputs
         .iter()
-        .any(|input| txids.has(input.prev.txid.bytes()))
+        .any(|input| txids.contains(&input.prev.txid))
 }
 
 // This place, where the transaction spends an output of one of these, and else the one that was found after it.
-fn first_place(index: usize, tx: &Tx, txids: &Seen, behind: Option<usize>) -> Option<usize>
-    ensures { result ≡ (if spends_one_of txids.now tx.now then Some index else behind) }
+fn first_place(
+    index: usize,
+    tx: &Tx,
+    txids: &IndexSet<Txid>,
+    behind: Option<usize>,
+) -> Option<usize>
+    ensures { result ≡ (if spends_one_of txids.now.keys tx.now then Some index else behind) }
 {
     if spends_one_of(txids, tx) {
         Some(index)
@@ -72,12 +77,12 @@ fn first_later(alloc: Global, pending: &[Tx], txids: &[Txid]) -> Result<Option<u
     requires { txids.now ≡ txids_of pending.now }
     ensures { IfOk result (λ r. r ≡ later_from 0 pending.now) }
 {
-    let mut later = Seen::new(alloc);
+    let mut later = IndexSet::with_capacity(alloc, pending.len())?;
     let mut first = None;
     let mut index = pending.len();
     while index > 0 {
         index -= 1;
-        later.insert(alloc, txids[index].bytes())?;
+        later.insert(txids[index])?;
         first = first_place(index, &pending[index], &later, first);
     }
     Ok(first)

@@ -33,14 +33,6 @@ impl Seen {
         }
     }
 
-    /// Whether it came before.
-    #[tactic(auto, using(crate::proofs::Strings::is_among_lists))]
-    pub fn has(&self, string: &[u8]) -> bool
-        ensures { result ≡ is_among self.now string.now }
-    {
-        self.strings.contains(string)
-    }
-
     /// Takes a copy of one that didn't come before, and says whether it did so.
     pub fn insert(&mut self, alloc: Global, string: &[u8]) -> Result<bool, Memory>
         ensures fresh { IfOk result (λ r. r ≡ not (is_among self.old string.now)) }

@@ -27,7 +27,12 @@ pub(crate) fn joined(
 ) -> Result<Script, Memory>
     ensures { IfOk result (λ script. script ≡ (front.now ++ hash.now) ++ back.now) }
 {
-    let mut bytes = Vec::from_slice(alloc, front)?;
+    let room = front
+        .len()
+        .saturating_add(hash.len())
+        .saturating_add(back.len());
+    let mut bytes = Vec::with_capacity(alloc, room)?;
+    bytes.extend_from_slice(front)?;
     bytes.extend_from_slice(hash)?;
     bytes.extend_from_slice(back)?;
     Ok(Script::new(bytes))

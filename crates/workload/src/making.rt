@@ -54,9 +54,9 @@ fn output_of(alloc: Global, coin: &Coin) -> Result<TxOut, Memory>
 fn maker_of(alloc: Global, index: u32, coin: &Coin) -> Result<Tx, Memory>
     ensures { IfOk result (λ tx. tx ≡ maker_of index coin.now) }
 {
-    let mut inputs = Vec::new(alloc);
+    let mut inputs = Vec::with_capacity(alloc, 1)?;
     inputs.push(input_of(alloc, index))?;
-    let mut outputs = Vec::new(alloc);
+    let mut outputs = Vec::with_capacity(alloc, 1)?;
     outputs.push(output_of(alloc, coin)?)?;
     Ok(Tx {
         version: 2,
@@ -78,7 +78,7 @@ pub(crate) fn earlier_of(
     ensures total { IfOk result (λ made. made.1 ≡ total_of number count) }
 {
     let mut words = words_of(number);
-    let mut earlier = Vec::new(alloc);
+    let mut earlier = Vec::with_capacity(alloc, count as usize)?;
     let mut total = 0;
     for index in 0..count {
         let coin = next_coin(&mut words);

@@ -9,7 +9,7 @@ use Rattle.coin_book.proofs.earlier.ledger_of.Goals as goal
 pub loop-index-init : goal.loop-index-init
 unfolding fault_behind
 loop-index-init c = record {
-  holds = no_chain (weigher c.args.weights.now.entries) c.new-ledger.result c.new-ledger.ensures.coins c.new-ledger.ensures.spends c.new-ledger.ensures.heights;
+  holds = no_chain (weigher c.args.weights.now.entries) c.in_ok-ledger.ledger c.in_ok-ledger.ensures.coins c.in_ok-ledger.ensures.spends c.in_ok-ledger.ensures.heights;
   fresh = refl;
 }
 

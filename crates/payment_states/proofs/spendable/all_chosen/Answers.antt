@@ -14,9 +14,9 @@ use Rattle.payment_states.proofs.spendable.all_chosen.Goals.{in-Some+in_ok-push-
 pub loop-number-preserved : goal.loop-number-preserved
 loop-number-preserved c =
     let old = c.loop-number.all.items in
-    let new = c.match-branch-2.all.items in
+    let new = c.match-branch-3.all.items in
     let more : new ≡ old ++ option_to_list c.in_ok-candidate.field-0 =
-    elim c.match-branch-2.branch [
+    elim c.match-branch-3.branch [
       | in-Some+in_ok-push-in-Some w ↦ ap (λ (v : Vec Candidate Global). v.items) w.all-is ∙ w.in_ok-push-in-Some.ensures.items ∙ ap (λ (o : Option Candidate). old ++ option_to_list o) (sym w.in-Some.is)
       | in-None w ↦ ap (λ (v : Vec Candidate Global). v.items) w.all-is ∙ sym (append-nil old) ∙ ap (λ (o : Option Candidate). old ++ option_to_list o) (sym w.in-None.is)
     ]

@@ -6,7 +6,7 @@ use Rattle.wallet_text.proofs.lists.first_later.Given as goal
 abbrev pub invariant-loop-index : goal.invariant-loop-index
 invariant-loop-index l = record {
   within : l.index ≤ length l.pending;
-  later : (q : List ℕ) → is_among l.later q ≡ is_among (txids_of (drop l.index l.pending)) q;
+  later : (q : List ℕ) → is_among l.later.keys q ≡ is_among (txids_of (drop l.index l.pending)) q;
   first : l.first ≡ later_from l.index (drop l.index l.pending);
 }
 

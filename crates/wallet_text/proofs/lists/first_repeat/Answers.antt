@@ -1,16 +1,16 @@
-use Rattle.std.proofs.Common.{◌∙◌, arith, rules}
+use Rattle.std.proofs.Common.{arith, rules}
 use Rattle.wallet_text.proofs.Orders.{repeat_found, repeat_step, repeat_none}
 use Rattle.wallet_text.proofs.lists.first_repeat.Goals as goal
 
 pub returns-then-not-branch : goal.returns-then-not-branch
 returns-then-not-branch c =
-    repeat_found c.args.txids.now c.loop-index.index c.index-txids-index.result c.bytes.result.now c.loop-index.seen c.in_ok-insert.field-0 _ (omega arith) (c.bytes.ensures.value ∙ c.index-txids-index.is) c.loop-index.invariant.seen
-    c.in_ok-insert.ensures.fresh (search rules) c.loop-index.invariant.read
+    repeat_found c.args.txids.now c.loop-index.index c.index-txids-index.result c.index-txids-index.result c.loop-index.seen.keys c.in_ok-insert.field-0 _ (omega arith) c.index-txids-index.is c.loop-index.invariant.seen
+    c.in_ok-insert.ensures.added (search rules) c.loop-index.invariant.read
 
 pub loop-index-preserved : goal.loop-index-preserved
 loop-index-preserved c =
-    let s = repeat_step c.args.txids.now c.loop-index.index c.index-txids-index.result c.bytes.result.now c.loop-index.seen c.insert.new.self c.in_ok-insert.field-0 _ (omega arith) (c.bytes.ensures.value ∙ c.index-txids-index.is) c.loop-index.invariant.seen
-    c.in_ok-insert.ensures.fresh (search rules) c.in_ok-insert.ensures.strings c.loop-index.invariant.read in
+    let s = repeat_step c.args.txids.now c.loop-index.index c.index-txids-index.result c.index-txids-index.result c.loop-index.seen.keys c.insert.new.self.keys c.in_ok-insert.field-0 _ (omega arith) c.index-txids-index.is c.loop-index.invariant.seen
+    c.in_ok-insert.ensures.added (search rules) c.in_ok-insert.ensures.keys c.loop-index.invariant.read in
     record { seen = s.0; read = s.1 }
 
 pub returns : goal.returns

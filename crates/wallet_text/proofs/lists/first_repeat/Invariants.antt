@@ -4,6 +4,6 @@ use Rattle.wallet_text.proofs.lists.first_repeat.Given as goal
 
 abbrev pub invariant-loop-index : goal.invariant-loop-index
 invariant-loop-index l = record {
-  seen : l.seen ≡ take l.index l.txids;
+  seen : l.seen.keys ≡ take l.index l.txids;
   read : repeat_from (take l.index l.txids) (drop l.index l.txids) ≡ repeat_from [] l.txids;
 }

@@ -7,7 +7,7 @@ use Rattle.workload.proofs.making.earlier_of.Goals as goal
 
 pub loop-index-init : goal.loop-index-init
 unfolding total_of
-loop-index-init c = record { words = c.words_of-words.ensures; earlier = c.new-earlier.ensures.items; total = refl }
+loop-index-init c = record { words = c.words_of-words.ensures; earlier = c.in_ok-earlier.ensures.items; total = refl }
 
 pub overflow_add-total : goal.overflow_add-total
 overflow_add-total c = omega (arith, c.loop-index.invariant.total, (total_within c.args.number c.loop-index.index).1, c.worth-total.ensures.most)

@@ -5,7 +5,7 @@ use Rattle.fund_base.specs.Outpoints.{same_outpoint}
 use Rattle.fund_base.specs.declared.outpoint.OutPoint.{OutPoint}
 use Rattle.coin_book.specs.Spends.{has_input}
 use Rattle.coin_book.specs.Merging.{spends_in}
-use Rattle.coin_book.proofs.ledger.add_spends.Given as goal
+use Rattle.coin_book.proofs.ledger.add_apart.Given as goal
 
 abbrev pub invariant-loop-input : goal.invariant-loop-input
 invariant-loop-input l = record {
