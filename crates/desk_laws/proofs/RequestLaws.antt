@@ -1,9 +1,9 @@
 -- A request that is read keeps the rules of a request.
-use Rattle.std.specs.Prelude.{ℕ, suc, zero, ◌≡◌, ◌≢◌, ◌≤◌, ◌<◌, ◌++◌, List, [], ◌∷◌, All, AllPairs, Bool, true, false, Option, None, Some, IfSome, IsSome, Result, Ok, Err, codes, is_some, length, replicate, take}
+use Rattle.std.specs.Prelude.{ℕ, suc, zero, ◌≡◌, ◌≢◌, ◌≤◌, ◌<◌, ◌++◌, List, [], ◌∷◌, All, AllPairs, true, Option, None, Some, IfSome, IsSome, Result, Ok, Err, codes, is_some, length, replicate, take}
 use Rattle.std.specs.Bool.{⊤}
 use Rattle.std.specs.Result.{result_err, result_unwrap_or}
 use Rattle.std.proofs.lemmas.Option.{none-some}
-use Rattle.std.proofs.Common.{refl, sym, ap, ◌∙◌, subst, inl, inr, arith, get_or, cond, Contains, ◌⊎◌}
+use Rattle.std.proofs.Common.{refl, sym, ap, ◌∙◌, subst, inl, inr, arith, get_or, ◌⊎◌}
 use Rattle.std.proofs.lemmas.Bool.{cases_lt}
 use Rattle.std.proofs.lemmas.List.Elements.{All-nil, All-push, All-replicate}
 use Rattle.fund_base.proofs.Laws.{bind_ok}
@@ -27,11 +27,11 @@ use Rattle.request_text.proofs.RecipientLaws as entries
 use Rattle.request_text.proofs.RecipientLists as lists
 use Rattle.request_text.proofs.RepeatLaws.{none_twice}
 use Rattle.request_text.proofs.SeedLaws as seeds
-use Rattle.request_text.proofs.TableLaws.{first, values}
+use Rattle.request_text.proofs.TableLaws.{first, recipients_required, values}
 use Rattle.request_text.proofs.Witness.{most, some}
 use Rattle.request_text.specs.Entries.{IsNoScript, PaysTo}
 use Rattle.request_text.specs.PlainRequest.{IsRecipient, IsRequest, PlainRequest, paid_to}
-use Rattle.request_text.specs.RequestText.{bump_at, coins_at, distinct_at, field, known_in, needs_seed, or_else, rate_at, recipient_behind, recipients_at, repeat_behind, request_at, request_of, required_in, seed_at, tries_at}
+use Rattle.request_text.specs.RequestText.{bump_at, coins_at, distinct_at, field, known_in, or_else, rate_at, recipient_behind, recipients_at, repeat_behind, request_at, request_of, required_in, seed_at, tries_at}
 use Rattle.request_text.specs.Table.{member_faults, number_of_name, said_by}
 use Rattle.request_text.specs.declared.fault.Refusal.TheVariants.{Field}
 use Rattle.request_text.specs.declared.request.Recipient.{Recipient}
@@ -158,14 +158,6 @@ read_of {A} {E} default reading (Some m) e = by (reading m) refl e
     by : (r : Result A E) → reading m ≡ r → result_err r ≡ None → reading m ≡ Ok (result_unwrap_or r default)
     by (Ok x) is h = is
     by (Err f) is h = absurd (none-some f (sym h))
-
-recipients_required : (d : Data) → Contains (required_in d) (codes "recipients")
-unfolding required_in
-recipients_required d = by (needs_seed d)
-  where
-    by : (b : Bool) → Contains (cond b (codes "recipients" ∷ codes "rate" ∷ codes "seed" ∷ []) (codes "recipients" ∷ codes "rate" ∷ [])) (codes "recipients")
-    by true = (0, omega arith, refl)
-    by false = (0, omega arith, refl)
 
 whole_taken : (d : Data) → result_err (field (object_at (codes "root") (known_in d) (required_in d) d)) ≡ None → object_at (codes "root") (known_in d) (required_in d) d ≡ Ok tt
 whole_taken d e = by (object_at (codes "root") (known_in d) (required_in d) d) e

@@ -14,7 +14,7 @@ use Rattle.fund_steps.specs.Searches.{PlainRow, is_given, is_high, rows_in, step
 use Rattle.fund_steps.specs.Turns.{turns_of}
 use Rattle.fund_steps.specs.declared.turns.Turn.{Turn}
 
-whole-append : (xs ys : List PlainStep) → AreWhole xs → AreWhole ys → AreWhole (xs ++ ys)
+pub whole-append : (xs ys : List PlainStep) → AreWhole xs → AreWhole ys → AreWhole (xs ++ ys)
 whole-append [] ys hx hy = hy
 whole-append (x ∷ []) [] hx hy = hx
 whole-append (x ∷ []) (y ∷ ys) hx hy = hy

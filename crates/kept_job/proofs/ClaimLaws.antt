@@ -28,6 +28,7 @@ use Rattle.search_run.proofs.ChoiceLaws.{is_taken}
 use Rattle.search_run.proofs.MadeLaws.{accepted_best_along, kept_stands_on, stand_answers}
 use Rattle.search_run.proofs.ResultLaws.{ends_of, kept_stands}
 use Rattle.search_run.proofs.RunLaws.{all_tries}
+use Rattle.search_run.proofs.SearchedLaws.{over_all, over_answered}
 use Rattle.search_run.specs.Answer.{HasNone, IsAnswer, IsFirstTaken}
 use Rattle.search_run.specs.Found.{IsResultOf, PlainFound, taken}
 use Rattle.search_run.specs.Judged.{saved_in}
@@ -38,7 +39,6 @@ use Rattle.search_run.specs.Stands.{IsEndOf, IsKeptAt, IsMadeAt, IsStand}
 use Rattle.search_run.specs.Step.{AreSteps, PlainStep, is_drawn}
 use Rattle.search_run.specs.declared.ending.End.{End}
 use Rattle.search_run.specs.declared.ending.End.TheVariants as ends
-use Rattle.kept_job.proofs.OverLaws.{over_all, over_answered}
 use Rattle.kept_job.specs.Gone.{ClaimsNoneOn, ClaimsOn, IsSettled, IsTakenOn}
 
 -- ---- the sections of a log that is accepted

@@ -7,7 +7,6 @@ pub mod JoinLaws
 pub mod KeepingLaws
 pub mod LoadLaws
 pub mod LogLaws
-pub mod OverLaws
 pub mod ReadsLaws
 pub mod ResumedLaws
 pub mod SameLaws

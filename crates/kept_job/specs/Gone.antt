@@ -75,7 +75,7 @@ pub record IsTakenOn (p : PlainPlan) (from tries : ℕ) (s : PlanState) (f : Pla
   pub used_up : HasGoneUp from tries s
 
 -- What the mark of a payment claims beside that it pays, of a plan that went on. A plan with a search to go on with isn't one
--- of listed coins alone.
+-- of presets alone.
 abbrev pub ClaimsOnBy : Mark → PlainPlan → (from tries : ℕ) → PlanState → PlainFunded → Type 0
 ClaimsOnBy Exhausted p from tries s f = IsProvedBest p f (log_in s) × IsAnswerOf p (answers.Funded f)
 ClaimsOnBy Partial p from tries s f = IsTakenOn p from tries s f

@@ -15,7 +15,7 @@ use Rattle.request_text.specs.Table.{member_faults, said_by}
 use Rattle.request_text.specs.declared.fault.Refusal.TheVariants.{Field}
 use Rattle.request_text.specs.declared.request.Method.TheVariants.{Auto}
 
-recipients_required : (d : Data) → Contains (required_in d) (codes "recipients")
+pub recipients_required : (d : Data) → Contains (required_in d) (codes "recipients")
 unfolding required_in
 recipients_required d = by (needs_seed d)
   where

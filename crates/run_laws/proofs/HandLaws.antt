@@ -22,15 +22,10 @@ use Rattle.search_run.proofs.HeldLaws.{draw_begins}
 use Rattle.search_run.proofs.MadeLaws.{run_stands}
 use Rattle.search_run.proofs.RunLaws.{all_tries, onward_by}
 use Rattle.search_run.proofs.StandLaws.{draw_fits, step_here}
+use Rattle.fund_steps.proofs.WholeLaws.{whole-append}
 use Rattle.run_laws.specs.AtHand.{IsAtHand}
 
 -- ---- lists of steps
-
-whole_more : (xs ys : List PlainStep) → AreWhole xs → AreWhole ys → AreWhole (xs ++ ys)
-whole_more [] ys hx hy = hy
-whole_more (x ∷ []) [] hx hy = hx
-whole_more (x ∷ []) (y ∷ ys) hx hy = hy
-whole_more (x ∷ z ∷ xs) ys hx hy = whole_more (z ∷ xs) ys hx hy
 
 whole_by_last : (xs : List PlainStep) (x : PlainStep) → x.last ≡ true → AreWhole (xs ++ x ∷ [])
 whole_by_last [] x last = last
@@ -119,7 +114,7 @@ passed_on seed steps x rest found r h is goes =
       front = h.front ++ (h.before ++ x ∷ []);
       before = [];
       parts = h.parts ∙ ap (λ (l : List PlainStep). h.front ++ l) (sym (append_assoc h.before (x ∷ []) rest)) ∙ sym (append_assoc h.front (h.before ++ x ∷ []) rest);
-      whole = whole_more h.front (h.before ++ x ∷ []) h.whole (whole_by_last h.before x last);
+      whole = whole-append h.front (h.before ++ x ∷ []) h.whole (whole_by_last h.before x last);
       none = all_more (HasNone seed) h.front (h.before ++ x ∷ []) h.none (no_results seed (h.before ++ x ∷ []) (subst (λ (l : List PlainFound). AreResults seed (h.before ++ x ∷ []) l) none results));
       going = tt;
       results = none;

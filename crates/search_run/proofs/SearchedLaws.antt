@@ -12,7 +12,7 @@ use Rattle.search_run.specs.Found.{PlainFound, found_of, taken}
 use Rattle.search_run.specs.Kept.{Along, At, answered, at_end, comes_to, first_search, to_search}
 use Rattle.search_run.specs.Run.{ends, is_some_found, run}
 use Rattle.search_run.specs.Searched.{AreSectionsOf, IsSectionOf, searches}
-use Rattle.search_run.specs.Stands.{IsFromStart, IsMadeAt}
+use Rattle.search_run.specs.Stands.{IsMadeAt}
 use Rattle.search_run.specs.Step.{AreSteps, PlainStep, is_drawn}
 use Rattle.search_run.proofs.AnswerLaws.{both_true, one_result, some_since_taken}
 use Rattle.search_run.proofs.ChoiceLaws.{taken_only}
@@ -81,11 +81,10 @@ made_logs seed (s ∷ ss) (x ∷ rest) found end first h e =
     (made_logs seed ss next.left next.found end (behind_search seed x rest (found ++ found_of x s.answer)) h.1 e)
     (λ now k. logs_from_search seed rest now ss k)
 
-run_logs : (seed : List ℕ) (steps : List PlainStep) (n : ℕ) → AreSteps steps → (run seed steps n).left ≡ [] → Logs seed steps [] (run seed steps n).past.closed
-run_logs seed steps n are over =
-    let s : IsFromStart seed steps (run seed steps n) = run_stands seed steps are n in
-    let end : comes_to seed (first_search seed steps) (run seed steps n).past.closed ≡ at_end (run seed steps n).past.found = s.here ∙ ap (λ (left : List PlainStep). to_search seed left (run seed steps n).past.found) over in
-    logs_from_search seed steps [] (run seed steps n).past.closed (made_logs seed (run seed steps n).past.closed (first_search seed steps).left (first_search seed steps).found (run seed steps n).past.found (comes_to_search seed steps []) s.closed end)
+-- the sections of a run that is over, each the best of the search to which the run came
+over_logs : (seed : List ℕ) (steps : List PlainStep) (ss : List PlainSection) (found : List PlainFound) → Along IsMadeAt seed (first_search seed steps) ss → comes_to seed (first_search seed steps) ss ≡ at_end found → Logs seed steps [] ss
+over_logs seed steps ss found made end =
+    logs_from_search seed steps [] ss (made_logs seed ss (first_search seed steps).left (first_search seed steps).found found (comes_to_search seed steps []) made end)
 
 -- ---- which searches these are
 
@@ -157,15 +156,29 @@ sections_join (x ∷ xs) column mine more h k = by (is_drawn x.stage) mine h (λ
     by false [] h g = absurd h
     by false (s ∷ ss) h g = (h.0, g ss h.1)
 
-pub answered_sections : (seed : List ℕ) (steps : List PlainStep) (n : ℕ) (f : PlainFound) → AreSteps steps → (run seed steps n).left ≡ [] → (h : IsFirstTaken seed steps f) → AreSectionsOf (h.front ++ h.column) (run seed steps n).past.closed
-answered_sections seed steps n f are over h =
-    let logs = subst (λ (xs : List PlainStep). Logs seed xs [] (run seed steps n).past.closed) h.parts (run_logs seed steps n are over) in
-    let k = past_none seed h.front (h.column ++ h.rest) (run seed steps n).past.closed h.none logs in
-    subst (λ (ss : List PlainSection). AreSectionsOf (h.front ++ h.column) ss) (sym k.parts)
+-- ---- a run that is over, wherever it had gone on from
+
+pub over_answered : (seed : List ℕ) (steps : List PlainStep) (ss : List PlainSection) (found : List PlainFound) (f : PlainFound) → Along IsMadeAt seed (first_search seed steps) ss → comes_to seed (first_search seed steps) ss ≡ at_end found → (h : IsFirstTaken seed steps f) → AreSectionsOf (h.front ++ h.column) ss
+over_answered seed steps ss found f made end h =
+    let logs = subst (λ (xs : List PlainStep). Logs seed xs [] ss) h.parts (over_logs seed steps ss found made end) in
+    let k = past_none seed h.front (h.column ++ h.rest) ss h.none logs in
+    subst (λ (xs : List PlainSection). AreSectionsOf (h.front ++ h.column) xs) (sym k.parts)
     (sections_join h.front h.column k.mine k.more k.sections (in_column seed h.column h.rest [] h.found f k.more h.one h.results (taken_only h.found f h.taken) k.logs))
 
+pub over_all : (seed : List ℕ) (steps : List PlainStep) (ss : List PlainSection) (found : List PlainFound) → Along IsMadeAt seed (first_search seed steps) ss → comes_to seed (first_search seed steps) ss ≡ at_end found → AllByRecursion (HasNone seed) steps → AreSectionsOf steps ss
+over_all seed steps ss found made end none =
+    let logs = subst (λ (xs : List PlainStep). Logs seed xs [] ss) (sym (append-nil steps)) (over_logs seed steps ss found made end) in
+    let k = past_none seed steps [] ss none logs in
+    subst (λ (xs : List PlainSection). AreSectionsOf steps xs) (sym (k.parts ∙ (ap (λ (xs : List PlainSection). k.mine ++ xs) k.logs ∙ append-nil k.mine))) k.sections
+
+-- ---- a run from the start
+
+-- what it came to, where no step is left
+start_ends : (seed : List ℕ) (steps : List PlainStep) (n : ℕ) → AreSteps steps → (run seed steps n).left ≡ [] → comes_to seed (first_search seed steps) (run seed steps n).past.closed ≡ at_end (run seed steps n).past.found
+start_ends seed steps n are over = (run_stands seed steps are n).here ∙ ap (λ (left : List PlainStep). to_search seed left (run seed steps n).past.found) over
+
+pub answered_sections : (seed : List ℕ) (steps : List PlainStep) (n : ℕ) (f : PlainFound) → AreSteps steps → (run seed steps n).left ≡ [] → (h : IsFirstTaken seed steps f) → AreSectionsOf (h.front ++ h.column) (run seed steps n).past.closed
+answered_sections seed steps n f are over h = over_answered seed steps (run seed steps n).past.closed (run seed steps n).past.found f (run_stands seed steps are n).closed (start_ends seed steps n are over) h
+
 pub all_sections : (seed : List ℕ) (steps : List PlainStep) (n : ℕ) → AreSteps steps → (run seed steps n).left ≡ [] → AllByRecursion (HasNone seed) steps → AreSectionsOf steps (run seed steps n).past.closed
-all_sections seed steps n are over none =
-    let logs = subst (λ (xs : List PlainStep). Logs seed xs [] (run seed steps n).past.closed) (sym (append-nil steps)) (run_logs seed steps n are over) in
-    let k = past_none seed steps [] (run seed steps n).past.closed none logs in
-    subst (λ (ss : List PlainSection). AreSectionsOf steps ss) (sym (k.parts ∙ (ap (λ (ss : List PlainSection). k.mine ++ ss) k.logs ∙ append-nil k.mine))) k.sections
+all_sections seed steps n are over none = over_all seed steps (run seed steps n).past.closed (run seed steps n).past.found (run_stands seed steps are n).closed (start_ends seed steps n are over) none
