@@ -1,6 +1,6 @@
 //! Files of which it is told how far they are read.
 
-ghost use Rattle.std.specs.Prelude.{◌≡◌};
+ghost use Rattle.std.specs.Prelude.{◌≡◌, ◌↔◌, ◌<◌, ◌+◌, ◌*◌, ◌/◌, IsOkAnd, IsTrue, min};
 
 use fund_base::{Fault, Shelf};
 use std::io::Eprint;
@@ -22,7 +22,9 @@ pub struct ProgressShelf<'a, R: Eprint, H: Shelf + Drop> {
 impl<'a, R: Eprint, H: Shelf + Drop> ProgressShelf<'a, R, H> {
     /// The files of this shelf; lines are told only where `told` says so.
     pub fn new(rt: &'a R, shelf: H, told: bool) -> ProgressShelf<'a, R, H>
-        ensures { (H.view result.shelf) ≡ (H.view shelf) }
+        ensures view { (H.view result.shelf) ≡ (H.view shelf) }
+        ensures told { result.told ≡ told }
+        ensures next { result.next ≡ 67_108_864 }
     {
         ProgressShelf {
             rt,
@@ -40,12 +42,16 @@ fn tell<R: Eprint>(rt: &R, name: &str, at: u64) {
 }
 
 /// The place from which on the next line is due, once this place was read.
-fn next_after(at: u64) -> u64 {
+fn next_after(at: u64) -> u64
+    ensures { result ≡ min ((at / 67_108_864 + 1) * 67_108_864) 18_446_744_073_709_551_615 }
+{
     (at / STEP).saturating_add(1).saturating_mul(STEP)
 }
 
 /// Whether bytes were read. A look behind the end of a file reads none, and nothing is told of it.
-fn has_some(read: &Result<usize, Fault>) -> bool {
+fn has_some(read: &Result<usize, Fault>) -> bool
+    ensures { IsTrue result ↔ IsOkAnd read.now (λ count. 0 < count) }
+{
     match read {
         Ok(count) => *count > 0,
         Err(_) => false,
