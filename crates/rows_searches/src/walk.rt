@@ -15,6 +15,7 @@ pub enum Walk {
 
 impl Walk {
     /// The search of a problem.
+    #[tactic(none)]
     pub fn new(alloc: Global, problem: &Problem) -> Result<Walk, Memory> {
         match problem.kind() {
             Kind::Changeless => Ok(Walk::Bnb(Bnb::new(alloc, problem)?)),
@@ -23,6 +24,7 @@ impl Walk {
     }
 
     /// The search of a problem that goes on from a position.
+    #[tactic(none)]
     pub fn restore(
         alloc: Global,
         problem: &Problem,

@@ -39,6 +39,7 @@ fn last_of(budgets: &[u64]) -> u64 {
 }
 
 /// A search that has all its tries.
+#[tactic(none)]
 fn whole(alloc: Global, problem: &Problem, tries: u64) -> Result<Walk, Memory> {
     let mut walk = Walk::new(alloc, problem)?;
     walk.make(tries)?;
@@ -154,6 +155,7 @@ pub fn walk_text(alloc: Global, problem: &Problem, budgets: &[u64]) -> Result<St
 }
 
 /// Whether a search is restored at a position.
+#[tactic(none)]
 pub fn restored_text(
     alloc: Global,
     problem: &Problem,
