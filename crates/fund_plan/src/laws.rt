@@ -181,8 +181,9 @@ pub fn payments_keep_their_claims()
     ensures { (p : PlainPlan) (n : ℕ) (f : PlainFunded) → IsPlan p → AreSteps (steps_of p) → outcome_at p n ≡ Outcome.Funded f → Claims p n f }
 {}
 
-/// The law of no selection: where a plan comes to that, no step has a result, and no choice from any row's pool does.
-/// The log has each search, accepted with no answer, and the presets alone don't pay. A call does nothing.
+/// The law of no selection: where a plan comes to that, no step has a result; and but with `manual`, or where the presets
+/// bring all that is due, no choice from any row's pool does. The log has each search, accepted with no answer, and the
+/// presets alone don't pay. A call does nothing.
 pub fn none_is_proved()
     ensures { (p : PlainPlan) (n : ℕ) → IsPlan p → AreSteps (steps_of p) → outcome_at p n ≡ Outcome.NoSelection → IsProvedNone p (log_at p n) }
 {}

@@ -4,7 +4,7 @@
 pub const VERSION: &str = "ninelace 1.0";
 
 /// What the program is, and its commands.
-pub const COMMANDS: &str = "ninelace: payments of a wallet that only watches, each proved.
+pub const COMMANDS: &str = "ninelace: payments of a wallet that only watches.
 
   ninelace pay --wallet FILE --blocks FILE --to ADDRESS=AMOUNT --fee-rate RATE
   ninelace coins WALLET BLOCKS
@@ -17,7 +17,7 @@ pub const COMMANDS: &str = "ninelace: payments of a wallet that only watches, ea
   --json                 what is shown is JSON, for each command
   --progress             how far a long file is read; a terminal shows it anyway
 
-No file is ever written over. The status is 0 where it is done, and else as docs/FORMATS.md says.
+No file that is there is written over. The status is 0 where it is done, and else as docs/FORMATS.md says.
 ";
 
 /// The command that pays.

@@ -38,6 +38,7 @@ impl Parents {
     }
 }
 
+/// The lesser of two numbers, of those that there are.
 pub fn lesser(a: Option<u64>, b: Option<u64>) -> Option<u64>
     ensures { result ≡ lesser a b }
 {

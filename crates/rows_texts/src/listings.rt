@@ -35,7 +35,7 @@ fn pending_coin(alloc: Global, byte: u8, index: u32, value: u64) -> Result<Candi
     })
 }
 
-/// E3 replaces the payment A1, on which C2 rests. Its own outputs are coins of depth 0, which the wallet alone paid for
+/// The third payment replaces the first, on which the second rests. Its own outputs are coins of depth 0, which the wallet alone paid for
 /// and which aren't safe, because it replaces a payment.
 pub fn replaced_payments(alloc: Global) -> Result<String, Memory> {
     let payments = [

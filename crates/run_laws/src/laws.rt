@@ -30,8 +30,7 @@ pub fn enough_tries_end_a_run()
         (run seed steps n).left ≡ [] }
 {}
 
-/// Nothing is searched for with `manual`, and where the coins that each payment spends bring all that is needed, and
-/// nowhere else.
+/// Where nothing is searched for the method is `manual`, or the coins that each payment spends bring all that is needed.
 pub fn all_else_is_searched_for()
     ensures { (b : Basis) → steps_of b ≡ [] → (b.request.method ≡ Manual) ⊎ (is_given b ≡ true) }
 {}

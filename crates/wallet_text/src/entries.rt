@@ -25,7 +25,7 @@ const LEAST_WEIGHT: u64 = 165;
 
 const MOST_WEIGHT: u64 = 400_000;
 
-// A place in a list as a fault tells it.
+/// A place in a list as a fault tells it, 4,294,967,295 at most.
 pub fn told_index(index: usize) -> u32
     ensures { result ≡ told_index index }
 {
