@@ -1,12 +1,15 @@
 #!/usr/bin/env python3
 """Measures the tries a second of the walk beside two plain Rust forms of it, in one run.
 
-Usage: bench/walks.py PROGRAM [MILLIONS [ROUNDS]]
+Usage: bench/walks.py PROGRAM [MILLIONS [ROUNDS [WALK]]]
 
 PROGRAM is crates/bench_all's program, as `rt run` leaves it in crates/bench_all/out. Both peers are in
 bench/peers/walk.rs, which is built here by rustc -O. For pools of 100, 1,000 and 10,000 items and both kinds a problem is
 made from a fixed seed; the three programs walk it in turn, each round with MILLIONS million tries in all, and the least
 processor time of the rounds counts, less that of a run without tries. The letters of all three must be equal.
+A walk gets at most WALK million tries, 1 if none is given, and is made anew as often as MILLIONS asks. The letters of the
+last walk alone are summed up, to be compared. That takes 39 ms for 40 million letters: with one walk of 20 million tries
+a fifth of the plain form's time or more.
 """
 import os, random, subprocess, sys, tempfile
 
@@ -57,9 +60,9 @@ def run(words):
     return output.decode(), usage.ru_utime + usage.ru_stime
 
 
-def rates(programs, path, total, rounds):
+def rates(programs, path, total, rounds, most):
     """Millions of tries a second of each program, and their outputs."""
-    first, _ = run([*programs[0], path, str(total), "1"])
+    first, _ = run([*programs[0], path, str(min(total, most)), "1"])
     tries = int(first.split()[1])
     walks = max(1, total // max(1, tries))
     least, empty, outputs = [1e9] * len(programs), [1e9] * len(programs), [None] * len(programs)
@@ -74,17 +77,18 @@ def rates(programs, path, total, rounds):
 def main():
     total = int(float(sys.argv[2]) * 1e6) if len(sys.argv) > 2 else 3_000_000
     rounds = int(sys.argv[3]) if len(sys.argv) > 3 else 8
+    most = int(float(sys.argv[4]) * 1e6) if len(sys.argv) > 4 else 1_000_000
     with tempfile.TemporaryDirectory() as folder:
         peer = f"{folder}/walk"
         subprocess.check_call(["rustc", "-O", "-C", "target-cpu=x86-64-v2", f"{HERE}/peers/walk.rs", "-o", peer])
         programs = [[peer, "plain"], [peer, "gap"], [os.path.abspath(sys.argv[1]), "walk"]]
-        print(f"processors {os.cpu_count()}, load {os.getloadavg()[0]:.1f}, tries {total}, best of {rounds} rounds")
+        print(f"processors {os.cpu_count()}, load {os.getloadavg()[0]:.1f}, tries {total}, at most {most} a walk, best of {rounds} rounds")
         print("items kind: plain Rust, Rust with the gap, proved (million tries a second); proved / plain, proved / gap")
         for count in (100, 1_000, 10_000):
             for kind in ("changeless", "lean"):
                 path = f"{folder}/{kind}-{count}"
                 problem(path, kind, count)
-                found, outputs = rates(programs, path, total, rounds)
+                found, outputs = rates(programs, path, total, rounds, most)
                 if len(set(outputs)) != 1:
                     sys.exit(f"{count} {kind}: the programs differ: {outputs}")
                 plain, gap, proved = found

@@ -1,6 +1,6 @@
 -- Scores by sums.
 use Rattle.std.specs.Prelude.{◌≡◌, ℕ, ◌+◌, ◌-◌, ◌≤◌, ◌==◌, ◌&&◌, ◌||◌, Bool, true, false, List, ℤ, pos, ◌+ℤ◌, int_lt}
-use Rattle.std.specs.Prelude.{nat_lt}
+use Rattle.std.specs.Prelude.{nat_lt, Option, Some, None}
 use Rattle.std.specs.Ordering.{int_eq}
 use Rattle.std.proofs.Common.{arith, refl, sym, ap, ◌∙◌}
 use Rattle.std.proofs.lemmas.Int.{ints}
@@ -8,12 +8,13 @@ use Rattle.std.proofs.lemmas.Bool.Decides.{nat_tests, Decides-int_eq}
 use Rattle.pick_problem.specs.declared.item.Kind.TheVariants.{Changeless, Lean}
 use Rattle.pick_problem.specs.Pool.{item_at}
 use Rattle.pick_problem.specs.Problem.{PlainProblem, value_of, weight_of, cost_of}
-use Rattle.pick_problem.specs.Score.{score_by}
-use Rattle.pick_problem.specs.Walk.{score_below}
-use Rattle.pick_problem.proofs.Deciding.{by_test, eq_yes}
+use Rattle.pick_problem.specs.Score.{score_by, score_of}
+use Rattle.pick_problem.specs.Walk.{IsHit, best_of, score_below}
+use Rattle.pick_problem.proofs.Deciding.{by_test, eq_yes, if_false, if_true}
+use Rattle.walk_engine.specs.declared.best.Best.{Best}
 use Rattle.walk_engine.specs.declared.best.Sums.{Sums}
 use Rattle.walk_engine.specs.declared.stack.Stack.{Stack}
-use Rattle.walk_engine.specs.Best.{HasSums}
+use Rattle.walk_engine.specs.Best.{HasSums, plain_best}
 use Rattle.walk_engine.specs.Stack.{IsStack, with_place}
 use Rattle.walk_engine.proofs.CaseLaws.{same_lt, value_with}
 
@@ -75,3 +76,12 @@ sums_of p q sums waste weight excess = record {
   weight = weight;
   excess = excess;
 }
+
+-- the best stays where a hit has no lower score
+pub best_stays : (p : PlainProblem) (b : Best) (q : List ℕ) → b.found ≡ true →
+    score_below (score_of p q) (score_of p b.places.items) ≡ false → best_of p (plain_best b) q IsHit ≡ plain_best b
+best_stays p b q e same =
+    let found : plain_best b ≡ Some b.places.items = if_true b.found (Some b.places.items) None e in
+    ap (λ (o : Option (List ℕ)). best_of p o q IsHit) found
+    ∙ (if_false (score_below (score_of p q) (score_of p b.places.items)) (Some q) (Some b.places.items) same
+    ∙ sym found)

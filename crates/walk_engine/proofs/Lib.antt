@@ -1,5 +1,7 @@
 pub mod BestLaws
 pub mod CaseLaws
+pub mod DropLaws
+pub mod GlideLaws
 pub mod RestoreLaws
 pub mod SearchLaws
 pub mod StackLaws

@@ -58,6 +58,10 @@ done_early s i n l done =
 pub some_spare : (s : PlainSearch) (i n : ℕ) → i < n → n ≤ s.spare → 1 ≤ (after s i).spare
 some_spare s i n l enough = let made = tries_within s.problem s.walk i in omega (arith, made.0, made.1)
 
+-- and all that are left to make
+pub spare_left : (s : PlainSearch) (i n : ℕ) → n ≤ s.spare → n - i ≤ (after s i).spare
+spare_left s i n enough = let made = tries_within s.problem s.walk i in omega (arith, made.0, made.1)
+
 -- the room falls by the tries made
 pub spare_falls : (s : PlainSearch) (n : ℕ) → n ≤ s.spare → (after s n).spare +
     (after s n).walk.tries ≡ s.spare + s.walk.tries

@@ -62,7 +62,7 @@ same_one : (b : Bool) → if_done b ≡ over_one b
 same_one true = refl
 same_one false = refl
 
-abbrev walk_of : List ℕ → ℕ → Option (List ℕ) → ℕ → Bool → List Token → Walk
+abbrev pub walk_of : List ℕ → ℕ → Option (List ℕ) → ℕ → Bool → List Token → Walk
 walk_of stack next best tries done tokens = record {
   stack = stack;
   next = next;
@@ -73,15 +73,15 @@ walk_of stack next best tries done tokens = record {
   tokens = tokens;
 }
 
-same_walk : (stack stack' : List ℕ) (next next' : ℕ) (best best' : Option (List ℕ)) (tries : ℕ) (done done' : Bool)
+pub same_walk : (stack stack' : List ℕ) (next next' : ℕ) (best best' : Option (List ℕ)) (tries : ℕ) (done done' : Bool)
     (tokens tokens' : List Token) → stack ≡ stack' → next ≡ next' → best ≡ best' → done ≡ done' → tokens ≡ tokens' →
     walk_of stack next best tries done tokens ≡ walk_of stack' next' best' tries done' tokens'
 same_walk stack stack' next next' best best' tries done done' tokens tokens' a b c d e = cc
 
-abbrev search_of : PlainProblem → List ℕ → Walk → ℕ → PlainSearch
+abbrev pub search_of : PlainProblem → List ℕ → Walk → ℕ → PlainSearch
 search_of p before walk spare = record { problem = p; before = before; walk = walk; spare = spare }
 
-same_search : (p : PlainProblem) (before before' : List ℕ) (walk walk' : Walk) (spare spare' : ℕ) →
+pub same_search : (p : PlainProblem) (before before' : List ℕ) (walk walk' : Walk) (spare spare' : ℕ) →
     before ≡ before' → walk ≡ walk' → spare ≡ spare' → search_of p before walk spare ≡ search_of p before' walk' spare'
 same_search p before before' walk walk' spare spare' a b c = cc
 

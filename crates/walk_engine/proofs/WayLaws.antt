@@ -110,7 +110,7 @@ leave_last : (p : PlainProblem) (ys front : List ℕ) (j : ℕ) → ys ≡ front
     leave p (reverse ys) ≡ shift p (reverse front) j
 leave_last p ys front j e = ap (λ (q : List ℕ). leave p (reverse q)) e ∙ ap (leave p) (reverse_push front j)
 
-passed_letters : (old new mid : List ℕ) (ks ls : List Token) → new ≡ old ++ letters_of ks →
+pub passed_letters : (old new mid : List ℕ) (ks ls : List Token) → new ≡ old ++ letters_of ks →
     mid ≡ new ++ letters_of ls → mid ≡ old ++ letters_of (ks ++ ls)
 passed_letters old new mid ks ls e f = f ∙ (ap (λ (xs : List ℕ). xs ++ letters_of ls) e
     ∙ (append_assoc old (letters_of ks) (letters_of ls) ∙ ap (λ (xs : List ℕ). old ++ xs) (sym (letters-append ks ls))))

@@ -1,6 +1,6 @@
 //! The best selection so far.
 
-ghost use Rattle.std.specs.Prelude.{◌≡◌, ◌<◌, ◌≤◌, ℕ, List, [], ◌∷◌, ◌++◌, IfOk, None, Some, length};
+ghost use Rattle.std.specs.Prelude.{◌≡◌, ◌<◌, ◌≤◌, ℕ, true, List, [], ◌∷◌, ◌++◌, IfOk, None, Some, length};
 ghost use Rattle.std.specs.Vec.{vec_capacity};
 ghost use Rattle.pick_problem.specs.Pool.{item_at};
 ghost use Rattle.pick_problem.specs.Problem.{PlainProblem, Rising, value_of};
@@ -73,6 +73,24 @@ fn is_lower(kind: Kind, a: &Sums, b: &Sums) -> bool
         Kind::Changeless => a.waste < b.waste,
         Kind::Lean => a.weight < b.weight || (a.weight == b.weight && a.excess < b.excess),
     }
+}
+
+/// Whether the best stays where the chosen places with one more, which reach the least value, are met.
+#[inline(always)]
+#[tactic(auto, using(crate::proofs::BestLaws::best_stays))]
+pub(crate) fn stays(best: &Best, prepared: &Prepared, stack: &Stack, t: u32) -> bool
+    requires below { t < length prepared.now.items }
+    requires stack { IsStack prepared.now t stack.now }
+    requires reaches { stack.now.gap ≤ (item_at prepared.now.items t).value }
+    requires best { IsBestSoFar prepared.now best.now }
+    ensures { result ≡ true →
+        best_of prepared.now (plain_best best.now) (with_place stack.now t) IsHit ≡ plain_best best.now }
+{
+    if !best.found {
+        return false;
+    }
+    let sums = sums_with(prepared, stack, t);
+    !is_lower(prepared.kind(), &sums, &best.sums)
 }
 
 /// The sums of places that reach the least value.

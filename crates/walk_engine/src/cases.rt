@@ -36,7 +36,7 @@ pub(crate) enum Case {
 /// Whether with all later places it doesn't reach the least value.
 #[inline(always)]
 #[tactic(auto, using(crate::proofs::CaseLaws::short_test))]
-fn is_short(prepared: &Prepared, stack: &Stack, t: u32) -> bool
+pub(crate) fn is_short(prepared: &Prepared, stack: &Stack, t: u32) -> bool
     requires below { t < length prepared.now.items }
     requires stack { IsStack prepared.now t stack.now }
     ensures { result ≡ nat_lt (value_of prepared.now (with_place stack.now t)
@@ -48,7 +48,7 @@ fn is_short(prepared: &Prepared, stack: &Stack, t: u32) -> bool
 /// Whether it is above the greatest value.
 #[inline(always)]
 #[tactic(auto, using(crate::proofs::CaseLaws::above_test))]
-fn is_above(prepared: &Prepared, stack: &Stack, t: u32) -> bool
+pub(crate) fn is_above(prepared: &Prepared, stack: &Stack, t: u32) -> bool
     requires below { t < length prepared.now.items }
     requires stack { IsStack prepared.now t stack.now }
     ensures { result ≡ is_over prepared.now.kind prepared.now (with_place stack.now t) }
@@ -61,7 +61,7 @@ fn is_above(prepared: &Prepared, stack: &Stack, t: u32) -> bool
 
 /// Whether it is above the limit of weight.
 #[inline(always)]
-fn is_heavy(prepared: &Prepared, stack: &Stack, t: u32) -> bool
+pub(crate) fn is_heavy(prepared: &Prepared, stack: &Stack, t: u32) -> bool
     requires below { t < length prepared.now.items }
     requires stack { IsStack prepared.now t stack.now }
     ensures { result ≡ nat_lt prepared.now.most_weight (weight_of prepared.now (with_place stack.now t)) }
@@ -72,7 +72,7 @@ fn is_heavy(prepared: &Prepared, stack: &Stack, t: u32) -> bool
 /// Whether it wastes as much as the best or more, or is heavier.
 #[inline(always)]
 #[tactic(auto, using(crate::proofs::CaseLaws::worse_never, crate::proofs::CaseLaws::worse_not_plain, crate::proofs::CaseLaws::worse_lean))]
-fn is_worse(prepared: &Prepared, best: &Best, stack: &Stack, t: u32) -> bool
+pub(crate) fn is_worse(prepared: &Prepared, best: &Best, stack: &Stack, t: u32) -> bool
     requires below { t < length prepared.now.items }
     requires stack { IsStack prepared.now t stack.now }
     requires best { IsBestSoFar prepared.now best.now }
@@ -92,7 +92,7 @@ fn is_worse(prepared: &Prepared, best: &Best, stack: &Stack, t: u32) -> bool
 /// Whether it reaches the least value.
 #[inline(always)]
 #[tactic(auto, using(crate::proofs::CaseLaws::hit_test))]
-fn reaches(prepared: &Prepared, stack: &Stack, t: u32) -> bool
+pub(crate) fn reaches(prepared: &Prepared, stack: &Stack, t: u32) -> bool
     requires below { t < length prepared.now.items }
     requires stack { IsStack prepared.now t stack.now }
     ensures test { result ≡ nat_le prepared.now.lo (value_of prepared.now (with_place stack.now t)) }

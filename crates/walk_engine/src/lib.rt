@@ -5,6 +5,8 @@
 
 mod best;
 mod cases;
+mod dropping;
+mod gliding;
 mod position;
 mod prepared;
 mod restoring;

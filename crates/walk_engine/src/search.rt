@@ -9,6 +9,7 @@ ghost use Rattle.pick_problem.specs.Walk.{IsPosition, start};
 ghost use Rattle.pick_problem.specs.declared.position.Progress.TheVariants as progress;
 
 use crate::best::Best;
+use crate::gliding::glide;
 use crate::prepared::Prepared;
 use crate::stack::Stack;
 use crate::ways::{begin, step};
@@ -160,6 +161,47 @@ impl Search {
         self.spare -= 1;
     }
 
+    /// Tries that are told to drop their place and to change nothing else, at most so many. Gives how many were made.
+    #[inline(always)]
+    fn glide_on(&mut self, tries: u64) -> u64
+        requires open_ { self.old.walk.done ≡ false }
+        requires spare { tries ≤ self.old.spare }
+        ensures made { self.new ≡ after self.old result }
+        ensures few { result ≤ tries }
+        ensures open_ { self.new.walk.done ≡ false }
+    {
+        let run = glide(
+            &self.prepared,
+            &self.best,
+            &self.stack,
+            &mut self.letters,
+            self.next,
+            tries,
+        );
+        self.next = run.next;
+        self.made += run.made;
+        self.spare -= run.made;
+        run.made
+    }
+
+    /// Some tries, at most so many: those of that kind, and the one after them. Gives how many were made.
+    #[inline(always)]
+    fn make_some(&mut self, tries: u64) -> u64
+        requires open_ { self.old.walk.done ≡ false }
+        requires some { 1 ≤ tries }
+        requires spare { tries ≤ self.old.spare }
+        ensures made { self.new ≡ after self.old result }
+        ensures some { 1 ≤ result }
+        ensures few { result ≤ tries }
+    {
+        let made = self.glide_on(tries);
+        if made == tries {
+            return made;
+        }
+        self.turn();
+        made + 1
+    }
+
     /// So many tries, or fewer if the walk is done before.
     fn make(&mut self, tries: u64)
         requires { tries ≤ self.old.spare }
@@ -170,8 +212,7 @@ impl Search {
             if self.is_done() {
                 return;
             }
-            self.turn();
-            made += 1;
+            made += self.make_some(tries - made);
         }
     }
 

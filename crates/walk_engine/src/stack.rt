@@ -26,9 +26,7 @@ pub(crate) fn add(places: &mut Vec<u32>, place: u32)
     ensures places { places.new.items ≡ places.old.items ++ place ∷ [] }
     ensures room { vec_capacity places.old ≤ vec_capacity places.new }
 {
-    if let Err(_) = places.push(place) {
-        unreachable!()
-    }
+    places.push_reserved(place);
 }
 
 impl Stack {

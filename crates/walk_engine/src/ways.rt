@@ -2,7 +2,7 @@
 
 ghost use Rattle.std.specs.Prelude.{◌≡◌, ◌+◌, ◌*◌, ◌<◌, ◌≤◌, [], ◌∷◌, ◌++◌, if◌then◌else◌, length, nat_lt, reverse};
 ghost use Rattle.std.specs.Vec.{vec_capacity};
-ghost use Rattle.pick_problem.specs.Later.{later_value};
+ghost use Rattle.pick_problem.specs.Later.{behind_twins, later_value};
 ghost use Rattle.pick_problem.specs.Letters.{letters_of};
 ghost use Rattle.pick_problem.specs.Pool.{item_at};
 ghost use Rattle.pick_problem.specs.Problem.{value_of};
@@ -10,9 +10,10 @@ ghost use Rattle.pick_problem.specs.Tokens.{letter_of};
 ghost use Rattle.pick_problem.specs.Walk.{GoesOn, best_of, cut, cut_or_shift, is_lightest, leave, rule, shift, start};
 ghost use Rattle.pick_problem.specs.Walk.{upward, way_of, worse_way, writes};
 ghost use Rattle.pick_problem.specs.declared.token.Reason.TheVariants.{Short};
-ghost use Rattle.pick_problem.specs.declared.token.Token.TheVariants.{Enter, Pass};
+ghost use Rattle.pick_problem.specs.declared.token.Token.TheVariants.{Close, Enter, Pass};
 ghost use Rattle.walk_engine.specs.Best.{IsBestSoFar, plain_best};
 ghost use Rattle.walk_engine.specs.Cases.{rule_of};
+ghost use Rattle.walk_engine.specs.Dropping.{dropping};
 ghost use Rattle.walk_engine.specs.Stack.{IsStack, with_place};
 ghost use Rattle.walk_engine.specs.Ways.{HasWalked};
 
@@ -30,9 +31,39 @@ fn put(letters: &mut Vec<u8>, token: Token)
     ensures letters { letters.new.items ≡ letters.old.items ++ letter_of token ∷ [] }
     ensures room { vec_capacity letters.old ≤ vec_capacity letters.new }
 {
-    if let Err(_) = letters.push(token.letter()) {
-        unreachable!()
+    letters.push_reserved(token.letter());
+}
+
+/// I and the letter of a reason, where there is room for them.
+#[inline(always)]
+fn note(letters: &mut Vec<u8>, reason: Reason)
+    requires { length letters.old.items + 2 ≤ vec_capacity letters.old }
+    ensures letters { letters.new.items ≡ letters.old.items ++ letters_of (Enter ∷ Close reason ∷ []) }
+    ensures room { vec_capacity letters.old ≤ vec_capacity letters.new }
+{
+    put(letters, Token::Enter);
+    put(letters, Token::Close(reason));
+}
+
+/// A place is dropped after I and a reason, and its twins are passed. The place after them is given.
+#[inline(always)]
+#[tactic(auto, using(crate::proofs::DropLaws::drops_some, crate::proofs::DropLaws::drops_none))]
+pub(crate) fn drop_place(prepared: &Prepared, letters: &mut Vec<u8>, t: u32, reason: Reason) -> u32
+    requires below { t < length prepared.now.items }
+    requires room { length letters.old.items + 3 ≤ vec_capacity letters.old }
+    ensures letters { letters.new.items ≡ letters.old.items ++ letters_of (dropping prepared.now t reason) }
+    ensures next { result ≡ behind_twins prepared.now (t + 1) }
+    ensures behind { t < result }
+    ensures room { vec_capacity letters.old ≤ vec_capacity letters.new }
+{
+    let end = prepared.run_end(t);
+    let behind = prepared.behind(t);
+    note(letters, reason);
+    if behind < end {
+        put(letters, Token::Pass);
+        return end;
     }
+    behind
 }
 
 /// Where a walk begins: at the first place, or done at once where the whole pool doesn't reach the least value.
@@ -166,7 +197,7 @@ fn cut(
 /// Whether a place is the last, or weighs at most as much as any later one.
 #[inline(always)]
 #[tactic(auto, using(crate::proofs::WayLaws::lightest_last, crate::proofs::WayLaws::lightest_some))]
-fn is_lightest(prepared: &Prepared, t: u32) -> bool
+pub(crate) fn is_lightest(prepared: &Prepared, t: u32) -> bool
     requires { t < length prepared.now.items }
     ensures { result ≡ is_lightest prepared.now t }
 {
