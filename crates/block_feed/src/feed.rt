@@ -145,7 +145,6 @@ impl Feed {
         self.digest
     }
 
-    #[tactic(auto, using(fund_base::proofs::Asking::asks_none))]
     fn advance<H: Shelf>(
         &mut self,
         alloc: Global,

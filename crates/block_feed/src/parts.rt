@@ -24,7 +24,6 @@ fn room(alloc: Global, size: usize) -> Result<Vec<u8>, AllocError>
 }
 
 // Reads `count` bytes of the file `name` from place `at` on by way of `piece`, or as many as there are.
-#[tactic(auto, using(fund_base::proofs::Asking::asks_none, fund_base::proofs::Asking::asks_again))]
 fn read_pieces<H: Shelf>(
     alloc: Global,
     shelf: &mut H,

@@ -19,7 +19,6 @@ use sha2::{Digest, Sha256};
 use std::alloc::{AllocError, Global};
 use tx_codec::{Tx, TxFault, read_tx, txid};
 
-#[tactic(auto, using(fund_base::proofs::Repeat::so_far_none, fund_base::proofs::Repeat::so_far_more, fund_base::proofs::Repeat::so_far_all))]
 fn txs_of(alloc: Global, count: u64, cursor: &mut Cursor) -> Result<Vec<Tx>, TxFault>
     ensures { Yields NoMemory (λ v. v.items) cursor.new result (many_at tx_at count cursor.old) }
 {

@@ -6,7 +6,7 @@ ghost use Rattle.fund_base.specs.Cursor.{IsBytes, compact_at, number_at, take_at
 ghost use Rattle.fund_base.specs.Parsing.{Yields, YieldsAll, many_from, many_at, whole_of};
 ghost use Rattle.tx_codec.specs.declared.fault.TxFault.TheVariants.{EmptyWitness, Memory, Trailing};
 ghost use Rattle.tx_codec.specs.Stack.{lists};
-ghost use Rattle.tx_codec.specs.Reading.{input_at, output_at, output_in, inputs_at, outputs_at, item_at, stack_at, stacks_at, are_empty, legacy_at, witnessed_at, segregated_at, tx_at, legacy_tx_at, IsRead};
+ghost use Rattle.tx_codec.specs.Reading.{BeginsInputs, BeginsSegregated, input_at, output_at, output_in, inputs_at, outputs_at, item_at, stack_at, stacks_at, are_empty, legacy_at, witnessed_at, segregated_at, tx_at, legacy_tx_at, IsRead};
 ghost use Rattle.tx_codec.specs.Transaction.{Transaction};
 ghost use Rattle.tx_codec.specs.TransactionText.{IsFollowed, IsLegacy, IsTransaction, text_of};
 
@@ -73,7 +73,6 @@ fn output_of(alloc: Global, index: u64, sum: u64, cursor: &mut Cursor) -> Result
     })
 }
 
-#[tactic(auto, using(fund_base::proofs::Repeat::so_far_none, fund_base::proofs::Repeat::so_far_more, fund_base::proofs::Repeat::so_far_all))]
 fn inputs_of(alloc: Global, count: u64, cursor: &mut Cursor) -> Result<Vec<TxIn>, TxFault>
     ensures { Yields Memory (λ v. v.items) cursor.new result (many_at input_at count cursor.old) }
 {
@@ -85,7 +84,6 @@ fn inputs_of(alloc: Global, count: u64, cursor: &mut Cursor) -> Result<Vec<TxIn>
     Ok(inputs)
 }
 
-#[tactic(auto, using(crate::proofs::Outputs::outputs_none, crate::proofs::Outputs::outputs_more, crate::proofs::Outputs::outputs_all))]
 fn outputs_of(alloc: Global, count: u64, cursor: &mut Cursor) -> Result<Vec<TxOut>, TxFault>
     ensures { Yields Memory (λ v. v.items) cursor.new result (many_from output_in count [] cursor.old) }
 {
@@ -99,7 +97,6 @@ fn outputs_of(alloc: Global, count: u64, cursor: &mut Cursor) -> Result<Vec<TxOu
     Ok(outputs)
 }
 
-#[tactic(auto, using(fund_base::proofs::Repeat::so_far_none, fund_base::proofs::Repeat::so_far_more, fund_base::proofs::Repeat::so_far_all, crate::proofs::Stacks::lists_more))]
 fn items_of(alloc: Global, count: u64, cursor: &mut Cursor) -> Result<Vec<Vec<u8>>, TxFault>
     ensures { Yields Memory (λ v. lists v.items) cursor.new result (many_at item_at count cursor.old) }
 {
@@ -121,7 +118,6 @@ fn stack_of(alloc: Global, cursor: &mut Cursor) -> Result<Witness, TxFault>
     Ok(Witness::new(items))
 }
 
-#[tactic(auto, using(crate::proofs::Stacks::stacks_none, crate::proofs::Stacks::stacks_more, crate::proofs::Stacks::stacks_all))]
 fn stacks_of(alloc: Global, inputs: &mut [TxIn], cursor: &mut Cursor) -> Result<(), TxFault>
     ensures { Yields Memory (λ _. inputs.new) cursor.new result (stacks_at inputs.old cursor.old) }
 {
@@ -230,6 +226,7 @@ fn segregated_of(alloc: Global, version: u32, cursor: &mut Cursor) -> Result<Tx,
     ensures gives { Yields Memory (λ x. x) cursor.new result (segregated_at version cursor.old) }
     ensures short { result ≡ Err Memory → IsOkAnd (take_at 1 cursor.old) (λ flag. slice_index flag.0 0 ≡ 1) }
     ensures some { result ≡ Err Memory → IsOkAnd (take_at 1 cursor.old) (λ flag. IsOkAnd (compact_at flag.1) (λ count. count.0 ≢ 0)) }
+    ensures form { result ≡ Err Memory → BeginsSegregated cursor.old }
 {
     let flag = cursor.take(1)?;
     if flag[0] != 1 {
@@ -242,6 +239,7 @@ fn segregated_of(alloc: Global, version: u32, cursor: &mut Cursor) -> Result<Tx,
 fn tx_of(alloc: Global, cursor: &mut Cursor) -> Result<Tx, TxFault>
     ensures gives { Yields Memory (λ x. x) cursor.new result (tx_at cursor.old) }
     ensures short { result ≡ Err Memory → IsOk (number_at w32 cursor.old) }
+    ensures form { result ≡ Err Memory → IsOkAnd (number_at w32 cursor.old) (λ version. BeginsInputs version.1) }
 {
     let version = cursor.u32_le()?;
     if matches!(cursor.rest(), [0, ..]) {
@@ -257,6 +255,7 @@ fn front_of(alloc: Global, cursor: &mut Cursor) -> Result<Tx, TxFault>
     ensures stays { OnErr result (cursor.new ≡ cursor.old) }
     ensures bytes { IsBytes cursor.old.rest }
     ensures short { result ≡ Err Memory → IsOk (number_at w32 cursor.old) }
+    ensures form { result ≡ Err Memory → IsOkAnd (number_at w32 cursor.old) (λ version. BeginsInputs version.1) }
 {
     let mut ahead = cursor.fork();
     let tx = tx_of(alloc, &mut ahead)?;
@@ -276,6 +275,9 @@ pub fn read_tx(alloc: Global, cursor: &mut Cursor) -> Result<Tx, TxFault>
     ensures exact { Yields Memory (λ t. t) cursor.new result (tx_at cursor.old) }
     ensures never_trailing { (place : ℕ) → result ≢ Err (Trailing place) }
     ensures stays { OnErr result (cursor.new ≡ cursor.old) }
+
+    // Memory is taken behind the number of inputs, which isn't 0, and behind the flag where there is a marker.
+    ensures form { result ≡ Err Memory → IsOkAnd (number_at w32 cursor.old) (λ version. BeginsInputs version.1) }
 {
     front_of(alloc, cursor)
 }
@@ -284,6 +286,7 @@ fn whole_of(alloc: Global, bytes: &[u8]) -> Result<Tx, TxFault>
     ensures exact { YieldsAll Memory (λ t. t) result (whole_of Trailing (tx_at (record { rest = bytes.now; place = 0 }))) }
     ensures bytes { IsBytes bytes.now }
     ensures short { result ≡ Err Memory → IsOk (number_at w32 (record { rest = bytes.now; place = 0 })) }
+    ensures form { result ≡ Err Memory → IsOkAnd (number_at w32 (record { rest = bytes.now; place = 0 })) (λ version. BeginsInputs version.1) }
 {
     let mut cursor = Cursor::new(bytes);
     let tx = tx_of(alloc, &mut cursor)?;
@@ -303,8 +306,9 @@ pub fn read_whole_tx(alloc: Global, bytes: &[u8]) -> Result<Tx, TxFault>
     ensures trailing { (place : ℕ) → result ≡ Err (Trailing place) → IsFollowed IsTransaction bytes.now place }
     ensures followed { (place : ℕ) → IsFollowed IsTransaction bytes.now place → MatchResult result (λ _. ⊥) (λ e. e ≢ Memory → e ≡ Trailing place) }
 
-    // Memory is taken behind the version, whose four bytes stand there.
+    // Memory is taken behind the version and the number of inputs, which isn't 0, and behind the flag where there is a marker.
     ensures short { result ≡ Err Memory → IsOk (number_at w32 (record { rest = bytes.now; place = 0 })) }
+    ensures form { result ≡ Err Memory → IsOkAnd (number_at w32 (record { rest = bytes.now; place = 0 })) (λ version. BeginsInputs version.1) }
 {
     whole_of(alloc, bytes)
 }

@@ -41,7 +41,7 @@ impl Witness {
     pub fn copy(&self, alloc: Global) -> Result<Witness, Memory>
         ensures { IfOk result (λ w. w ≡ self.now) }
     {
-        let mut items = Vec::new(alloc);
+        let mut items = Vec::with_capacity(alloc, self.items.len())?;
         for item in self.items.as_slice() {
             items.push(Vec::from_slice(alloc, item.as_slice())?)?;
         }
@@ -141,7 +141,7 @@ impl Tx {
 fn copy_inputs(alloc: Global, inputs: &[TxIn]) -> Result<Vec<TxIn>, Memory>
     ensures { IfOk result (λ v. v.items ≡ inputs.now) }
 {
-    let mut copies = Vec::new(alloc);
+    let mut copies = Vec::with_capacity(alloc, inputs.len())?;
     for input in inputs {
         copies.push(input.copy(alloc)?)?;
     }
@@ -151,7 +151,7 @@ fn copy_inputs(alloc: Global, inputs: &[TxIn]) -> Result<Vec<TxIn>, Memory>
 fn copy_outputs(alloc: Global, outputs: &[TxOut]) -> Result<Vec<TxOut>, Memory>
     ensures { IfOk result (λ v. v.items ≡ outputs.now) }
 {
-    let mut copies = Vec::new(alloc);
+    let mut copies = Vec::with_capacity(alloc, outputs.len())?;
     for output in outputs {
         copies.push(output.copy(alloc)?)?;
     }

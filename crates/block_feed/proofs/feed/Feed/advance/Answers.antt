@@ -1,7 +1,8 @@
-use Rattle.std.proofs.Common.{◌≡◌, ℕ, ◌+◌, ◌-◌, ◌++◌, List, Option, length, take, ◌∙◌, ap, subst, arith}
+use Rattle.std.proofs.Common.{◌≡◌, ℕ, ◌+◌, ◌-◌, ◌++◌, List, [], ◌∷◌, Option, length, take, ◌∙◌, ap, subst, arith}
 use Rattle.sha2.specs.declared.Sha256.{Sha256}
 use Rattle.fund_base.specs.Cursor.{IsBytes}
 use Rattle.fund_base.specs.Writer.{Feeds}
+use Rattle.fund_base.proofs.Asking.{asks_none}
 use Rattle.block_feed.specs.Digest.{HasTaken}
 use Rattle.block_feed.specs.Feed.{FeedState, seen_from}
 use Rattle.block_feed.proofs.DigestLaws.{block_takes}
@@ -34,3 +35,9 @@ returns-in-Ok-Some-clause-block_digest g c = λ told fine.
     let taken : Feeds HasTaken c.args.self.now.hasher c.take_in.new.hasher c.deref.result.now = subst (λ (h : Option Sha256). Feeds HasTaken h c.take_in.new.hasher c.deref.result.now) hasher c.take_in.ensures.taken in
     block_takes c.args.self.now.hasher c.take_in.new.hasher c.take_in-in-Ok-Some.new.hasher rest c.deref.result.now c.in-Ok-Some.found.head.items c.deref-in-Ok-Some.result.now c.in-Ok-Some.found.body.items (c.self.inside.place + 8 + c.len.result - c.args.self.now.place)
     c.deref.ensures.value c.deref-in-Ok-Some.ensures.value taken c.take_in-in-Ok-Some.ensures.taken parts count
+
+pub returns-in-Some-clause-asked : goal.returns-in-Some-clause-asked
+returns-in-Some-clause-asked g c = λ told. asks_none (c.args.name.now ∷ []) (g.H.Shelf.view c.args.shelf.now).asked
+
+pub returns-in_err-tail-clause-asked : goal.returns-in_err-tail-clause-asked
+returns-in_err-tail-clause-asked g c = λ told. asks_none (c.args.name.now ∷ []) (g.H.Shelf.view c.args.shelf.now).asked
