@@ -70,6 +70,17 @@ again_below weigh height t (suc n) =
 pub with_maker : (weigh : List ℕ → Option ℕ) (height : Option ℕ) (t : Transaction) (n : ℕ) (cs : List Coin) → cs ≡ coins (coins_below (coin_at weigh height t) n) → map (by_maker t) cs ≡ coins_below (coin_at weigh height t) n
 with_maker weigh height t n cs is = ap (map (by_maker t)) is ∙ again_below weigh height t n
 
+-- one place further, each coin with the transaction
+pub held_more : (weigh : List ℕ → Option ℕ) (height : Option ℕ) (t : Transaction) (n : ℕ) (old new : List Made) (found : Option Coin) → found ≡ coin_made (coin_at weigh height t n)
+    → new ≡ old ++ map (by_maker t) (option_to_list found) → old ≡ coins_below (coin_at weigh height t) n → new ≡ coins_below (coin_at weigh height t) (n + 1)
+unfolding coins_below
+held_more weigh height t n old new found is more so_far =
+    rw add-one (
+    more
+    ∙ (λ k. so_far k ++ map (by_maker t) (option_to_list (is k)))
+    ∙ ap (λ (l : List Made). coins_below (coin_at weigh height t) n ++ l) (ap (map (by_maker t)) (listed (coin_at weigh height t n)) ∙ again_at weigh height t n)
+    )
+
 -- ---- where there is a coin
 
 pub one_of : (o : Option Made) → is_some o ≡ true → length (option_to_list o) ≡ 1

@@ -1,6 +1,6 @@
 //! Transactions added to a ledger.
 
-ghost use Rattle.std.specs.Prelude.{ℕ, ◌≡◌, ◌+◌, ◌<◌, ◌^◌, ◌++◌, ◌∷◌, [], IfOk, List, OnErr, OnOk, Some, bytes_eq, false, length, map, if◌then◌else◌};
+ghost use Rattle.std.specs.Prelude.{ℕ, ◌≡◌, ◌+◌, ◌<◌, ◌^◌, ◌++◌, ◌∷◌, [], IfOk, IfSome, List, OnErr, OnOk, Some, bytes_eq, false, is_some, length, map, if◌then◌else◌};
 ghost use Rattle.std.specs.Map.{lookup};
 ghost use Rattle.fund_base.specs.declared.outpoint.OutPoint.{OutPoint};
 ghost use Rattle.tx_codec.specs.Txid.{txid_of};
@@ -16,15 +16,27 @@ use crate::fault::BookFault;
 use crate::ledger::{Ledger, Weights, add_coins, add_spends};
 use crate::making::held_in;
 use fund_base::{Memory, Txid};
+use indexmap::IndexMap;
 use std::alloc::Global;
+use std::rc::Rc;
 use tx_codec::{Tx, TxIn};
+
+/// Whether this txid has a height. Where none has one it isn't looked for.
+fn has_height(heights: &IndexMap<Txid, u32>, txid: &Txid) -> bool
+    ensures { result ≡ is_some (lookup (bytes_eq txid.now) heights.now.entries) }
+{
+    if heights.is_empty() {
+        return false;
+    }
+    heights.contains_key(txid)
+}
 
 impl Ledger {
     /// Whether a transaction of this txid stands here or in the other ledger.
     fn is_known(&self, base: &Ledger, txid: &Txid) -> bool
         ensures { result ≡ is_known base.now self.now txid.now }
     {
-        base.heights.contains_key(txid) || self.heights.contains_key(txid)
+        has_height(&base.heights, txid) || has_height(&self.heights, txid)
     }
 
     /// Adds the height and the spends of a transaction of this txid, unless one stands here or in the other ledger: then
@@ -49,8 +61,8 @@ impl Ledger {
         Ok(())
     }
 
-    /// Adds the transaction that stands after these and those of `base`, with its txid, height and place. RepeatCoin or
-    /// Full comes exactly where an outpoint would be a coin twice or a coin be number 100,001, by the first coin of
+    /// Adds the transaction that stands after these and those of `base`, with its txid, height and place. Its coins share
+    /// the one that is shared, if there is one, and otherwise a copy of it. RepeatCoin or Full comes exactly where an outpoint would be a coin twice or a coin be number 100,001, by the first coin of
     /// which this is so.
     pub fn add(
         &mut self,
@@ -58,15 +70,17 @@ impl Ledger {
         base: &Ledger,
         weights: &Weights,
         tx: &Tx,
+        shared: Option<&Rc<Tx>>,
         spend: &Spend,
     ) -> Result<(), BookFault>
-        requires { spend.now.txid ≡ txid_of tx.now }
+        requires spend { spend.now.txid ≡ txid_of tx.now }
+        requires shared { IfSome shared (λ maker. maker.now.value ≡ tx.now) }
         ensures holds { (before behind : List Confirmed) → HoldsChain (weigher weights.now.entries) [] before base.now → HoldsChain (weigher weights.now.entries) before behind self.old → spend.now.place ≡ length (before ++ behind)
             → OnOk result (HoldsChain (weigher weights.now.entries) before (behind ++ confirmed_at spend.now.height tx.now ∷ []) self.new) }
         ensures exact { (before behind : List Confirmed) → HoldsChain (weigher weights.now.entries) [] before base.now → HoldsChain (weigher weights.now.entries) before behind self.old
             → Meets result (fault_behind (points_in (weigher weights.now.entries) before ++ points_in (weigher weights.now.entries) behind) (points (made_by (weigher weights.now.entries) (confirmed_at spend.now.height tx.now)))) }
     {
-        let held = held_in(alloc, weights, tx, spend.txid, Some(spend.height))?;
+        let held = held_in(alloc, weights, tx, shared, spend.txid, Some(spend.height))?;
         match add_coins(&mut self.coins, &base.coins, held) {
             Ok(()) => {}
             Err(fault) => return Err(fault),
@@ -102,7 +116,7 @@ pub fn ledger_behind(
             height,
             place: first + index as u64,
         };
-        match ledger.add(alloc, base, weights, &txs[index], &spend) {
+        match ledger.add(alloc, base, weights, &txs[index], None, &spend) {
             Ok(()) => {}
             Err(fault) => return Err(fault),
         }

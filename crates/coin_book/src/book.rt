@@ -23,7 +23,7 @@ use crate::fault::BookFault;
 use crate::held::Held;
 use crate::ledger::{Ledger, Weights};
 use crate::moving::{left_of, settle};
-use crate::waiting::{coins_beside, count_beside, fits};
+use crate::waiting::{check_fits, coins_beside, count_beside, fits};
 use block_feed::Block;
 use fund_base::{OutPoint, Txid};
 use indexmap::{IndexMap, IndexSet};
@@ -122,8 +122,9 @@ impl Book {
             Err(fault) => return Err(fault),
         };
         let left = left_of(&self.txids, &self.pending, &more.heights);
-        if !fits(self.ledger.coins.len(), more.coins.len(), left) {
-            return Err(BookFault::Full);
+        match check_fits(self.ledger.coins.len(), more.coins.len(), left) {
+            Ok(()) => {}
+            Err(fault) => return Err(fault),
         }
         self.blocks.reserve(1)?;
         self.ledger.append(self.alloc, more)?;
@@ -241,18 +242,24 @@ fn coin_in(coins: &IndexMap<OutPoint, Held>, i: usize) -> Option<&Coin>
     Some(&held.coin)
 }
 
-/// The coin at this outpoint among the entries.
+/// The coin at this outpoint among the entries. Where there are none it isn't looked for.
 fn held_in<'a>(coins: &'a IndexMap<OutPoint, Held>, coin: &OutPoint) -> Option<&'a Coin>
     ensures { option_copied result ≡ option_map (λ (h : Held). h.coin) (lookup (same_outpoint coin.now) coins.now.entries) }
 {
+    if coins.is_empty() {
+        return None;
+    }
     let found = coins.get(coin)?;
     Some(&found.coin)
 }
 
-/// The transaction of the coin at this outpoint.
+/// The transaction of the coin at this outpoint. Where there are no coins it isn't looked for.
 fn maker_in<'a>(coins: &'a IndexMap<OutPoint, Held>, coin: &OutPoint) -> Option<&'a Tx>
     ensures { option_copied result ≡ option_map (λ (h : Held). h.maker.value) (lookup (same_outpoint coin.now) coins.now.entries) }
 {
+    if coins.is_empty() {
+        return None;
+    }
     let held = coins.get(coin)?;
     Some(held.maker.as_ref())
 }

@@ -44,7 +44,14 @@ pub fn ledger_of(alloc: Global, weights: &Weights, earlier: &[Earlier]) -> Resul
             height: entry.height,
             place: index as u64,
         };
-        match ledger.add(alloc, &base, weights, &entry.tx, &spend) {
+        match ledger.add(
+            alloc,
+            &base,
+            weights,
+            entry.tx.as_ref(),
+            Some(&entry.tx),
+            &spend,
+        ) {
             Ok(()) => {}
             Err(fault) => return Err(fault),
         }

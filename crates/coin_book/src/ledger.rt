@@ -67,6 +67,16 @@ impl Ledger {
     }
 }
 
+/// Whether a coin stands at this outpoint. Where there are none it isn't looked for.
+fn is_there(coins: &IndexMap<OutPoint, Held>, point: &OutPoint) -> bool
+    ensures { result ≡ list_any (same_outpoint point.now) (keys_of coins.now.entries) }
+{
+    if coins.is_empty() {
+        return false;
+    }
+    coins.contains_key(point)
+}
+
 /// Whether a coin stands at this outpoint, in either of two maps.
 fn stands(
     base: &IndexMap<OutPoint, Held>,
@@ -75,7 +85,7 @@ fn stands(
 ) -> bool
     ensures { result ≡ (list_any (same_outpoint point.now) (keys_of base.now.entries) || list_any (same_outpoint point.now) (keys_of coins.now.entries)) }
 {
-    base.contains_key(point) || coins.contains_key(point)
+    is_there(base, point) || is_there(coins, point)
 }
 
 /// Whether one coin more is within the most, where those of the two maps are there.

@@ -1,6 +1,6 @@
 //! The coins of a transaction.
 
-ghost use Rattle.std.specs.Prelude.{◌≡◌, ◌<◌, IfOk, None, OnErr, is_some, length, map, true};
+ghost use Rattle.std.specs.Prelude.{◌≡◌, ◌++◌, ◌∷◌, [], ◌<◌, IfOk, IfSome, None, OnErr, OnOk, is_some, length, map, true};
 ghost use Rattle.tx_codec.specs.Txid.{txid_of};
 ghost use Rattle.coin_book.specs.Coins.{Made, coin_at, coin_of, coins_below, made_in};
 ghost use Rattle.coin_book.specs.declared.coin.Coin.{Coin};
@@ -132,10 +132,10 @@ fn held_by(alloc: Global, coins: Vec<Coin>, maker: Rc<Tx>) -> Result<Vec<Held>, 
     Ok(held)
 }
 
-/// The coins of the transaction of this txid, in order, each with a copy of the transaction that they share. It takes
+/// The coins of a transaction of this txid that is lent alone, in order, each with a copy of it that they share. It takes
 /// memory only where there is one.
 #[tactic(auto, unfolding(crate::specs::Coins::made_in))]
-pub fn held_in(
+fn lent_in(
     alloc: Global,
     weights: &Weights,
     tx: &Tx,
@@ -153,4 +153,59 @@ pub fn held_in(
     let maker = Rc::new(alloc, tx.copy(alloc)?)?;
     let held = held_by(alloc, coins, maker)?;
     Ok(held)
+}
+
+/// Puts a coin with its transaction after others.
+fn add_held(held: &mut Vec<Held>, coin: Coin, maker: &Rc<Tx>) -> Result<(), Memory>
+    ensures { OnOk result (map held_made held.new.items ≡ map held_made held.old.items ++ record { coin = coin; maker = maker.now.value } ∷ []) }
+{
+    let maker = maker.clone()?;
+    held.push(Held { coin, maker })?;
+    Ok(())
+}
+
+/// The coins of a transaction of this txid, in order, each with the transaction, which they share. It takes memory only
+/// where there is one.
+#[tactic(auto, unfolding(crate::specs::Coins::made_in))]
+fn shared_in(
+    alloc: Global,
+    weights: &Weights,
+    maker: &Rc<Tx>,
+    txid: Txid,
+    height: Option<u32>,
+) -> Result<Vec<Held>, Memory>
+    requires { txid ≡ txid_of maker.now.value }
+    ensures made { IfOk result (λ v. map held_made v.items ≡ made_in (weigher weights.now.entries) height maker.now.value) }
+    ensures short { OnErr result (0 < length (made_in (weigher weights.now.entries) height maker.now.value)) }
+{
+    let tx = maker.as_ref();
+    let mut held = Vec::new(alloc);
+    for index in 0..tx.outputs.len() {
+        match coin_at(alloc, weights, tx, txid, height, index)? {
+            Some(coin) => add_held(&mut held, coin, maker)?,
+            None => {}
+        }
+    }
+    Ok(held)
+}
+
+/// The coins of the transaction of this txid, in order, each with the transaction that they share: the one that is shared,
+/// or else a copy of it. It takes memory only where there is one.
+pub fn held_in(
+    alloc: Global,
+    weights: &Weights,
+    tx: &Tx,
+    shared: Option<&Rc<Tx>>,
+    txid: Txid,
+    height: Option<u32>,
+) -> Result<Vec<Held>, Memory>
+    requires txid { txid ≡ txid_of tx.now }
+    requires shared { IfSome shared (λ maker. maker.now.value ≡ tx.now) }
+    ensures made { IfOk result (λ v. map held_made v.items ≡ made_in (weigher weights.now.entries) height tx.now) }
+    ensures short { OnErr result (0 < length (made_in (weigher weights.now.entries) height tx.now)) }
+{
+    match shared {
+        Some(maker) => shared_in(alloc, weights, maker, txid, height),
+        None => lent_in(alloc, weights, tx, txid, height),
+    }
 }

@@ -1,13 +1,13 @@
 //! The coins of transactions that wait for a block.
 
-ghost use Rattle.std.specs.Prelude.{ℕ, ◌≡◌, ◌+◌, ◌<◌, [], Err, IfOk, None, bytes_eq, is_some, length, nat_le, if◌then◌else◌};
+ghost use Rattle.std.specs.Prelude.{ℕ, ◌≡◌, ◌+◌, ◌<◌, [], Err, IfErr, IfOk, None, OnOk, false, true, bytes_eq, is_some, length, nat_le, if◌then◌else◌};
 ghost use Rattle.std.specs.Map.{keys_of, lookup};
 ghost use Rattle.tx_codec.specs.Txid.{txid_of};
 ghost use Rattle.coin_book.specs.Coins.{made_in};
 ghost use Rattle.coin_book.specs.Faults.{fault_behind, points};
 ghost use Rattle.coin_book.specs.Invariant.{HoldsCoins, made_waiting, weigher};
 ghost use Rattle.coin_book.specs.Merging.{Meets};
-ghost use Rattle.coin_book.specs.declared.fault.BookFault.TheVariants.{Memory as NoMemory};
+ghost use Rattle.coin_book.specs.declared.fault.BookFault.TheVariants.{Full as TooMany, Memory as NoMemory};
 
 use crate::fault::BookFault;
 use crate::held::Held;
@@ -25,6 +25,17 @@ pub fn fits(confirmed: usize, waiting: usize, more: usize) -> bool
     confirmed <= MOST_COINS
         && waiting <= MOST_COINS - confirmed
         && more <= MOST_COINS - confirmed - waiting
+}
+
+/// That so many coins are within the most. It takes no memory.
+pub fn check_fits(confirmed: usize, waiting: usize, more: usize) -> Result<(), BookFault>
+    ensures fits { OnOk result (nat_le (confirmed + waiting + more) 100_000 ≡ true) }
+    ensures full { IfErr result (λ e. (e ≡ TooMany) × (nat_le (confirmed + waiting + more) 100_000 ≡ false)) }
+{
+    if !fits(confirmed, waiting, more) {
+        return Err(BookFault::Full);
+    }
+    Ok(())
 }
 
 /// How many coins a transaction of this txid has that is to wait. There are none where it is confirmed.
@@ -57,7 +68,7 @@ pub fn coins_beside(
     if heights.contains_key(&txid) {
         return Ok(coins);
     }
-    let held = held_in(alloc, weights, tx, txid, None)?;
+    let held = held_in(alloc, weights, tx, None, txid, None)?;
     match add_coins(&mut coins, pending, held) {
         Ok(()) => Ok(coins),
         Err(fault) => Err(fault),

@@ -1,10 +1,12 @@
 //! The bytes of a PSBT file, made whole.
 
-ghost use Rattle.std.specs.Prelude.{◌≡◌, IfErr, IfOk};
+ghost use Rattle.std.specs.Prelude.{◌≡◌, ◌≢◌, IfErr, IfOk, OnOk};
 ghost use Rattle.fund_files.specs.Chain.{HasTexts, IsHeld};
 ghost use Rattle.psbt_codec.specs.Psbt.{IsPsbt};
 ghost use Rattle.command_complete.specs.Made.{IsCompletedFile, IsSpelled, line_of};
 ghost use Rattle.command_complete.specs.Stops.{StopsAtFile, StopsAtText, stop_of_psbt};
+ghost use Rattle.command_complete.specs.declared.stop.Refusal.TheVariants as refusals;
+ghost use Rattle.command_complete.specs.declared.stop.Stop.TheVariants as stops;
 
 use crate::stop::{Refusal, Stop};
 use coin_book::Book;
@@ -39,6 +41,17 @@ fn psbt_stop(fault: PsbtFault) -> Stop
     }
 }
 
+/// That the one text of a PSBT is this text. It takes no memory.
+fn check_spelling(spelling: &[u8], text: &[u8]) -> Result<(), Stop>
+    ensures same { OnOk result (spelling.now ≡ text.now) }
+    ensures other { IfErr result (λ stop. (stop ≡ stops.Refused refusals.OtherPairs) × (spelling.now ≢ text.now)) }
+{
+    if spelling != text {
+        return Err(Stop::Refused(Refusal::OtherPairs));
+    }
+    Ok(())
+}
+
 /// The PSBT that a text is, and is the one text of.
 fn spelled(alloc: Global, text: &[u8]) -> Result<Psbt, Stop>
     ensures found { IfOk result (λ p. IsSpelled text.now p) }
@@ -54,10 +67,10 @@ fn spelled(alloc: Global, text: &[u8]) -> Result<Psbt, Stop>
         Err(fault) => return Err(psbt_stop(fault)),
     };
     let spelling = write_text(alloc, &psbt)?;
-    if spelling.as_bytes() != text {
-        return Err(Stop::Refused(Refusal::OtherPairs));
+    match check_spelling(spelling.as_bytes(), text) {
+        Ok(()) => Ok(psbt),
+        Err(stop) => Err(stop),
     }
-    Ok(psbt)
 }
 
 /// The one text of a PSBT, which is read back as it.

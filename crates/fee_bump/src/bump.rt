@@ -23,7 +23,7 @@ ghost use Rattle.fee_bump.specs.declared.fault.BumpFault.TheVariants as faults;
 
 use crate::burden::burden;
 use crate::fault::BumpFault;
-use crate::rate::rate_fault;
+use crate::rate::check_rate;
 use crate::replaced::{can_be_replaced, replaced, txid_set, txids};
 use crate::terms::BumpTerms;
 use crate::worth::{fee_in, fees_in, foreign, spent_by};
@@ -188,10 +188,7 @@ fn terms(
     }
     let payment = at(&wallet.pending, place);
     let old_fee = fee_in(alloc, book, txs, gone, payment)?;
-    match rate_fault(request, old_fee, vsize(weight(payment))) {
-        Some(fault) => return Err(fault),
-        None => {}
-    }
+    check_rate(request, old_fee, vsize(weight(payment)))?;
     let terms = terms_for(
         alloc, book, wallet, states, tip, request, place, txs, names, gone, old_fee,
     )?;

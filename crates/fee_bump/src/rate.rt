@@ -1,6 +1,6 @@
 //! Whether a request's rate is high enough to replace a payment.
 
-ghost use Rattle.std.specs.Prelude.{◌≡◌, ◌*◌};
+ghost use Rattle.std.specs.Prelude.{◌≡◌, ◌*◌, IfErr, None, OnOk, Some};
 ghost use Rattle.fee_bump.specs.Faults.{is_not_higher, rate_fault};
 
 use crate::burden::INCREMENTAL;
@@ -22,7 +22,7 @@ fn is_not_higher(rate: u64, fee: u64, size: u64) -> bool
 }
 
 /// Why the rate of the request doesn't do, if it doesn't, where the payment pays this fee and has this virtual size.
-pub fn rate_fault(request: &Request, fee: u64, size: u64) -> Option<BumpFault>
+fn rate_fault(request: &Request, fee: u64, size: u64) -> Option<BumpFault>
     ensures { result ≡ rate_fault request.now fee size }
 {
     if request.rate < INCREMENTAL {
@@ -32,4 +32,16 @@ pub fn rate_fault(request: &Request, fee: u64, size: u64) -> Option<BumpFault>
         return Some(BumpFault::RateNotHigher(fee, size));
     }
     None
+}
+
+/// That the rate of the request is one for a replacement of a payment of this fee and virtual size. It never runs out of
+/// memory.
+pub fn check_rate(request: &Request, fee: u64, vsize: u64) -> Result<(), BumpFault>
+    ensures fault { IfErr result (λ e. rate_fault request.now fee vsize ≡ Some e) }
+    ensures none { OnOk result (rate_fault request.now fee vsize ≡ None) }
+{
+    match rate_fault(request, fee, vsize) {
+        Some(fault) => Err(fault),
+        None => Ok(()),
+    }
 }

@@ -11,10 +11,12 @@ use Rattle.payment_states.specs.Makers.{HasMaker}
 use Rattle.request_text.specs.PlainRequest.{PlainRequest}
 use Rattle.wallet_text.specs.declared.wallet.Watch.{Watch}
 use Rattle.desk_machine.specs.Machine.{by_funded, by_taken, funded_of, stay, taken_at}
-use Rattle.desk_machine.specs.Replies.{NotFunded, Taken}
+use Rattle.desk_machine.specs.Replies.{NotFunded, Taken, plain_reply}
 use Rattle.desk_machine.specs.Rules.{IsJob}
 use Rattle.desk_machine.specs.State.{Job, Payment, PlainDesk, candidates_in}
 use Rattle.desk_machine.specs.Taken.{first_taken}
+use Rattle.desk_machine.specs.declared.reply.Reply as given
+use Rattle.desk_machine.specs.declared.reply.Reply.TheVariants as givens
 use Rattle.desk_machine.proofs.TakenLaws.{none_shown}
 use Rattle.fund_desk.specs.Given.{IsGiven, IsNotGiven, IsWrittenOut}
 use Rattle.fund_desk.specs.declared.committing.Given.{Given}
@@ -48,6 +50,12 @@ is_taken_one k committed j f r o is own shown = record {
       ∙ taken_by d name j f o (taken_at d j f) (shown ∙ ap (λ (q : PlainRequest). point_in (first_taken committed (candidates_in k) q f.row f.coins)) own);
   other = λ txid psbt same. absurd cc;
 }
+
+-- a coin that is taken, as it is told
+pub is_taken_told : (k : Held) (committed : List Payment) (j : Job) (f : PlainFunded) (r : PlainRequest) (o : Option OutPoint) (reply : given.Reply) → Some f ≡ funded_of j.answer → r ≡ j.state.plan.request
+    → o ≡ point_in (first_taken committed (candidates_in k) r f.row f.coins) → option_map givens.Taken o ≡ Some reply → IsNotGiven k committed j (plain_reply reply)
+is_taken_told k committed j f r None reply is own shown told = absurd cc
+is_taken_told k committed j f r (Some coin) reply is own shown told = subst (λ (x : given.Reply). IsNotGiven k committed j (plain_reply x)) (same_Some (givens.Taken coin) reply told) (is_taken_one k committed j f r coin is own shown)
 
 none_in : (x : Option Candidate) → None ≡ point_in x → x ≡ None
 none_in None e = refl

@@ -1,6 +1,6 @@
 //! The payment of a job, as it is committed.
 
-ghost use Rattle.std.specs.Prelude.{◌≡◌, IfOk, MatchResult, OnErr, Some};
+ghost use Rattle.std.specs.Prelude.{◌≡◌, IfOk, MatchResult, None, OnErr, Some, option_map};
 ghost use Rattle.fund_files.specs.Chain.{IsHeld};
 ghost use Rattle.fund_plan.specs.Answer.{IsSelection};
 ghost use Rattle.fund_plan.specs.Selection.{PlainFunded};
@@ -8,12 +8,13 @@ ghost use Rattle.fund_desk.specs.Given.{IsGiven, IsNotGiven, IsWrittenOut};
 ghost use Rattle.desk_machine.specs.Machine.{funded_of};
 ghost use Rattle.desk_machine.specs.Replies.{plain_reply};
 ghost use Rattle.desk_machine.specs.Rules.{IsJob};
+ghost use Rattle.desk_machine.specs.declared.reply.Reply.TheVariants.{Taken};
 
 use crate::job::OpenJob;
 use crate::payments::Committed;
 use crate::taken::first_taken;
 use desk_machine::Reply;
-use fund_base::{Memory, Txid};
+use fund_base::{Memory, OutPoint, Txid};
 use fund_files::Held;
 use fund_payment::{coins_have_makers, psbt};
 use fund_plan::Funded;
@@ -52,6 +53,29 @@ fn written_out(
     })
 }
 
+/// A payment as it is given out, or the reply where this coin of it can't be spent any more. The error is out of memory,
+/// which comes only where there is none.
+fn give_unless(
+    alloc: Global,
+    held: &Held,
+    request: &Request,
+    funded: &Funded,
+    taken: Option<OutPoint>,
+) -> Result<Result<Given, Reply>, Memory>
+    requires held { IsHeld held.now }
+    requires funded { IsSelection request.now funded.now }
+    ensures given { IfOk result (λ r. MatchResult r (λ g. (taken ≡ None) × IsWrittenOut held.now request.now funded.now g) (λ reply. option_map Taken taken ≡ Some reply)) }
+    ensures memory { OnErr result (taken ≡ None) }
+{
+    match taken {
+        Some(coin) => Ok(Err(Reply::Taken(coin))),
+        None => {
+            let given = written_out(alloc, held, request, funded)?;
+            Ok(Ok(given))
+        }
+    }
+}
+
 /// The payment of a job as it is given out, or the reply where a coin of it can't be spent any more. The error is out of
 /// memory.
 fn give_funded(
@@ -67,13 +91,11 @@ fn give_funded(
     ensures { IfOk result (λ r. MatchResult r (IsGiven held.now committed.now job.now) (λ reply. IsNotGiven held.now committed.now job.now (plain_reply reply))) }
 {
     let asked = job.request();
-    match first_taken(alloc, held, committed, asked, funded)? {
-        Some(coin) => Ok(Err(Reply::Taken(coin))),
-        None => {
-            coins_have_makers(held);
-            let given = written_out(alloc, held, asked, funded)?;
-            Ok(Ok(given))
-        }
+    let taken = first_taken(alloc, held, committed, asked, funded)?;
+    coins_have_makers(held);
+    match give_unless(alloc, held, asked, funded, taken)? {
+        Ok(given) => Ok(Ok(given)),
+        Err(reply) => Ok(Err(reply)),
     }
 }
 

@@ -1,6 +1,6 @@
 //! The plan of a job that is opened.
 
-ghost use Rattle.std.specs.Prelude.{◌≡◌, ◌≢◌, IfErr, IfOk, MatchResult, None, OnErr, Some, Ok, Err};
+ghost use Rattle.std.specs.Prelude.{◌≡◌, ◌≢◌, IfErr, IfOk, MatchResult, None, OnErr, OnOk, Result, Some, Ok, Err};
 ghost use Rattle.fund_files.specs.Chain.{IsHeld};
 ghost use Rattle.fund_plan.specs.Outcome.{beginning_of};
 ghost use Rattle.fund_steps.specs.Faults.{fault_of};
@@ -8,6 +8,10 @@ ghost use Rattle.desk_machine.specs.Machine.{plan_by, plan_for, plan_in};
 ghost use Rattle.fund_desk.specs.Opening.{IsMade};
 ghost use Rattle.desk_machine.specs.Replies.{plain_refusal};
 ghost use Rattle.desk_machine.specs.State.{desk_of};
+ghost use Rattle.desk_machine.specs.declared.reply.Refusal.TheVariants as refusals;
+ghost use Rattle.request_text.specs.PlainRequest.{PlainRequest};
+ghost use Rattle.request_text.specs.Told.{Reads, plain_fault};
+ghost use Rattle.request_text.specs.declared.fault.Refusal as requests;
 
 use crate::payments::{Committed, keep_free};
 use desk_machine::Refusal;
@@ -53,6 +57,19 @@ fn plan_of(
     }
 }
 
+/// The refusal of a request whose plan has this fault. The error is out of memory, and comes where the fault is that. It
+/// takes no memory.
+fn plan_refusal(fault: PlanFault) -> Result<Refusal, Memory>
+    ensures refusal { IfOk result (λ r. r ≡ refusals.Plan fault) }
+    ensures other { OnOk result (fault ≢ PlanFault.Memory) }
+    ensures memory { OnErr result (fault ≡ PlanFault.Memory) }
+{
+    match fault {
+        PlanFault::Memory => Err(Memory),
+        fault => Ok(Refusal::Plan(fault)),
+    }
+}
+
 /// A request that was read, and its plan; or why there is none. The error is out of memory, which comes of no request that
 /// replaces a payment.
 fn made_of(
@@ -70,8 +87,23 @@ fn made_of(
     }
     match plan_of(alloc, held, committed, &request) {
         Ok(plan) => Ok(Ok(Made { request, plan })),
-        Err(PlanFault::Memory) => Err(Memory),
-        Err(fault) => Ok(Err(Refusal::Plan(fault))),
+        Err(fault) => match plan_refusal(fault) {
+            Ok(refusal) => Ok(Err(refusal)),
+            Err(memory) => Err(memory),
+        },
+    }
+}
+
+/// The refusal of a request with this fault. The error is out of memory, and comes where the fault is that. It takes no
+/// memory.
+fn request_refusal(fault: RequestFault) -> Result<Refusal, Memory>
+    ensures refusal { IfOk result (λ r. r ≡ refusals.Request fault) }
+    ensures other { OnOk result ((read : Result PlainRequest requests.Refusal) → Reads (Err fault) read → read ≡ Err (plain_fault fault)) }
+    ensures memory { OnErr result (fault ≡ RequestFault.Memory) }
+{
+    match fault {
+        RequestFault::Memory => Err(Memory),
+        fault => Ok(Refusal::Request(fault)),
     }
 }
 
@@ -87,7 +119,9 @@ pub fn make(
 {
     match read_request(alloc, bytes) {
         Ok(request) => made_of(alloc, held, committed, request),
-        Err(RequestFault::Memory) => Err(Memory),
-        Err(fault) => Ok(Err(Refusal::Request(fault))),
+        Err(fault) => match request_refusal(fault) {
+            Ok(refusal) => Ok(Err(refusal)),
+            Err(memory) => Err(memory),
+        },
     }
 }

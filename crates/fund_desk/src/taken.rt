@@ -135,6 +135,16 @@ fn first_in<'a>(
         .find(|coin| is_taken(look, request, number, coin))
 }
 
+/// The outpoint of the first of these coins that can't be spent by a payment of this row any more. It takes no memory.
+fn first_point(look: &Look, request: &Request, number: u8, coins: &[Candidate]) -> Option<OutPoint>
+    ensures { result ≡ option_map (λ (c : Candidate). c.coin) (find (taken_in look.now request.now number) coins.now) }
+{
+    match first_in(look, request, number, coins) {
+        Some(coin) => Some(coin.coin),
+        None => None,
+    }
+}
+
 /// The first coin of a payment of this request that can't be spent any more: a committed payment spends it; or it isn't
 /// one of those that may be spent now; or it is listed and unsafe without `include_unsafe`; or it isn't listed and doesn't
 /// meet the row of the payment. The error is out of memory.
@@ -150,8 +160,5 @@ pub fn first_taken(
 {
     let now = ready_of(alloc, held, &funded.coins)?;
     let look = look_of(alloc, committed, &request.coins, now)?;
-    match first_in(&look, request, funded.row, &funded.coins) {
-        Some(coin) => Ok(Some(coin.coin)),
-        None => Ok(None),
-    }
+    Ok(first_point(&look, request, funded.row, &funded.coins))
 }

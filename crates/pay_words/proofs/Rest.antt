@@ -1,11 +1,12 @@
 -- What is left of a list, one step on and at its end.
-use Rattle.std.proofs.Common.{◌≡◌, ℕ, ◌+◌, ◌<◌, ◌≤◌, List, ◌∷◌, length, get_or, drop, Result, Ok, Err, String, string_bytes, Option, Some, None, ap, sym, ◌∙◌}
+use Rattle.std.proofs.Common.{◌≡◌, ℕ, ◌+◌, ◌<◌, ◌≤◌, List, ◌∷◌, length, get_or, drop, Result, Ok, Err, String, string_bytes, Option, Some, None, Vec, ap, subst, sym, ◌∙◌}
 use Rattle.std.proofs.lemmas.List.{at_drop_more, at_drop_all}
 use Rattle.std.specs.declared.alloc.Global.{Global}
-use Rattle.fund_base.specs.Parsing.{◌>>=◌}
-use Rattle.pay_words.specs.Given.{ended, flags_from, next_of, place_of}
+use Rattle.fund_base.specs.Parsing.{◌>>=◌, YieldsAll}
+use Rattle.pay_words.specs.Given.{ended, ended_by, flags_from, next_of, place_of}
 use Rattle.pay_words.specs.Flags.{is_same}
 use Rattle.pay_words.specs.declared.fault.WordFault.{WordFault}
+use Rattle.pay_words.specs.declared.fault.WordFault.TheVariants.{Memory}
 use Rattle.pay_words.specs.declared.flag.Flag.{Flag}
 use Rattle.pay_words.specs.declared.given.Given.{Given}
 use Rattle.std.specs.Prelude.{if◌then◌else◌}
@@ -43,3 +44,8 @@ word_refused given wanted words i word fault total lt is refused so_far =
 pub words_ended : (s : List Given × Option Flag) (words : List (String Global)) (i : ℕ) → length words ≤ i → flags_from s i (drop i words) ≡ ended s
 unfolding flags_from
 words_ended s words i le = at_drop_all (flags_from s i) words i le
+
+-- the flags at the end of the words, as they are returned
+pub ended_told : (given : Vec Given Global) (wanted : Option Flag) (r : Result (Vec Given Global) WordFault) (total : Result (List Given) WordFault) → r ≡ ended_by given wanted → total ≡ ended_by given.items wanted → YieldsAll Memory (λ (v : Vec Given Global). v.items) r total
+ended_told given None r total is all = subst (λ (x : Result (Vec Given Global) WordFault). YieldsAll Memory (λ (v : Vec Given Global). v.items) x total) (sym is) all
+ended_told given (Some flag) r total is all = subst (λ (x : Result (Vec Given Global) WordFault). YieldsAll Memory (λ (v : Vec Given Global). v.items) x total) (sym is) (λ _. all)

@@ -92,7 +92,7 @@ same_name words given =
     (option_or (option_or (alike_at words given flags.Log flags.Wallet) (alike_at words given flags.Log flags.Blocks)) (alike_at words given flags.Log flags.Psbt)))
 
 -- names are taken, unless one stands twice
-abbrev pub unless_same : Option ℕ → PlainNames → Result PlainNames WordFault
+abbrev pub unless_same : {A : Type 0} → Option ℕ → A → Result A WordFault
 unless_same None names = Ok names
 unless_same (Some place) names = Err (faults.SameName place)
 

@@ -34,7 +34,7 @@ next_of given (Some flag) place word = if is_some (flag_of word) then Err (fault
 next_of given None place word = named given place (flag_of word)
 
 -- the words are at their end
-abbrev pub ended_by : List Given → Option Flag → Result (List Given) WordFault
+abbrev pub ended_by : {A : Type 0} → A → Option Flag → Result A WordFault
 ended_by given None = Ok given
 ended_by given (Some flag) = Err (faults.NoValue flag)
 

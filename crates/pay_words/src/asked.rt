@@ -1,10 +1,11 @@
 //! The whole of what the words ask for.
 
-ghost use Rattle.std.specs.Prelude.{◌≡◌, IfOk, map, option_map, string_bytes};
+ghost use Rattle.std.specs.Prelude.{◌≡◌, ◌==◌, Err, IfOk, IsOk, Ok, if◌then◌else◌, length, map, option_map, string_bytes};
 ghost use Rattle.fund_base.specs.Parsing.{YieldsAll};
-ghost use Rattle.pay_words.specs.Asked.{alike_at, asked_by, asked_in, each_name, is_given, name_behind, name_or_none, names_in, needed_name, plain_asked, plain_names, same_name, some_paid};
+ghost use Rattle.pay_words.specs.Asked.{alike_at, asked_by, asked_in, each_name, is_given, name_behind, name_or_none, names_in, needed_name, plain_asked, plain_names, same_name, some_paid, unless_same};
 ghost use Rattle.pay_words.specs.Payments.{plain_payment};
-ghost use Rattle.pay_words.specs.declared.fault.WordFault.TheVariants.{Memory as OutOfMemory};
+ghost use Rattle.pay_words.specs.declared.fault.WordFault.TheVariants.{Memory as OutOfMemory, Missing};
+ghost use Rattle.pay_words.specs.declared.flag.Flag.TheVariants.{To};
 ghost use Rattle.pay_words.specs.Values.{text_of};
 ghost use Rattle.request_making.specs.Asked.{asked_of};
 ghost use Rattle.request_making.specs.Written.{request_bytes};
@@ -65,9 +66,10 @@ impl Asked {
     }
 }
 
-/// The name of a file behind a flag, which may not be empty.
+/// The name of a file behind a flag, which may not be empty. It runs out of memory only where there is a name.
 fn name_behind(alloc: Global, flag: Flag, text: &str) -> Result<String, WordFault>
-    ensures { YieldsAll OutOfMemory string_bytes result (name_behind flag text.now) }
+    ensures gives { YieldsAll OutOfMemory string_bytes result (name_behind flag text.now) }
+    ensures short { result ≡ Err OutOfMemory → IsOk (name_behind flag text.now) }
 {
     if text.is_empty() {
         return Err(WordFault::EmptyName(flag));
@@ -76,14 +78,15 @@ fn name_behind(alloc: Global, flag: Flag, text: &str) -> Result<String, WordFaul
     Ok(name)
 }
 
-/// The name behind a flag that has to be given.
+/// The name behind a flag that has to be given. It runs out of memory only where there is a name.
 fn needed_name(
     alloc: Global,
     words: &[String],
     given: &[Given],
     flag: Flag,
 ) -> Result<String, WordFault>
-    ensures { YieldsAll OutOfMemory string_bytes result (needed_name flag words.now given.now) }
+    ensures gives { YieldsAll OutOfMemory string_bytes result (needed_name flag words.now given.now) }
+    ensures short { result ≡ Err OutOfMemory → IsOk (needed_name flag words.now given.now) }
 {
     match place_of(given, flag) {
         Some(place) => name_behind(alloc, flag, word_at(words, place)),
@@ -91,14 +94,15 @@ fn needed_name(
     }
 }
 
-/// The name behind a flag that may be left out.
+/// The name behind a flag that may be left out. It runs out of memory only where there is a name.
 fn name_or_none(
     alloc: Global,
     words: &[String],
     given: &[Given],
     flag: Flag,
 ) -> Result<Option<String>, WordFault>
-    ensures { YieldsAll OutOfMemory (option_map string_bytes) result (name_or_none flag words.now given.now) }
+    ensures gives { YieldsAll OutOfMemory (option_map string_bytes) result (name_or_none flag words.now given.now) }
+    ensures short { result ≡ Err OutOfMemory → IsOk (name_or_none flag words.now given.now) }
 {
     match place_of(given, flag) {
         Some(place) => {
@@ -164,15 +168,32 @@ fn same_name(words: &[String], given: &[Given]) -> Option<usize>
     blocks.or(psbt.or(log))
 }
 
+/// The names, unless one of them stands twice, at this place. It never runs out of memory.
+fn unless_same(place: Option<usize>, names: Names) -> Result<Names, WordFault>
+    ensures { result ≡ unless_same place names }
+{
+    match place {
+        None => Ok(names),
+        Some(place) => Err(WordFault::SameName(place)),
+    }
+}
+
 /// The names that the words give, no two of them alike.
 fn names_in(alloc: Global, words: &[String], given: &[Given]) -> Result<Names, WordFault>
     ensures { YieldsAll OutOfMemory plain_names result (names_in words.now given.now) }
 {
     let names = each_name(alloc, words, given)?;
-    match same_name(words, given) {
-        None => Ok(names),
-        Some(place) => Err(WordFault::SameName(place)),
+    unless_same(same_name(words, given), names)
+}
+
+/// That somebody is paid. It never runs out of memory.
+fn check_paid(payments: &[Payment]) -> Result<(), WordFault>
+    ensures { result ≡ (if length payments.now == 0 then Err (Missing To) else Ok tt) }
+{
+    if payments.is_empty() {
+        return Err(WordFault::Missing(Flag::To));
     }
+    Ok(())
 }
 
 /// The payments that the words give, at least one.
@@ -180,9 +201,7 @@ fn some_paid(alloc: Global, words: &[String], given: &[Given]) -> Result<Vec<Pay
     ensures { YieldsAll OutOfMemory (λ v. map plain_payment v.items) result (some_paid words.now given.now) }
 {
     let payments = payments_given(alloc, words, given)?;
-    if payments.is_empty() {
-        return Err(WordFault::Missing(Flag::To));
-    }
+    check_paid(&payments)?;
     Ok(payments)
 }
 

@@ -1,8 +1,8 @@
 //! The flags that stand among the words.
 
-ghost use Rattle.std.specs.Prelude.{◌≡◌, [], None, is_some};
+ghost use Rattle.std.specs.Prelude.{◌≡◌, [], Err, IsOk, None, is_some};
 ghost use Rattle.fund_base.specs.Parsing.{YieldsAll};
-ghost use Rattle.pay_words.specs.Given.{begun, flags_in, named, next_of, place_of};
+ghost use Rattle.pay_words.specs.Given.{begun, ended_by, flags_in, named, next_of, place_of};
 ghost use Rattle.pay_words.specs.declared.fault.WordFault.TheVariants.{Memory as OutOfMemory};
 
 use crate::fault::WordFault;
@@ -30,9 +30,10 @@ pub fn place_of(given: &[Given], flag: Flag) -> Option<usize>
     None
 }
 
-/// Takes a flag: it is given, or it waits for its value.
+/// Takes a flag: it is given, or it waits for its value. It runs out of memory only where it may be given.
 fn begin(given: &mut Vec<Given>, place: usize, flag: Flag) -> Result<Option<Flag>, WordFault>
-    ensures { YieldsAll OutOfMemory (λ wanted. (given.new.items, wanted)) result (begun given.old.items place flag) }
+    ensures gives { YieldsAll OutOfMemory (λ wanted. (given.new.items, wanted)) result (begun given.old.items place flag) }
+    ensures short { result ≡ Err OutOfMemory → IsOk (begun given.old.items place flag) }
 {
     if !may_repeat(flag) && place_of(given.as_slice(), flag).is_some() {
         return Err(WordFault::Twice(place));
@@ -45,14 +46,15 @@ fn begin(given: &mut Vec<Given>, place: usize, flag: Flag) -> Result<Option<Flag
 }
 
 /// Takes the word at this place, the value of the flag that waits for one, or else a flag; and answers the flag that then
-/// waits for its value. The word of a flag is no value.
+/// waits for its value. The word of a flag is no value. It runs out of memory only where the word is taken.
 fn take_word(
     given: &mut Vec<Given>,
     wanted: Option<Flag>,
     place: usize,
     word: &str,
 ) -> Result<Option<Flag>, WordFault>
-    ensures { YieldsAll OutOfMemory (λ next. (given.new.items, next)) result (next_of given.old.items wanted place word.now) }
+    ensures gives { YieldsAll OutOfMemory (λ next. (given.new.items, next)) result (next_of given.old.items wanted place word.now) }
+    ensures short { result ≡ Err OutOfMemory → IsOk (next_of given.old.items wanted place word.now) }
 {
     match wanted {
         Some(flag) => {
@@ -69,6 +71,16 @@ fn take_word(
     }
 }
 
+/// The flags, where the words end and this flag waits for its value, if one does. It never runs out of memory.
+fn ended(given: Vec<Given>, wanted: Option<Flag>) -> Result<Vec<Given>, WordFault>
+    ensures { result ≡ ended_by given wanted }
+{
+    match wanted {
+        None => Ok(given),
+        Some(flag) => Err(WordFault::NoValue(flag)),
+    }
+}
+
 /// The flags that the words give, in their order, or the first fault.
 #[tactic(auto, unfolding(crate::specs::Given::flags_in))]
 pub fn flags_in(alloc: Global, words: &[String]) -> Result<Vec<Given>, WordFault>
@@ -82,8 +94,5 @@ pub fn flags_in(alloc: Global, words: &[String]) -> Result<Vec<Given>, WordFault
             Err(fault) => return Err(fault),
         }
     }
-    match wanted {
-        None => Ok(given),
-        Some(flag) => Err(WordFault::NoValue(flag)),
-    }
+    ended(given, wanted)
 }

@@ -1,6 +1,6 @@
 //! Who is paid, and which coins are spent in any case.
 
-ghost use Rattle.std.specs.Prelude.{◌≡◌, [], ◌++◌, IfOk, OnOk, map, option_map, string_bytes};
+ghost use Rattle.std.specs.Prelude.{◌≡◌, ◌/◌, [], ◌++◌, Err, IfOk, IsOk, IsSome, MatchResult, Ok, OnOk, length, map, option_map, string_bytes};
 ghost use Rattle.std.specs.List.{flat_map};
 ghost use Rattle.fund_base.specs.Parsing.{YieldsAll};
 ghost use Rattle.pay_words.specs.Payments.{coin_given, cut_of, paid_to, paid_to_script, payments_after, payments_from, plain_payment, script_at, to_address, to_script};
@@ -11,7 +11,6 @@ use crate::flag::{Flag, is_same};
 use crate::given::Given;
 use crate::values::{amount_at, word_at};
 use fund_base::{Memory, Script};
-use hex::FromHexError;
 use request_making::{Payee, Payment};
 use std::alloc::Global;
 
@@ -22,9 +21,11 @@ fn cut_of(word: &str) -> Option<(&str, &str)>
     word.split_once('=')
 }
 
-/// What is paid to an address. Whether it is one is judged where the request is read.
+/// What is paid to an address. Whether it is one is judged where the request is read. It runs out of memory only where
+/// the amount is one.
 fn to_address(alloc: Global, place: usize, to: &str, amount: &str) -> Result<Payment, WordFault>
-    ensures { YieldsAll OutOfMemory plain_payment result (to_address place to.now amount.now) }
+    ensures gives { YieldsAll OutOfMemory plain_payment result (to_address place to.now amount.now) }
+    ensures short { result ≡ Err OutOfMemory → IsOk (to_address place to.now amount.now) }
 {
     let amount = amount_at(place, amount)?;
     let text = String::from_str(alloc, to)?;
@@ -34,15 +35,24 @@ fn to_address(alloc: Global, place: usize, to: &str, amount: &str) -> Result<Pay
     })
 }
 
-/// The script that is spelled in hex.
+/// Writes the bytes of the script that is spelled in hex. It never runs out of memory.
+fn put_script(place: usize, text: &str, room: &mut [u8]) -> Result<(), WordFault>
+    requires { length room.old ≡ length text.now / 2 }
+    ensures { MatchResult (script_at place text.now) (λ bytes. (result ≡ Ok tt) × (room.new ≡ bytes)) (λ e. result ≡ Err e) }
+{
+    match hex::decode_to_slice(text.as_bytes(), room) {
+        Ok(()) => Ok(()),
+        Err(_) => Err(WordFault::Script(place)),
+    }
+}
+
+/// The script that is spelled in hex. Memory is taken for it first.
 fn script_at(alloc: Global, place: usize, text: &str) -> Result<Script, WordFault>
     ensures { YieldsAll OutOfMemory (λ s. s) result (script_at place text.now) }
 {
-    match hex::decode(alloc, text.as_bytes()) {
-        Ok(bytes) => Ok(Script::new(bytes)),
-        Err(FromHexError::OutOfMemory) => Err(WordFault::Memory),
-        Err(_) => Err(WordFault::Script(place)),
-    }
+    let mut bytes = vec![in alloc; 0u8; text.len() / 2]?;
+    put_script(place, text, &mut bytes)?;
+    Ok(Script::new(bytes))
 }
 
 /// What is paid to a script in hex.
@@ -57,9 +67,10 @@ fn to_script(alloc: Global, place: usize, to: &str, amount: &str) -> Result<Paym
     })
 }
 
-/// What the word at this place says to pay to an address.
+/// What the word at this place says to pay to an address. It runs out of memory only where it says that.
 fn paid_to(alloc: Global, place: usize, word: &str) -> Result<Payment, WordFault>
-    ensures { YieldsAll OutOfMemory plain_payment result (paid_to place word.now) }
+    ensures gives { YieldsAll OutOfMemory plain_payment result (paid_to place word.now) }
+    ensures short { result ≡ Err OutOfMemory → IsOk (paid_to place word.now) }
 {
     match cut_of(word) {
         None => Err(WordFault::NoAmount(place)),
@@ -67,9 +78,10 @@ fn paid_to(alloc: Global, place: usize, word: &str) -> Result<Payment, WordFault
     }
 }
 
-/// What the word at this place says to pay to a script.
+/// What the word at this place says to pay to a script. It runs out of memory only where there is an `=`.
 fn paid_to_script(alloc: Global, place: usize, word: &str) -> Result<Payment, WordFault>
-    ensures { YieldsAll OutOfMemory plain_payment result (paid_to_script place word.now) }
+    ensures gives { YieldsAll OutOfMemory plain_payment result (paid_to_script place word.now) }
+    ensures short { result ≡ Err OutOfMemory → IsSome (cut_of word.now) }
 {
     match cut_of(word) {
         None => Err(WordFault::NoAmount(place)),

@@ -1,11 +1,12 @@
 //! The coins that a payment spends, found by its inputs.
 
-ghost use Rattle.std.specs.Prelude.{◌≡◌, ◌≢◌, ◌==◌, ◌++◌, ◌∷◌, [], AllPairs, find, IfErr, IfOk, OnOk, option_copied};
+ghost use Rattle.std.specs.Prelude.{◌≡◌, ◌≢◌, ◌==◌, ◌++◌, ◌∷◌, [], AllPairs, find, IfErr, IfOk, None, OnOk, Some, option_copied};
 ghost use Rattle.std.specs.List.{AllZip};
 ghost use Rattle.fund_base.specs.declared.candidate.Candidate.{Candidate};
 ghost use Rattle.output_groups.specs.declared.rows.Row.{Row};
 ghost use Rattle.report_check.specs.Finding.{IsCoinAt, IsTakenAt, Takes};
 ghost use Rattle.report_check.specs.PaidRefused.{IsCoinRefusal};
+ghost use Rattle.report_check.specs.declared.fault.CheckFault.TheVariants.{Coin};
 
 use crate::fault::CheckFault;
 use fund_base::{Candidate, Memory, OutPoint};
@@ -58,6 +59,23 @@ fn taken_at<'a>(
     }
 }
 
+/// The coin at an outpoint that may be spent; the refusal is the outpoint where there is none. It takes no memory.
+fn coin_for<'a>(
+    presets: &'a [Candidate],
+    rest: &'a [Candidate],
+    row: Option<&Row>,
+    point: &OutPoint,
+) -> Result<&'a Candidate, CheckFault>
+    requires { AllPairs (λ (a b : Candidate). a.coin ≢ b.coin) rest.now }
+    ensures found { IfOk result (λ coin. IsTakenAt presets.now rest.now (option_copied row.entry) point.now (Some coin.now)) }
+    ensures foreign { IfErr result (λ e. (e ≡ Coin point.now) × IsTakenAt presets.now rest.now (option_copied row.entry) point.now None) }
+{
+    match taken_at(presets, rest, row, point) {
+        Some(coin) => Ok(coin),
+        None => Err(CheckFault::Coin(*point)),
+    }
+}
+
 /// Puts a copy of a coin after others. The error is out of memory.
 fn add(alloc: Global, coins: &mut Vec<Candidate>, coin: &Candidate) -> Result<(), Memory>
     ensures { OnOk result (coins.new.items ≡ coins.old.items ++ coin.now ∷ []) }
@@ -82,8 +100,9 @@ pub(crate) fn coins_of(
 {
     let mut coins = Vec::new(alloc);
     'taking: for input in inputs {
-        let Some(coin) = taken_at(presets, rest, row, &input.prev) else {
-            return Err(CheckFault::Coin(input.prev));
+        let coin = match coin_for(presets, rest, row, &input.prev) {
+            Ok(coin) => coin,
+            Err(fault) => return Err(fault),
         };
         if let Err(_) = add(alloc, &mut coins, coin) {
             return Err(CheckFault::Memory);

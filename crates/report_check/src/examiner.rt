@@ -1,6 +1,6 @@
 //! What reports are judged against, and the judgement.
 
-ghost use Rattle.std.specs.Prelude.{◌≡◌, ◌≢◌, ◌≤◌, IfErr, IfOk, MatchResult, None, OnOk, length};
+ghost use Rattle.std.specs.Prelude.{◌≡◌, ◌≢◌, ◌≤◌, IfErr, IfOk, MatchResult, None, OnOk, false, length, true};
 ghost use Rattle.fund_base.specs.Candidates.{AreCandidates};
 ghost use Rattle.fund_plan.specs.Steps.{steps_of};
 ghost use Rattle.fund_report.specs.declared.report.Report.TheVariants as reports;
@@ -49,6 +49,17 @@ impl Model for Examiner {
     ghost view = { λ e. e.funding };
 
     ghost invariant = { λ e. IsGround e.funding e.request e.change e.steps.items };
+}
+
+/// That a report has the answer of its log, by whether it has it. It takes no memory.
+fn check_answer(is_answered: bool) -> Result<(), CheckFault>
+    ensures kept { OnOk result (is_answered ≡ true) }
+    ensures broken { IfErr result (λ e. (is_answered ≡ false) × (e ≡ check.Answer)) }
+{
+    if !is_answered {
+        return Err(CheckFault::Answer);
+    }
+    Ok(())
 }
 
 impl Examiner {
@@ -115,8 +126,10 @@ impl Examiner {
             sections,
         ) {
             Err(_) => Err(CheckFault::Memory),
-            Ok(false) => Err(CheckFault::Answer),
-            Ok(true) => Ok(()),
+            Ok(kept) => match check_answer(kept) {
+                Ok(()) => Ok(()),
+                Err(fault) => Err(fault),
+            },
         }
     }
 

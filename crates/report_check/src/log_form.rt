@@ -1,6 +1,6 @@
 //! The log beside a report.
 
-ghost use Rattle.std.specs.Prelude.{◌≡◌, ℕ, IfErr, IfOk};
+ghost use Rattle.std.specs.Prelude.{◌≡◌, ℕ, Err, IfErr, IfOk, Ok, if◌then◌else◌, length};
 ghost use Rattle.closing_log.specs.declared.fault.LogTextFault.TheVariants as faults;
 ghost use Rattle.report_check.specs.Proved.{IsEndedText};
 ghost use Rattle.report_check.specs.Refused.{IsFormRefusal};
@@ -21,6 +21,16 @@ fn refusal(fault: LogTextFault) -> CheckFault
     }
 }
 
+/// That the text of these bytes comes to its end. It takes no memory.
+fn check_ended(ended: bool, bytes: &[u8]) -> Result<(), CheckFault>
+    ensures { result ≡ (if ended then Ok tt else Err (check.LogForm (length bytes.now))) }
+{
+    if !ended {
+        return Err(CheckFault::LogForm(bytes.len() as u64));
+    }
+    Ok(())
+}
+
 /// The log of which the bytes are a text that comes to its end.
 #[tactic(auto, using(crate::proofs::FormLaws::refused_as, crate::proofs::FormLaws::open_refused))]
 pub(crate) fn read_log(alloc: Global, bytes: &[u8]) -> Result<LogText, CheckFault>
@@ -31,8 +41,6 @@ pub(crate) fn read_log(alloc: Global, bytes: &[u8]) -> Result<LogText, CheckFaul
         Ok(log) => log,
         Err(fault) => return Err(refusal(fault)),
     };
-    if !log.ended {
-        return Err(CheckFault::LogForm(bytes.len() as u64));
-    }
+    check_ended(log.ended, bytes)?;
     Ok(log)
 }

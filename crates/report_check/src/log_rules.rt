@@ -4,9 +4,10 @@ ghost use Rattle.std.specs.Prelude.{◌≡◌, ◌↔◌, ◌≤◌, length, IfE
 ghost use Rattle.search_run.specs.Answer.{AreWhole};
 ghost use Rattle.search_run.specs.Searched.{searches};
 ghost use Rattle.report_check.specs.Due.{AreForFirst, AreRight};
-ghost use Rattle.report_check.specs.Proved.{AreProved, HasTries};
+ghost use Rattle.report_check.specs.Proved.{AreProved, HasTries, tries_place};
 ghost use Rattle.report_check.specs.Refused.{BreaksBefore};
 ghost use Rattle.report_check.specs.Verdict.{HasLog};
+ghost use Rattle.report_check.specs.declared.fault.CheckFault.TheVariants.{Report as BadTries};
 
 use crate::checked::check_all;
 use crate::fault::CheckFault;
@@ -34,6 +35,18 @@ fn has_tries(report: &Report, sections: &[Section]) -> bool
     }
 }
 
+/// That a report has the tries of these sections, where that is asked. It takes no memory.
+fn check_tries(report: &Report, sections: &[Section]) -> Result<(), CheckFault>
+    requires { HasLog report.now }
+    ensures right { OnOk result (HasTries report.now sections.now) }
+    ensures wrong { IfErr result (λ e. (e ≡ BadTries (tries_place report.now)) × (HasTries report.now sections.now → ⊥)) }
+{
+    if !has_tries(report, sections) {
+        return Err(CheckFault::Report(tries_place(report)));
+    }
+    Ok(())
+}
+
 /// That the sections are those that are due beside a report, that each is accepted, and that the report has their tries.
 pub(crate) fn are_backing(
     alloc: Global,
@@ -51,8 +64,6 @@ pub(crate) fn are_backing(
 {
     are_due(steps, report, sections)?;
     check_all(alloc, steps, sections)?;
-    if !has_tries(report, sections) {
-        return Err(CheckFault::Report(tries_place(report)));
-    }
+    check_tries(report, sections)?;
     Ok(())
 }

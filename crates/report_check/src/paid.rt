@@ -1,6 +1,6 @@
 //! Whether a report pays as it says.
 
-ghost use Rattle.std.specs.Prelude.{◌≡◌, ◌↔◌, ◌≤◌, ◌<◌, IfErr, IfOk, IsTrue, OnOk, length, option_copied};
+ghost use Rattle.std.specs.Prelude.{◌≡◌, ◌↔◌, ◌≤◌, ◌<◌, IfErr, IfOk, IsTrue, OnErr, OnOk, false, length, option_copied, true};
 ghost use Rattle.fee_rates.specs.Terms.{IsLoad};
 ghost use Rattle.fund_plan.specs.Pays.{outputs_of, payment_from};
 ghost use Rattle.fund_report.specs.declared.report.Report.TheVariants as reports;
@@ -11,6 +11,7 @@ ghost use Rattle.report_check.specs.Paying.{AreTaken, IsLoadAt, Says, row_at};
 ghost use Rattle.report_check.specs.PaidRefused.{IsPaidRefusal};
 ghost use Rattle.report_check.specs.Payment.{PaysBy};
 ghost use Rattle.report_check.specs.Verdict.{IsPaid};
+ghost use Rattle.report_check.specs.declared.fault.CheckFault.TheVariants as check;
 
 use crate::coins::{coins_of, row_at};
 use crate::fault::CheckFault;
@@ -83,7 +84,7 @@ fn load_of(funding: &Funding, number: u8, row: Option<&Row>) -> Result<Option<Lo
 }
 
 /// Whether a report says what these coins come to, and its PSBT has the transaction that they make. The error is out of
-/// memory.
+/// memory, which comes only where it says so.
 fn is_said(
     alloc: Global,
     request: &Request,
@@ -98,7 +99,8 @@ fn is_said(
     requires coins { AreWithin coins.items }
     requires some { 0 < length coins.items }
     requires text { IsTransaction psbt.now.tx }
-    ensures { IfOk result (λ b. IsTrue b ↔ (Says request.now load.now f.now coins.items psbt.now.spent × (psbt.now.tx ≡ payment_from request.now change.now coins.items f.now.change))) }
+    ensures said { IfOk result (λ b. IsTrue b ↔ (Says request.now load.now f.now coins.items psbt.now.spent × (psbt.now.tx ≡ payment_from request.now change.now coins.items f.now.change))) }
+    ensures memory { OnErr result (Says request.now load.now f.now coins.items psbt.now.spent) }
 {
     if !says(request, load, f, &coins, &psbt.spent) {
         return Ok(false);
@@ -139,6 +141,17 @@ fn is_paid(
     }
 }
 
+/// That a payment is paid as its report says, by whether it is. It takes no memory.
+fn check_paid(is_paid: bool) -> Result<(), CheckFault>
+    ensures kept { OnOk result (is_paid ≡ true) }
+    ensures broken { IfErr result (λ e. (is_paid ≡ false) × (e ≡ check.Pays)) }
+{
+    if !is_paid {
+        return Err(CheckFault::Pays);
+    }
+    Ok(())
+}
+
 /// The inputs of a PSBT's transaction.
 fn inputs_of(psbt: &Psbt) -> &[TxIn]
     ensures { result.now ≡ psbt.now.tx.inputs }
@@ -172,7 +185,9 @@ pub(crate) fn paid(
     };
     match is_paid(alloc, request, change, funding, f, row, &psbt, coins) {
         Err(_) => Err(CheckFault::Memory),
-        Ok(false) => Err(CheckFault::Pays),
-        Ok(true) => Ok(()),
+        Ok(kept) => match check_paid(kept) {
+            Ok(()) => Ok(()),
+            Err(fault) => Err(fault),
+        },
     }
 }

@@ -1,11 +1,14 @@
 -- The first coin that stands before it too, as a loop finds it.
-use Rattle.std.proofs.Common.{◌≡◌, ℕ, suc, ◌+◌, ◌<◌, ◌≤◌, Bool, true, false, not, cond, true≢false, List, [], ◌∷◌, ◌++◌, length, get_or, take, drop, Option, Some, None, refl, sym, ap, ◌∙◌, add-one, drop-cons, take-suc}
-use Rattle.std.specs.List.{list_any}
+use Rattle.std.proofs.Common.{◌≡◌, ℕ, suc, ◌+◌, ◌<◌, ◌≤◌, Bool, true, false, not, cond, true≢false, List, [], ◌∷◌, ◌++◌, length, get_or, take, drop, Option, Some, None, Ok, Err, refl, sym, ap, ◌∙◌, subst, add-one, drop-cons, take-suc}
+use Rattle.std.specs.List.{list_any, IsDistinct}
 use Rattle.std.proofs.Math.ListN.{drop_of_length-le}
 use Rattle.fund_base.specs.Outpoints.{same_outpoint}
 use Rattle.fund_base.specs.declared.outpoint.OutPoint.{OutPoint}
 use Rattle.indexmap.specs.IndexSet.{insert_key}
-use Rattle.request_text.specs.RequestText.{repeat_behind}
+use Rattle.json_fields.specs.Fields.{refuse}
+use Rattle.request_text.specs.RequestText.{distinct_at, index_of, repeat_behind}
+use Rattle.request_text.specs.declared.fault.Refusal.{Refusal}
+use Rattle.request_text.specs.declared.fault.Refusal.TheVariants.{Repeat}
 
 next_is : (coins : List OutPoint) (i : ℕ) (coin : OutPoint) → i < length coins → coin ≡ get_or coins i coin → drop i coins ≡ coin ∷ drop (suc i) coins
 next_is coins i coin lt is = drop-cons coins i coin lt ∙ ap (λ (c : OutPoint). c ∷ drop (suc i) coins) (sym is)
@@ -53,3 +56,17 @@ was_new false new e h = refl
 pub was_seen : (seen new : Bool) → new ≡ not seen → new ≡ false → seen ≡ true
 was_seen true new e h = refl
 was_seen false new e h = absurd (true≢false (sym e ∙ h))
+
+-- none is twice where there is none
+pub none_yet : (seen : List OutPoint) → seen ≡ [] → IsDistinct same_outpoint seen
+unfolding IsDistinct
+none_yet seen e = subst (IsDistinct same_outpoint) (sym e) tt
+
+-- the refusal of a repeat, as that of the list
+pub distinct_ok : (coins : List OutPoint) (place : Option ℕ) → Ok tt ≡ refuse (λ i. Repeat (index_of i)) place → distinct_at coins place ≡ Ok coins
+distinct_ok coins None e = refl
+distinct_ok coins (Some i) e = cc
+
+pub distinct_err : (coins : List OutPoint) (place : Option ℕ) (fault : Refusal) → Err fault ≡ refuse (λ i. Repeat (index_of i)) place → distinct_at coins place ≡ Err fault
+distinct_err coins None fault e = cc
+distinct_err coins (Some i) fault e = cc

@@ -1,12 +1,14 @@
 //! The coins that a request lists, none of them twice.
 
-ghost use Rattle.std.specs.Prelude.{◌≡◌, ◌≢◌, ◌≤◌, [], All, AllPairs, IfErr, IfOk, None, codes};
+ghost use Rattle.std.specs.Prelude.{◌≡◌, ◌≢◌, ◌≤◌, [], All, AllPairs, IfErr, IfOk, None, Ok, OnOk, codes, length};
+ghost use Rattle.indexmap.specs.IndexSet.{IsEmpty, spare};
 ghost use Rattle.serde_json.specs.View.{view, items_view};
-ghost use Rattle.json_fields.specs.Fields.{IsPoint, coin_at, each_from};
+ghost use Rattle.json_fields.specs.Fields.{IsPoint, coin_at, each_from, refuse};
 ghost use Rattle.fund_base.specs.Parsing.{YieldsAll};
 ghost use Rattle.json_fields.specs.declared.fault.FieldFault.TheVariants.{Memory as NoMemory};
-ghost use Rattle.request_text.specs.RequestText.{coins_at, or_else, repeat_behind};
+ghost use Rattle.request_text.specs.RequestText.{coins_at, index_of, or_else, repeat_behind};
 ghost use Rattle.request_text.specs.Told.{Gives, HasCause};
+ghost use Rattle.request_text.specs.declared.fault.Refusal.TheVariants.{Repeat};
 
 use crate::bounds::index_of;
 use crate::fault::Refusal;
@@ -29,12 +31,13 @@ fn coins_from(alloc: Global, values: &[Value]) -> Result<Vec<OutPoint>, FieldFau
     Ok(coins)
 }
 
-/// The place of the first coin that stands before it too.
-fn first_repeat(alloc: Global, coins: &[OutPoint]) -> Result<Option<usize>, Memory>
-    ensures place { IfOk result (λ place. place ≡ repeat_behind [] coins.now) }
-    ensures distinct { IfOk result (λ place. place ≡ None → AllPairs (λ a b. a ≢ b) coins.now) }
+/// The place of the first coin that stands before it too. The set has room for all of them, so it never runs out of memory.
+fn first_repeat(seen: &mut IndexSet<OutPoint>, coins: &[OutPoint]) -> Result<Option<usize>, Memory>
+    requires empty { IsEmpty seen.old }
+    requires room { length coins.now ≤ spare seen.old }
+    ensures exact { result ≡ Ok (repeat_behind [] coins.now) }
+    ensures distinct { repeat_behind [] coins.now ≡ None → AllPairs (λ a b. a ≢ b) coins.now }
 {
-    let mut seen = IndexSet::new(alloc);
     for coin in coins {
         if !seen.insert(*coin)? {
             return Ok(Some(seen.len()));
@@ -43,7 +46,21 @@ fn first_repeat(alloc: Global, coins: &[OutPoint]) -> Result<Option<usize>, Memo
     Ok(None)
 }
 
-#[tactic(auto, unfolding(crate::specs::RequestText::coins_at))]
+/// That no coin stands twice. The set has room for all of them, so it never runs out of memory.
+fn check_distinct(seen: &mut IndexSet<OutPoint>, coins: &[OutPoint]) -> Result<(), Refusal>
+    requires empty { IsEmpty seen.old }
+    requires room { length coins.now ≤ spare seen.old }
+    ensures exact { result ≡ refuse (λ place. Repeat (index_of place)) (repeat_behind [] coins.now) }
+    ensures distinct { OnOk result (AllPairs (λ a b. a ≢ b) coins.now) }
+{
+    match first_repeat(seen, coins)? {
+        Some(place) => Err(Refusal::Repeat(index_of(place))),
+        None => Ok(()),
+    }
+}
+
+/// The coins that the entries of the list are. Memory for the search of a repeat is taken before it.
+#[tactic(auto, unfolding(crate::specs::RequestText::coins_at), using(crate::proofs::Repeats::distinct_ok, crate::proofs::Repeats::distinct_err))]
 fn coins_of(alloc: Global, value: &Value) -> Result<Vec<OutPoint>, Refusal>
     ensures gives { Gives (λ v. v.items) result (coins_at (view value.now)) }
     ensures are { IfOk result (λ v. All IsPoint v.items) }
@@ -51,10 +68,9 @@ fn coins_of(alloc: Global, value: &Value) -> Result<Vec<OutPoint>, Refusal>
     ensures cause { IfErr result HasCause }
 {
     let coins = coins_from(alloc, entries_of(alloc, value, "coins")?)?;
-    match first_repeat(alloc, &coins)? {
-        Some(place) => Err(Refusal::Repeat(index_of(place))),
-        None => Ok(coins),
-    }
+    let mut seen = IndexSet::with_capacity(alloc, coins.len())?;
+    check_distinct(&mut seen, &coins)?;
+    Ok(coins)
 }
 
 /// The listed coins, none where the member is left out.

@@ -1,6 +1,6 @@
 //! The recipients of a request, each by an address or by a script.
 
-ghost use Rattle.std.specs.Prelude.{◌≡◌, ◌≤◌, ◌<◌, ◌==◌, [], All, IfOk, IfErr, IsTrue, ◌↔◌, Ok, Err, codes, length, nat_le, nat_lt, if◌then◌else◌};
+ghost use Rattle.std.specs.Prelude.{◌≡◌, ◌≤◌, ◌<◌, ◌==◌, ◌||◌, [], All, IfOk, IfErr, IsOk, IsTrue, ◌↔◌, Ok, Err, codes, length, nat_le, nat_lt, if◌then◌else◌};
 ghost use Rattle.serde_json.specs.Find.{get};
 ghost use Rattle.serde_json.specs.View.{view, items_view};
 ghost use Rattle.json_fields.specs.Fields.{each_from};
@@ -10,7 +10,7 @@ ghost use Rattle.request_text.specs.RequestText.{amount_at, field, index_of, one
 ghost use Rattle.request_text.specs.Told.{Gives, HasCause};
 ghost use Rattle.segwit_addr.specs.Reading.{decode_of};
 ghost use Rattle.fund_base.specs.Parsing.{YieldsAll, fault_as};
-ghost use Rattle.request_text.specs.declared.fault.Refusal.TheVariants.{Address as BadAddress, NoRecipients as Empty, SumRange};
+ghost use Rattle.request_text.specs.declared.fault.Refusal.TheVariants.{Address as BadAddress, Field as FieldRefusal, NoRecipients as Empty, Script as BadScript, SumRange};
 
 use crate::bounds::index_of;
 use crate::fault::Refusal;
@@ -64,10 +64,11 @@ fn paid(index: u32, script: Script, amount: u64) -> Result<Recipient, Refusal>
     Ok(Recipient { script, amount })
 }
 
-/// The script of the address, 1 to 10,000 bytes.
+/// The script of the address, 1 to 10,000 bytes. It runs out of memory only where there is one.
 #[tactic(auto, using(crate::proofs::Witness::some, crate::proofs::Witness::most))]
 fn script_of_address(alloc: Global, index: u32, text: &str) -> Result<Script, Refusal>
     ensures gives { Gives (λ s. s) result (fault_as (BadAddress index) (decode_of text.now)) }
+    ensures short { result ≡ Err (FieldRefusal NoMemory) → IsOk (decode_of text.now) }
     ensures some { IfOk result (λ s. 1 ≤ length s) }
     ensures most { IfOk result (λ s. length s ≤ 10_000) }
     ensures cause { IfErr result HasCause }
@@ -97,6 +98,16 @@ fn to_address(
     paid(index, script, amount)
 }
 
+/// That a script of these bytes may be paid to: it has 1 to 10,000 of them. It never runs out of memory.
+fn check_script(index: u32, bytes: &[u8]) -> Result<(), Refusal>
+    ensures { result ≡ (if (length bytes.now == 0) || nat_lt 10_000 (length bytes.now) then Err (BadScript index) else Ok tt) }
+{
+    if bytes.is_empty() || bytes.len() > MAX_SCRIPT {
+        return Err(Refusal::Script(index));
+    }
+    Ok(())
+}
+
 /// The recipient of an entry that spells its script.
 #[tactic(auto, unfolding(crate::specs::RequestText::to_script_at))]
 fn to_script(alloc: Global, index: u32, entry: &Value) -> Result<Recipient, Refusal>
@@ -107,9 +118,7 @@ fn to_script(alloc: Global, index: u32, entry: &Value) -> Result<Recipient, Refu
     let spelled = member_of(alloc, entry, "script")?;
     let bytes = hex_of(alloc, spelled, "script")?;
     let amount = amount_of(alloc, entry)?;
-    if bytes.is_empty() || bytes.len() > MAX_SCRIPT {
-        return Err(Refusal::Script(index));
-    }
+    check_script(index, &bytes)?;
     paid(index, Script::new(bytes), amount)
 }
 

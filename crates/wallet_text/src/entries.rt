@@ -88,7 +88,7 @@ fn next_script(
     ensures adds { IfOk result (λ w. seen.new ≡ seen.old ++ w.script ∷ []) }
 {
     let watch = watch_of(alloc, value, "scripts")?;
-    let fresh = seen.insert(alloc, watch.script.bytes())?;
+    let fresh = seen.insert(Vec::from_slice(alloc, watch.script.bytes())?)?;
     judge(!fresh, index, watch)
 }
 
@@ -149,7 +149,8 @@ fn next_earlier(alloc: Global, most: u32, index: usize, value: &Value) -> Result
 {
     let (bytes, height) = earlier_of(alloc, most as u64, value)?;
     let tx = tx_in(alloc, "earlier", index, &bytes)?;
-    Ok(Earlier::new(tx, height as u32))
+    let earlier = Earlier::new(alloc, tx, height as u32)?;
+    Ok(earlier)
 }
 
 /// The earlier transactions, each with a height of at most `most`.

@@ -3,7 +3,7 @@
 ghost use Rattle.std.specs.Prelude.{◌≡◌, ◌≢◌};
 ghost use Rattle.json_fields.specs.declared.fault.FieldFault.TheVariants.{Memory as NoMemory};
 ghost use Rattle.wallet_text.specs.Told.{refusal_of};
-ghost use Rattle.wallet_text.specs.declared.fault.Refusal.TheVariants.{Field, Tx, Repeat};
+ghost use Rattle.wallet_text.specs.declared.fault.Refusal.TheVariants.{Field, Tx};
 
 use fund_base::Memory;
 use json_fields::{FieldFault, Name};
@@ -87,16 +87,6 @@ impl Refusal {
     {
         match Name::new(alloc, list) {
             Ok(list) => Refusal::Tx(list, index, fault),
-            Err(_) => Refusal::Field(FieldFault::Memory),
-        }
-    }
-
-    /// That the txid of the entry at this index of the list stood before it.
-    pub fn repeat(alloc: Global, list: &str, index: u32) -> Refusal
-        ensures { result ≢ Field NoMemory → result ≡ Repeat list.now index }
-    {
-        match Name::new(alloc, list) {
-            Ok(list) => Refusal::Repeat(list, index),
             Err(_) => Refusal::Field(FieldFault::Memory),
         }
     }

@@ -1,6 +1,6 @@
 //! The byte strings that came before, asked in time that doesn't grow with their number.
 
-ghost use Rattle.std.specs.Prelude.{◌≡◌, ◌++◌, [], ◌∷◌, not, if◌then◌else◌, IfOk, OnOk};
+ghost use Rattle.std.specs.Prelude.{◌≡◌, ◌++◌, [], ◌∷◌, not, false, if◌then◌else◌, IfOk, OnErr, OnOk};
 ghost use Rattle.json_fields.specs.Fields.{is_among};
 
 use fund_base::Memory;
@@ -33,12 +33,13 @@ impl Seen {
         }
     }
 
-    /// Takes a copy of one that didn't come before, and says whether it did so.
-    pub fn insert(&mut self, alloc: Global, string: &[u8]) -> Result<bool, Memory>
-        ensures fresh { IfOk result (λ r. r ≡ not (is_among self.old string.now)) }
-        ensures strings { OnOk result (self.new ≡ (if is_among self.old string.now then self.old else self.old ++ string.now ∷ [])) }
+    /// Takes one that didn't come before, and says whether it did so. It runs out of memory only for one that didn't come
+    /// before.
+    pub fn insert(&mut self, string: Vec<u8>) -> Result<bool, Memory>
+        ensures fresh { IfOk result (λ r. r ≡ not (is_among self.old string.items)) }
+        ensures strings { OnOk result (self.new ≡ (if is_among self.old string.items then self.old else self.old ++ string.items ∷ [])) }
+        ensures absent { OnErr result (is_among self.old string.items ≡ false) }
     {
-        let copy = Vec::from_slice(alloc, string)?;
-        Ok(self.strings.insert(copy)?)
+        Ok(self.strings.insert(string)?)
     }
 }

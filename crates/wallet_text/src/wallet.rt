@@ -1,10 +1,12 @@
 //! What the wallet file tells.
 
-ghost use Rattle.std.specs.Prelude.{◌≡◌};
+ghost use Rattle.std.specs.Prelude.{◌≡◌, IfOk};
 ghost use Rattle.tx_codec.specs.Txid.{txid_of};
 
-use fund_base::{OutPoint, Script, Txid};
+use fund_base::{Memory, OutPoint, Script, Txid};
+use std::alloc::Global;
 use std::marker::Model;
+use std::rc::Rc;
 use tx_codec::{Tx, txid};
 
 /// A script that the wallet owns.
@@ -19,7 +21,8 @@ pub struct Watch {
 /// A transaction that the chain holds before the block file begins. It keeps its txid, which is computed once.
 #[derive(Debug, Drop)]
 pub struct Earlier {
-    pub tx: Tx,
+    /// The transaction, for others to share.
+    pub tx: Rc<Tx>,
     /// The height of its block, at most that of the wallet.
     pub height: u32,
     txid: Txid,
@@ -32,18 +35,19 @@ impl Model for Earlier {
 
     ghost Value = { plain.Earlier };
 
-    ghost view = { λ e. record { tx = e.tx; height = e.height } };
+    ghost view = { λ e. record { tx = e.tx.value; height = e.height } };
 
-    ghost invariant = { λ e. e.txid ≡ txid_of e.tx };
+    ghost invariant = { λ e. e.txid ≡ txid_of e.tx.value };
 }
 
 impl Earlier {
-    /// A transaction, and the height at which it stands.
-    pub fn new(tx: Tx, height: u32) -> Earlier
-        ensures { result ≡ record { tx = tx; height = height } }
+    /// A transaction, and the height at which it stands. The error is out of memory.
+    pub fn new(alloc: Global, tx: Tx, height: u32) -> Result<Earlier, Memory>
+        ensures { IfOk result (λ e. e ≡ record { tx = tx; height = height }) }
     {
         let txid = txid(&tx);
-        Earlier { tx, height, txid }
+        let tx = Rc::new(alloc, tx)?;
+        Ok(Earlier { tx, height, txid })
     }
 
     /// Its txid.

@@ -1,4 +1,5 @@
 use Rattle.std.proofs.Common.{◌≡◌, ◌∙◌, ◌++◌, ◌∷◌, [], ◌+◌, sym, ap, subst, refl, None, List, map, take, drop, length, arith}
+use Rattle.tx_codec.specs.Transaction.{Transaction}
 use Rattle.coin_book.specs.Faults.{fault_behind}
 use Rattle.wallet_text.specs.PlainWallet.{Earlier}
 use Rattle.coin_book.specs.History.{Confirmed, confirmed_at, confirmed_before}
@@ -18,8 +19,8 @@ loop-index-preserved c =
     let weigh = weigher c.args.weights.now.entries in
     let front = map confirmed_before (take c.loop-index.index c.args.earlier.now) in
     let under = no_chain weigh c.new-base.result c.new-base.ensures.coins c.new-base.ensures.spends c.new-base.ensures.heights in
-    let one = confirmed_at c.entry.inside.height c.entry.inside.tx in
-    let next = next_of confirmed_before c.args.earlier.now c.loop-index.index c.index-earlier-index.result c.loop-index-test.true c.index-earlier-index.is ∙ ap (λ (e : Earlier). front ++ confirmed_before e ∷ []) (sym c.entry.view_is) in
+    let one = confirmed_at c.entry.inside.height c.as_ref.result.now in
+    let next = next_of confirmed_before c.args.earlier.now c.loop-index.index c.index-earlier-index.result c.loop-index-test.true c.index-earlier-index.is ∙ ap (λ (e : Earlier). front ++ confirmed_before e ∷ []) (sym c.entry.view_is) ∙ ap (λ (t : Transaction). front ++ confirmed_at c.entry.inside.height t ∷ []) (sym c.as_ref.ensures) in
     let lt = c.loop-index-test.true in
     let at : c.loop-index.index ≡ length ([] ++ front) = let p = place_of confirmed_before [] c.args.earlier.now c.loop-index.index (omega arith) in omega arith in
     record {
@@ -32,9 +33,9 @@ returns-in-Err-clause-exact c = λ other.
     let weigh = weigher c.args.weights.now.entries in
     let i = c.loop-index.index in
     let front = map confirmed_before (take i c.args.earlier.now) in
-    let one = confirmed_at c.entry.inside.height c.entry.inside.tx in
+    let one = confirmed_at c.entry.inside.height c.as_ref.result.now in
     let under = no_chain weigh c.new-base.result c.new-base.ensures.coins c.new-base.ensures.spends c.new-base.ensures.heights in
-    let next = next_of confirmed_before c.args.earlier.now i c.index-earlier-index.result c.loop-index-test.true c.index-earlier-index.is ∙ ap (λ (e : Earlier). front ++ confirmed_before e ∷ []) (sym c.entry.view_is) in
+    let next = next_of confirmed_before c.args.earlier.now i c.index-earlier-index.result c.loop-index-test.true c.index-earlier-index.is ∙ ap (λ (e : Earlier). front ++ confirmed_before e ∷ []) (sym c.entry.view_is) ∙ ap (λ (t : Transaction). front ++ confirmed_at c.entry.inside.height t ∷ []) (sym c.as_ref.ensures) in
     let all = all_of confirmed_before c.args.earlier.now (i + 1) ∙ ap (λ (l : List Confirmed). l ++ map confirmed_before (drop (i + 1) c.args.earlier.now)) next in
     ap (λ (l : List Confirmed). fault_behind [] (points_in weigh l)) all
     ∙ fault_early weigh [] (front ++ one ∷ []) (map confirmed_before (drop (i + 1) c.args.earlier.now)) c.in-Err.fault

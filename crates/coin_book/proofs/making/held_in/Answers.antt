@@ -1,13 +1,22 @@
-use Rattle.std.proofs.Common.{◌∙◌, ap, length, map}
+use Rattle.std.proofs.Common.{◌≡◌, ◌∙◌, ap, length, subst, sym}
+use Rattle.std.specs.Prelude.{IfOk, OnErr, ◌<◌, map}
 use Rattle.tx_codec.specs.Transaction.{Transaction}
+use Rattle.tx_codec.specs.Txid.{txid_of}
 use Rattle.coin_book.specs.Coins.{made_in}
-use Rattle.coin_book.specs.Invariant.{weigher}
-use Rattle.coin_book.proofs.CoinSteps.{by_maker, with_maker}
+use Rattle.coin_book.specs.Invariant.{held_made, weigher}
 use Rattle.coin_book.proofs.making.held_in.Goals as goal
 
-pub returns-clause-made : goal.returns-clause-made
-unfolding made_in
-returns-clause-made c =
-    c.in_ok-held.ensures
-    ∙ ap (λ (t : Transaction). map (by_maker t) c.in_ok-coins.coins.items) (c.in_ok-maker.ensures.ok ∙ c.in_ok-copy.ensures)
-    ∙ with_maker (weigher c.args.weights.now.entries) c.args.height c.args.tx.now (length c.args.tx.now.outputs) c.in_ok-coins.coins.items c.in_ok-coins.ensures.made
+pub shared_in-requires : goal.shared_in-requires
+shared_in-requires c =
+    let same : c.in-Some.maker.now.value ≡ c.args.tx.now = rw c.in-Some.is at c.requires.shared in
+    c.requires.txid ∙ ap txid_of (sym same)
+
+pub returns-in-Some-clause-made : goal.returns-in-Some-clause-made
+returns-in-Some-clause-made c =
+    let same : c.in-Some.maker.now.value ≡ c.args.tx.now = rw c.in-Some.is at c.requires.shared in
+    subst (λ (t : Transaction). IfOk c.shared_in.result (λ v. map held_made v.items ≡ made_in (weigher c.args.weights.now.entries) c.args.height t)) same c.shared_in.ensures.made
+
+pub returns-in-Some-clause-short : goal.returns-in-Some-clause-short
+returns-in-Some-clause-short c =
+    let same : c.in-Some.maker.now.value ≡ c.args.tx.now = rw c.in-Some.is at c.requires.shared in
+    subst (λ (t : Transaction). OnErr c.shared_in.result (0 < length (made_in (weigher c.args.weights.now.entries) c.args.height t))) same c.shared_in.ensures.short

@@ -24,4 +24,4 @@ pub returns-in_ok-is-in-Some : goal.returns-in_ok-is-in-Some
 returns-in_ok-is-in-Some c =
     let own = own_as c.args.funding.now c.funds.result.now c.args.coins.items c.deref.result.now c.presets.result.now c.are_own.result c.deref.ensures.value c.presets.ensures.value c.funds.ensures c.are_own.ensures in
     let at = subst (λ (n : ℕ). IsLoadAt c.args.funding.now n (Some c.in-Some.load)) (ap (λ (x : PlainFunded). x.row) c.f.view_is) (subst (IsLoadAt c.args.funding.now c.f.inside.row) c.in-Some.is c.in_ok-load_of.ensures) in
-    said_iff c.args.funding.now c.args.request.now c.args.change.now c.args.f.now c.args.psbt.now c.args.coins.items c.in-Some.load c.in_ok-is-in-Some.is' c.keeps_rules.ensures c.requires.request c.requires.change c.requires.coins (own.0 c.if-not-are_own.false) at.0 at.1 c.in_ok-is-in-Some.ensures
+    said_iff c.args.funding.now c.args.request.now c.args.change.now c.args.f.now c.args.psbt.now c.args.coins.items c.in-Some.load c.in_ok-is-in-Some.is' c.keeps_rules.ensures c.requires.request c.requires.change c.requires.coins (own.0 c.if-not-are_own.false) at.0 at.1 c.in_ok-is-in-Some.ensures.said

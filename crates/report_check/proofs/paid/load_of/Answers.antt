@@ -11,9 +11,9 @@ returns-then-number-eq0 c =
     given_load c.args.funding.now c.args.number c.load.result c.if-number-eq0.true
     (c.load.ensures.value ∙ ap (λ (q : PlainPlan). load_of q.request q.change (presets_in q) (burden_in q)) c.funds.ensures) c.load.ensures.fit
 
-pub load_at-requires-clause-roomy : goal.load_at-requires-clause-roomy
-load_at-requires-clause-roomy c =
-    row_roomy c.args.funding.now c.args.number c.in-Some.row.now c.keeps_rules.ensures (sym c.requires ∙ ap option_copied c.in-Some.is)
+pub load_at-requires : goal.load_at-requires
+load_at-requires c =
+    record { roomy = row_roomy c.args.funding.now c.args.number c.in-Some.row.now c.keeps_rules.ensures (sym c.requires ∙ ap option_copied c.in-Some.is) }
 
 pub returns-in_ok-load-in-Some : goal.returns-in_ok-load-in-Some
 returns-in_ok-load-in-Some c =

@@ -1,5 +1,5 @@
 use Rattle.std.specs.Prelude.{ℕ, List, ◌==◌, find, option_copied}
-use Rattle.std.proofs.Common.{ap, subst, ◌∙◌}
+use Rattle.std.proofs.Common.{ap, subst, sym, ◌∙◌}
 use Rattle.std.proofs.lemmas.Bool.{both_ways}
 use Rattle.fund_report.specs.PlainFunded.{PlainFunded}
 use Rattle.fund_steps.specs.Listed.{presets_in}
@@ -9,7 +9,7 @@ use Rattle.output_groups.specs.Ladder.{ladder_of}
 use Rattle.output_groups.specs.declared.rows.Row.{Row}
 use Rattle.request_text.specs.PlainRequest.{PlainRequest}
 use Rattle.tx_codec.specs.declared.tx.TxIn.{TxIn}
-use Rattle.report_check.specs.PaidRefused.{IsCoinRefusal}
+use Rattle.report_check.specs.PaidRefused.{IsCoinRefusal, IsPaidRefusal}
 use Rattle.report_check.specs.Paying.{AreTaken}
 use Rattle.report_check.specs.Payment.{IsPsbtText}
 use Rattle.report_check.proofs.PaidLaws.{coins_refused, row_same, taken_as, unpaid}
@@ -43,8 +43,8 @@ returns-in-Err-clause-fault c =
     let refused = subst (λ (xs : List TxIn). IsCoinRefusal c.presets.result.now c.rest.result.now (option_copied c.row_at-row.result) xs c.in-Err.fault) inputs c.in-Err.ensures.foreign in
     coins_refused p f t c.presets.result.now c.rest.result.now (option_copied c.row_at-row.result) c.in-Err.fault c.keeps_rules.ensures text presets rest row refused
 
-pub returns-in-Ok-false-clause-fault : goal.returns-in-Ok-false-clause-fault
-returns-in-Ok-false-clause-fault c =
+pub returns-clause-fault : goal.returns-clause-fault
+returns-clause-fault c =
     let p = c.args.funding.now in
     let f = c.args.f.now in
     let t = c.in_ok-psbt.psbt in
@@ -57,4 +57,5 @@ returns-in-Ok-false-clause-fault c =
     let text = subst (λ (b : List ℕ). IsPsbtText b t) (c.deref.ensures.value ∙ ap (λ (x : PlainFunded). x.text) c.f.view_is) c.in_ok-psbt.ensures.found in
     let taken = subst (λ (xs : List TxIn). AreTaken p f.row xs c.in-Ok.coins.items) inputs
     (taken_as p f.row c.presets.result.now c.rest.result.now (option_copied c.row_at-row.result) c.inputs_of-inputs.result.now c.in-Ok.coins.items presets rest row c.in-Ok.ensures.found) in
-    unpaid p f t c.in-Ok.coins.items text taken (λ pays. both_ways c.in-Ok-false.field-0 c.in-Ok-false.field-0-test (c.in-Ok-false.ensures.1 pays))
+    let broken = c.in-Err-check_paid.ensures.broken in
+    subst (IsPaidRefusal p f) (sym broken.1) (unpaid p f t c.in-Ok.coins.items text taken (λ pays. both_ways c.in-Ok-is_paid.kept broken.0 (c.in-Ok-is_paid.ensures.1 pays)))

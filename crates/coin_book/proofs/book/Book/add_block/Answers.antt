@@ -1,10 +1,11 @@
-use Rattle.std.proofs.Common.{◌∙◌, ◌++◌, ◌∷◌, ◌+◌, [], List, Bool, cond, ap, sym, subst, arith, map, length}
+use Rattle.std.proofs.Common.{◌∙◌, ◌++◌, ◌∷◌, ◌+◌, [], List, Bool, cond, Some, ap, sym, subst, arith, map, length}
 use Rattle.std.specs.Prelude.{nat_le}
 use Rattle.std.specs.declared.snapshot.Snapshot.{Snapshot}
 use Rattle.block_feed.specs.Block.{ChainBlock}
 use Rattle.coin_book.specs.Faults.{fault_behind, fault_of}
 use Rattle.coin_book.specs.History.{Confirmed, History, confirmed_at, confirmed_in, with_block}
 use Rattle.coin_book.specs.Invariant.{IsKept, history_of, points_in, weigher}
+use Rattle.coin_book.specs.declared.fault.BookFault.{BookFault}
 use Rattle.coin_book.proofs.BlockSteps.{block_back, block_fault, block_full, block_kept, block_next, block_sound, kept_chain, one_block}
 use Rattle.coin_book.proofs.ListSteps.{on_err, only_err}
 use Rattle.coin_book.proofs.book.Book.add_block.Goals as goal
@@ -23,8 +24,8 @@ returns-in-Err-clause-exact c = λ other.
     ∙ block_fault h ws l ps txids c.self.inside.count c.args.block.now c.in-Err.fault k
     (sym (ap (λ (l : List Confirmed). fault_behind (points_in (weigher ws) h.confirmed) (points_in (weigher ws) l)) same) ∙ c.in-Err.ensures.exact h.confirmed chain k.count_is other)
 
-pub returns-then-not-fits-clause-exact : goal.returns-then-not-fits-clause-exact
-returns-then-not-fits-clause-exact c = λ _.
+pub returns-in-Err-check_fits-clause-exact : goal.returns-in-Err-check_fits-clause-exact
+returns-in-Err-check_fits-clause-exact c = λ _.
     let h = history_of c.self.inside.wallet.value c.self.inside.blocks.items c.self.inside.waiting.items in
     let ws = c.self.inside.weights.entries in
     let l = c.self.inside.ledger in
@@ -36,7 +37,8 @@ returns-then-not-fits-clause-exact c = λ _.
     let next = block_next h c.args.block.now ws l c.in-Ok.more ps txids c.self.inside.count c.left_of-left.result _ k same (c.in-Ok.ensures.holds h.confirmed chain k.count_is) (c.in-Ok.ensures.exact h.confirmed chain k.count_is) c.left_of-left.ensures in
     sym (ap (λ (h : History). fault_of (with_block h c.args.block.now)) c.self.view_is)
     ∙ block_full h c.args.block.now ws l c.in-Ok.more ps txids c.self.inside.count c.left_of-left.result next
-    (sym (λ j. nat_le (c.len-2.ensures.len j + c.len-3.ensures.len j + c.left_of-left.result) 100_000) ∙ sym c.fits.ensures ∙ c.if-not-fits.true)
+    (sym (λ j. nat_le (c.len-2.ensures.len j + c.len-3.ensures.len j + c.left_of-left.result) 100_000) ∙ c.in-Err-check_fits.ensures.full.1)
+    ∙ ap (λ (e : BookFault). Some e) (sym c.in-Err-check_fits.ensures.full.0)
 
 pub invariant_of-self : goal.invariant_of-self
 invariant_of-self c =
@@ -78,7 +80,7 @@ invariant_of-self-2 c =
       heights_apart = c.in_ok-append.ensures.heights_apart;
       spends_apart = c.in_ok-append.ensures.spends_apart;
     })
-    (sym (λ j. nat_le (c.len-2.ensures.len j + c.len-3.ensures.len j + c.left_of-left.result) 100_000) ∙ sym c.fits.ensures ∙ c.if-not-fits.false) c.settle.ensures
+    (sym (λ j. nat_le (c.len-2.ensures.len j + c.len-3.ensures.len j + c.left_of-left.result) 100_000) ∙ c.in-Ok-check_fits.ensures.fits) c.settle.ensures
     (c.in-Some.ensures.1 ∙ ap (λ n. c.self.inside.count + n) (c.len.ensures ∙ c.block.inside.txs.ok.0 ∙ ap (λ (b : ChainBlock). length b.txs) c.block.view_is))
     (one_block c.self.inside.wallet.value c.self.inside.waiting.items c.self.inside.blocks.items c.reserve.new.self.items c.push.new.self.items c.of.result c.args.block.now c.of.ensures c.in_ok-reserve.ensures.items pushed)
 
@@ -95,4 +97,4 @@ returns-clause-exact c =
     let next = block_next h c.args.block.now ws l c.in-Ok.more ps txids c.self.inside.count c.left_of-left.result _ k same (c.in-Ok.ensures.holds h.confirmed chain k.count_is) (c.in-Ok.ensures.exact h.confirmed chain k.count_is) c.left_of-left.ensures in
     sym (ap (λ (h : History). fault_of (with_block h c.args.block.now)) c.self.view_is)
     ∙ block_sound h c.args.block.now ws l c.in-Ok.more ps txids c.self.inside.count c.left_of-left.result next
-    (sym (λ j. nat_le (c.len-2.ensures.len j + c.len-3.ensures.len j + c.left_of-left.result) 100_000) ∙ sym c.fits.ensures ∙ c.if-not-fits.false)
+    (sym (λ j. nat_le (c.len-2.ensures.len j + c.len-3.ensures.len j + c.left_of-left.result) 100_000) ∙ c.in-Ok-check_fits.ensures.fits)

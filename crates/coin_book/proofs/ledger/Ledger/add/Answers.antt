@@ -19,7 +19,7 @@ returns-clause-exact c = λ before behind under h.
 pub returns-clause-holds : goal.returns-clause-holds
 returns-clause-holds c = λ before behind under h at.
     chain_more (weigher c.args.weights.now.entries) before behind c.args.base.now c.args.self.now c.add_spender.new.self (confirmed_at c.args.spend.now.height c.args.tx.now) c.in_ok-held.held.items _
-    under h (λ k. record { txid = c.requires k; height = c.args.spend.now.height; place = at k }) c.in_ok-held.ensures.made
+    under h (λ k. record { txid = c.requires.spend k; height = c.args.spend.now.height; place = at k }) c.in_ok-held.ensures.made
     ((λ k. (c.in_ok-add_spender.ensures.coins k).entries) ∙ c.in-Ok.ensures.added)
     (record {
       heights = c.in_ok-add_spender.ensures.heights;
