@@ -3,7 +3,6 @@ pub mod AnswerLaws
 pub mod BringLaws
 pub mod BurdenLaws
 pub mod CanLaws
-pub mod ChosenLaws
 pub mod ClaimLaws
 pub mod EligibleLaws
 pub mod EndLaws

@@ -1,6 +1,6 @@
 -- The coins of a result of a row, and the payment that they make with the presets.
-use Rattle.std.specs.Prelude.{ℕ, pos, ◌==◌, ◌-ℤ◌, ◌++◌, Bool, false, true, List, [], find, slice_index_or, unsigned_abs, unwrap_or, Option, Some, None, if◌then◌else◌}
-use Rattle.std.specs.List.{flat_map}
+pub use Rattle.output_groups.specs.Places.{members}
+use Rattle.std.specs.Prelude.{ℕ, pos, ◌==◌, ◌-ℤ◌, ◌++◌, Bool, false, true, List, find, unsigned_abs, unwrap_or, Option, Some, None, if◌then◌else◌}
 use Rattle.closing_log.specs.declared.log.Stage.{Stage}
 use Rattle.closing_log.specs.declared.log.Stage.TheVariants as stage
 use Rattle.closing_log.specs.declared.mark.Mark.{Mark}
@@ -32,10 +32,6 @@ row_among rows n = unwrap_or (find (λ (r : Row). r.number == n) rows) no_row
 
 abbrev pub row_of : PlainPlan → ℕ → Row
 row_of p n = row_among (ladder_in p) n
-
--- the coins of groups at places of a row's pool
-abbrev pub members : List (List Candidate) → List ℕ → List Candidate
-members groups places = flat_map (λ j. slice_index_or groups j []) places
 
 abbrev pub chosen_at : PlainPlan → Row → List ℕ → List Candidate
 chosen_at p row places = members (pool_in p row).groups places

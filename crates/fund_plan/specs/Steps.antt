@@ -3,13 +3,20 @@ use Rattle.std.specs.Prelude.{Bool, List}
 use Rattle.closing_log.specs.declared.log.Stage.{Stage}
 use Rattle.fee_rates.specs.declared.terms.Load.{Load}
 use Rattle.fee_rates.specs.declared.terms.Terms.{Terms}
+use Rattle.output_groups.specs.PlainGroups.{PlainGroups}
 use Rattle.output_groups.specs.PlainPool.{PlainPool}
 use Rattle.output_groups.specs.declared.rows.Row.{Row}
 use Rattle.pick_problem.specs.Problem.{PlainProblem}
 use Rattle.search_run.specs.Step.{PlainStep}
 use Rattle.fund_steps.specs.Basis.{basis_of}
+use Rattle.fund_steps.specs.Making.{groups_for}
 use Rattle.fund_steps.specs.Plan.{PlainPlan}
 use Rattle.fund_steps.specs.Searches.{is_given as given_by, load_in as load_by, problem_by, row_in, steps_of as steps_by, terms_in as terms_by}
+use Rattle.fund_steps.specs.Selection.{unlisted}
+
+-- the groups that the candidates form which the request doesn't list
+abbrev pub groups_of : PlainPlan → PlainGroups
+groups_of p = groups_for p.request (unlisted p.request.coins p.candidates)
 
 -- the pool of a row, of the candidates that the request doesn't list
 abbrev pub pool_in : PlainPlan → Row → PlainPool

@@ -1,7 +1,6 @@
 //! What the payments of a plan are made from, and the payments that the ends of its run come to.
 
-ghost use Rattle.std.specs.Prelude.{◌≡◌, ◌≤◌, ◌==◌, List, IfOk, None, find, length, option_copied, sum_by};
-ghost use Rattle.fund_base.specs.declared.candidate.Candidate.{Candidate};
+ghost use Rattle.std.specs.Prelude.{◌≡◌, ◌≤◌, ◌==◌, All, IfOk, None, find, length, option_copied, sum};
 ghost use Rattle.fee_rates.specs.Terms.{IsLoad};
 ghost use Rattle.output_groups.specs.declared.rows.Row.{Row};
 ghost use Rattle.request_text.specs.PlainRequest.{paid_to};
@@ -11,25 +10,25 @@ ghost use Rattle.search_run.specs.declared.ending.End.TheVariants as ends;
 ghost use Rattle.fund_steps.specs.Amounts.{AreWithin};
 ghost use Rattle.fund_steps.specs.Basis.{basis_of, load_alone};
 ghost use Rattle.fund_steps.specs.Listed.{presets_in};
-ghost use Rattle.fund_steps.specs.Making.{IsSearchablePool};
+ghost use Rattle.fund_steps.specs.Making.{AreSearched};
 ghost use Rattle.fund_steps.specs.Plan.{IsPlan, IsRoomy};
-ghost use Rattle.fund_steps.specs.Searches.{load_with};
+ghost use Rattle.fund_steps.specs.Searches.{load_with, sizes_of};
 ghost use Rattle.fund_plan.specs.Answer.{ArePayments, HasSelection, IsPayment, IsSelection, given_from};
 ghost use Rattle.fund_plan.specs.Chosen.{funded_at, mark_of, row_among, row_of};
 ghost use Rattle.fund_plan.specs.Figures.{waste_of};
 ghost use Rattle.fund_plan.specs.Kept.{choice_of};
 ghost use Rattle.fund_plan.specs.Outcome.{by_end, given_of};
 ghost use Rattle.fund_plan.specs.Pays.{payment_weight};
-ghost use Rattle.fund_plan.specs.Steps.{is_given, load_in, pool_in, steps_of};
+ghost use Rattle.fund_plan.specs.Steps.{groups_of, is_given, load_in, pool_in, steps_of};
 
-use crate::chosen::{at_hand, members, together};
+use crate::chosen::{at_hand, together};
 use crate::outcome::{Funded, Outcome, Place};
 use crate::worth::{change, declared_weight, waste};
 use closing_log::{Mark, Stage};
 use fee_rates::{Load, Terms};
 use fund_base::{Candidate, Memory};
 use fund_steps::{Funds, Presets, presets_alone};
-use output_groups::{PoolFault, Row, RowPool, ladder, pool};
+use output_groups::{Groups, PoolFault, Row, RowItems, ladder};
 use request_text::Request;
 use search_run::{End, Found};
 use std::alloc::Global;
@@ -120,25 +119,31 @@ impl Funding {
         )
     }
 
-    /// The pool of a row, of the coins that aren't given. The error is out of memory.
-    fn pool(&self, row: &Row) -> Result<RowPool, Memory>
-        requires row { row.now.own ≤ row.now.foreign }
-        requires roomy { IsRoomy self.now row.now }
-        ensures value { IfOk result (λ pool. pool ≡ pool_in self.now row.now) }
-        ensures fine { IfOk result IsSearchablePool }
+    /// The groups of the coins that aren't given. The error is out of memory.
+    fn groups(&self) -> Result<Groups<'_>, Memory>
+        ensures { IfOk result (λ g. g ≡ groups_of self.now) }
     {
         self.funds.keeps_rules();
         let rates = self.funds.rates();
-        let made = pool(
+        let groups = Groups::new(
             self.alloc,
             self.funds.rest(),
-            row,
             rates.rate,
             rates.long_term,
             self.choice.group,
-        );
-        match made {
-            Ok(pool) => Ok(pool),
+        )?;
+        Ok(groups)
+    }
+
+    /// What a search sees of a row's pool, by the groups. The error is out of memory.
+    fn seen(&self, groups: &Groups, row: &Row) -> Result<RowItems, Memory>
+        requires groups { groups.now ≡ groups_of self.now }
+        requires roomy { IsRoomy self.now row.now }
+        ensures sizes { IfOk result (λ s. s.sizes.items ≡ sizes_of (pool_in self.now row.now).groups) }
+        ensures fit { IfOk result (λ s. AreSearched s.items.items s.sizes.items) }
+    {
+        match groups.items(self.alloc, row) {
+            Ok(seen) => Ok(seen),
             Err(fault) => match fault {
                 PoolFault::Memory => Err(Memory),
                 PoolFault::TooMany(_) => unreachable!(),
@@ -146,19 +151,33 @@ impl Funding {
         }
     }
 
-    /// What a payment from the given coins and from those of a pool is to carry: all of them count.
-    fn load(&self, pool: &RowPool) -> Load
-        requires { IsSearchablePool pool.now }
-        ensures value { result ≡ load_with (load_alone (basis_of self.now)) (sum_by (λ (g : List Candidate). length g) pool.now.groups) }
+    /// What a payment from the given coins and from those of a pool is to carry, by how many coins each of its groups has:
+    /// all of them count.
+    fn load(&self, sizes: &[u8]) -> Load
+        requires few { length sizes.now ≤ 10_000 }
+        requires each { All (λ n. n ≤ 100) sizes.now }
+        ensures value { result ≡ load_with (load_alone (basis_of self.now)) (sum sizes.now) }
         ensures fits { IsLoad result }
         ensures paid { result.paid ≡ paid_to self.now.request.recipients }
     {
         let load = self.funds.load();
         let _ = self.funds.presets();
         Load {
-            coins: load.coins + at_hand(&pool.groups),
+            coins: load.coins + at_hand(sizes),
             ..load
         }
+    }
+
+    /// What a payment from the given coins and from those of a row is to carry, by the groups. The error is out of memory.
+    fn load_by(&self, groups: &Groups, row: &Row) -> Result<Load, Memory>
+        requires groups { groups.now ≡ groups_of self.now }
+        requires roomy { IsRoomy self.now row.now }
+        ensures value { IfOk result (λ l. l ≡ load_in self.now row.now) }
+        ensures fits { IfOk result IsLoad }
+        ensures paid { IfOk result (λ l. l.paid ≡ paid_to self.now.request.recipients) }
+    {
+        let seen = self.seen(groups, row)?;
+        Ok(self.load(&seen.sizes))
     }
 
     /// What its payments are made from.
@@ -170,14 +189,14 @@ impl Funding {
 
     /// What a payment from the given coins and from those of a row of the ladder is to carry. The error is out of memory.
     pub fn load_at(&self, row: &Row) -> Result<Load, Memory>
-        requires row { row.now.own ≤ row.now.foreign }
         requires roomy { IsRoomy self.now row.now }
         ensures value { IfOk result (λ l. l ≡ load_in self.now row.now) }
         ensures fits { IfOk result IsLoad }
         ensures paid { IfOk result (λ l. l.paid ≡ paid_to self.now.request.recipients) }
     {
-        let pool = self.pool(row)?;
-        Ok(self.load(&pool))
+        let groups = self.groups()?;
+        let load = self.load_by(&groups, row)?;
+        Ok(load)
     }
 
     /// The payment from these coins, by what it is to carry.
@@ -219,9 +238,9 @@ impl Funding {
         self.funds.keeps_rules();
         let rates = self.funds.rates();
         let row = self.row(found.row);
-        let pool = self.pool(&row)?;
-        let load = self.load(&pool);
-        let chosen = members(self.alloc, &pool.groups, found.places.as_slice())?;
+        let groups = self.groups()?;
+        let load = self.load_by(&groups, &row)?;
+        let chosen = groups.members(self.alloc, &row, found.places.as_slice())?;
         let change = change(&rates, &load, &chosen, found.stage);
         let coins = together(self.alloc, self.funds.presets(), &chosen)?;
         let place = Place {

@@ -4,7 +4,7 @@ use Rattle.std.specs.List.{flat_map, AllByRecursion}
 use Rattle.std.proofs.Common.{refl, sym, ap, subst, ◌∙◌, arith, add-one}
 use Rattle.std.proofs.Math.Seq.{take-suc}
 use Rattle.std.proofs.lemmas.List.{flat_map_more, length-map}
-use Rattle.std.proofs.lemmas.List.Elements.{All-head, All-tail}
+use Rattle.std.proofs.lemmas.List.Elements.{All-cons, All-head, All-nil, All-tail}
 use Rattle.std.proofs.lemmas.List.Folds.{flat_map-map, fold-map}
 use Rattle.closing_log.specs.declared.log.Stage.{Stage}
 use Rattle.closing_log.specs.declared.log.Stage.TheVariants as stage
@@ -89,7 +89,7 @@ searched g row items sizes are have fit small = record {
   same = ap (λ (l : List Item). length l) are ∙ as_many g row ∙ sym (ap (λ (l : List ℕ). length l) have);
 }
 
-total : (groups : List (List Candidate)) → sum (sizes_of groups) ≡ sum_by (λ (g : List Candidate). length g) groups
+pub total : (groups : List (List Candidate)) → sum (sizes_of groups) ≡ sum_by (λ (g : List Candidate). length g) groups
 total groups = fold-map (λ (a n : ℕ). a + n) (λ (g : List Candidate). length g) 0 groups
 
 -- steps by what a search sees of a pool are steps by the pool
@@ -136,3 +136,13 @@ steps_are b load rest turns same others us =
     ∙ ap (λ (l : Load). flat_map (steps_for b.request l rest (turns_for b.request l)) rows) same
     ∙ ap (λ (cs : List Candidate). flat_map (steps_for b.request (load_alone b) cs (turns_for b.request (load_alone b))) rows) others
     ∙ sym (flat_map-map (steps_at b) (row_in b) rows)
+
+-- ---- all turns but the last, and the last
+
+pub front_holds : (P : Turn → Type 0) (front : List Turn) (last : Turn) → All P (front ++ last ∷ []) → All P front
+front_holds P [] last all = All-nil P
+front_holds P (x ∷ front) last all = All-cons P x front (All-head P x (front ++ last ∷ []) all) (front_holds P front last (All-tail P x (front ++ last ∷ []) all))
+
+pub last_holds : (P : Turn → Type 0) (front : List Turn) (last : Turn) → All P (front ++ last ∷ []) → P last
+last_holds P [] last all = All-head P last [] all
+last_holds P (x ∷ front) last all = last_holds P front last (All-tail P x (front ++ last ∷ []) all)

@@ -1,5 +1,5 @@
 -- The coins that are listed, in the order of their outpoints.
-use Rattle.std.specs.Prelude.{ℕ, ◌≡◌, ◌≤◌, ◌+◌, ◌⊎◌, ◌||◌, List, [], ◌∷◌, ◌++◌, length, filter, map, fold, sum_by, All, Bool, true, false}
+use Rattle.std.specs.Prelude.{ℕ, ◌≡◌, ◌≤◌, ◌+◌, ◌⊎◌, ◌&&◌, ◌||◌, not, List, [], ◌∷◌, ◌++◌, length, filter, map, fold, sum_by, All, Bool, true, false}
 use Rattle.std.specs.List.{list_any}
 use Rattle.std.specs.Ordering.{match_ordering, ordering_reverse}
 use Rattle.std.specs.List.Sorted.{IsStrictlySortedBy}
@@ -20,7 +20,11 @@ use Rattle.fund_base.specs.declared.outpoint.OutPoint.{OutPoint}
 use Rattle.fund_base.specs.Candidates.{AreCandidates, IsCandidate}
 use Rattle.fund_base.specs.declared.candidate.Candidate.{Candidate}
 use Rattle.fund_steps.specs.Amounts.{AreWithin, value_of}
-use Rattle.fund_steps.specs.Selection.{AreSorted, by_outpoint, in_order}
+use Rattle.output_groups.proofs.PartLaws.{filter_all, filter_none}
+use Rattle.request_text.specs.PlainRequest.{PlainRequest}
+use Rattle.fund_steps.specs.Listed.{is_preset}
+use Rattle.fund_steps.specs.Plan.{may_be_listed}
+use Rattle.fund_steps.specs.Selection.{AreSorted, by_outpoint, in_order, is_listed, unlisted}
 
 -- ---- the order of outpoints
 
@@ -265,3 +269,14 @@ unfolding by_outpoint
 order_same p coins c old not was =
     was
     ∙ ap (fold ins []) (sym (append-nil (filter p coins)) ∙ ap (λ (l : List Candidate). filter p coins ++ l) (ap (λ (b : Bool). cond b (c ∷ []) []) (sym not)) ∙ sym (filter-append p coins (c ∷ [])))
+
+-- ---- where nothing is listed
+
+pub all_unlisted : (points : List OutPoint) (coins : List Candidate) → points ≡ [] → coins ≡ unlisted points coins
+all_unlisted points coins none =
+    sym (filter_all (λ (c : Candidate). not (is_listed points c.coin)) coins (λ k d _. ap (λ (ps : List OutPoint). not (is_listed ps (get_or coins k d).coin)) none))
+
+pub none_listed : (r : PlainRequest) (coins : List Candidate) → r.coins ≡ [] → [] ≡ in_order (filter (is_preset r) coins)
+unfolding by_outpoint
+none_listed r coins none =
+    sym (ap in_order (filter_none (is_preset r) coins (λ k d _. ap (λ (ps : List OutPoint). is_listed ps (get_or coins k d).coin && may_be_listed r (get_or coins k d)) none)))

@@ -1,5 +1,5 @@
 -- One value more of a list, as loops go over it.
-use Rattle.std.proofs.Common.{◌≡◌, ◌∙◌, ℕ, suc, ◌+◌, ◌<◌, ◌≤◌, Bool, true, false, cond, List, ◌∷◌, length, take, drop, get_or, Option, Some, None, refl, sym, ap, add-one, drop-cons}
+use Rattle.std.proofs.Common.{◌≡◌, ◌∙◌, ℕ, suc, ◌+◌, ◌<◌, ◌≤◌, Bool, true, false, cond, List, [], ◌∷◌, length, take, drop, get_or, Option, Some, None, refl, sym, ap, add-one, drop-cons}
 use Rattle.std.specs.Prelude.{◌||◌, find}
 use Rattle.std.specs.List.{list_any}
 use Rattle.std.proofs.Math.ListN.{drop_of_length-le}
@@ -25,6 +25,11 @@ set_more p xs i x old new lt is put was =
     ∙ sym (list_any_more p xs i x lt)
 
 -- ---- the first that passes a test
+
+-- two tests that agree find the same
+pub find_same : {X : Type 0} (p q : X → Bool) (xs : List X) → ((x : X) → p x ≡ q x) → find p xs ≡ find q xs
+find_same p q [] same = refl
+find_same {X = X} p q (x ∷ xs) same = ap (λ (b : Bool). cond b (Some x) (find p xs)) (same x) ∙ ap (λ (o : Option X). cond (q x) (Some x) o) (find_same p q xs same)
 
 pub find_on : {X : Type 0} (p : X → Bool) (xs : List X) (i : ℕ) (x : X) (total : Option X) → i < length xs → x ≡ get_or xs i x → p x ≡ false → find p (drop i xs) ≡ total → find p (drop (i + 1) xs) ≡ total
 find_on {X = X} p xs i x total lt is fails so_far =

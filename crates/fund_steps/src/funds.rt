@@ -16,9 +16,9 @@ ghost use Rattle.fund_steps.specs.Terms.{load_of, rates_of};
 use crate::amounts::worth;
 use crate::bump::BumpInput;
 use crate::fault::PlanFault;
-use crate::pools::add_rows;
+use crate::pools::{add_rows, check_rows};
 use crate::presets::{Presets, presets_alone};
-use crate::selection::{Given, Parted, missing, presets_and_burden, split};
+use crate::selection::{Given, Parted, are_there, presets_and_burden, split};
 use crate::terms::{load, rates};
 use crate::turns::row_turns;
 use fee_rates::{Load, Rates};
@@ -107,15 +107,18 @@ impl Funds {
         let all = Snapshot::of(&candidates);
         let replacing = Snapshot::of(&bump);
         let Parted { listed, rest } = split(alloc, request, candidates)?;
-        if let Some(point) = missing(alloc, &listed, &request.coins)? {
-            return Err(PlanFault::NotEligible(point));
+        match are_there(alloc, &listed, &request.coins) {
+            Ok(()) => {}
+            Err(fault) => return Err(fault),
         }
         let Given { presets, burden } = presets_and_burden(alloc, listed, bump)?;
         let load = load(request, change, &presets, burden);
         let turns = row_turns(request, &load);
         let mut steps = Vec::new(alloc);
-        if let Some(row) = add_rows(alloc, request, &rest, &load, turns, &mut steps)? {
-            return Err(PlanFault::TooMany(row.number, row.groups));
+        let crowded = add_rows(alloc, request, &rest, &load, turns, &mut steps)?;
+        match check_rows(crowded) {
+            Ok(()) => {}
+            Err(fault) => return Err(fault),
         }
         request.keeps_rules();
         let funds = Funds {

@@ -1,6 +1,7 @@
 //! The steps of the rows of a request's ladder, and how many groups the rows keep.
 
-ghost use Rattle.std.specs.Prelude.{◌≡◌, ◌++◌, IfOk, IfSome, All, None};
+ghost use Rattle.std.specs.Prelude.{◌≡◌, ◌++◌, IfErr, IfOk, IfSome, All, None, OnOk, Some, option_map};
+ghost use Rattle.fund_steps.specs.declared.pools.Crowded.{Crowded};
 ghost use Rattle.std.specs.List.{flat_map};
 ghost use Rattle.fund_base.specs.Candidates.{AreCandidates};
 ghost use Rattle.output_groups.specs.Ladder.{ladder_of};
@@ -10,7 +11,9 @@ ghost use Rattle.fund_steps.specs.Making.{AreReady, KeepsFewOf, KeepsManyOf, ste
 ghost use Rattle.fund_steps.specs.Plan.{IsFirstCrowded, IsRoomy, PlainPlan, ladder_in};
 ghost use Rattle.fund_steps.specs.Selection.{unlisted};
 ghost use Rattle.fund_steps.specs.Terms.{rates_of};
+ghost use Rattle.fund_steps.specs.declared.fault.PlanFault.TheVariants.{TooMany};
 
+use crate::fault::PlanFault;
 use crate::row_steps::add_steps;
 use crate::terms::rates;
 use crate::turns::Turn;
@@ -49,11 +52,22 @@ fn add_row(
 {
     match groups.items(alloc, row) {
         Ok(seen) => {
-            add_steps(alloc, rates, load, row, &seen, turns, steps)?;
+            add_steps(alloc, rates, load, row, seen, turns, steps)?;
             Ok(None)
         }
         Err(PoolFault::TooMany(count)) => Ok(Some(count)),
         Err(PoolFault::Memory) => Err(Memory),
+    }
+}
+
+/// That no row keeps more than 10,000 groups, by the first that does, if there is one. It takes no memory.
+pub fn check_rows(crowded: Option<Crowded>) -> Result<(), PlanFault>
+    ensures none { OnOk result (crowded ≡ None) }
+    ensures first { IfErr result (λ e. option_map (λ (c : Crowded). TooMany c.number c.groups) crowded ≡ Some e) }
+{
+    match crowded {
+        Some(row) => Err(PlanFault::TooMany(row.number, row.groups)),
+        None => Ok(()),
     }
 }
 

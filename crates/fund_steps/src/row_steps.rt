@@ -1,6 +1,6 @@
 //! The steps of one row.
 
-ghost use Rattle.std.specs.Prelude.{◌≡◌, ◌≤◌, ◌++◌, All, pos, unsigned_abs, ◌≤ℤ◌, length, sum, IfOk, OnOk};
+ghost use Rattle.std.specs.Prelude.{◌≡◌, ◌≤◌, ◌++◌, All, map, pos, unsigned_abs, ◌≤ℤ◌, length, sum, IfOk, OnOk};
 ghost use Rattle.fee_rates.specs.Terms.{AreRates, IsLoad, terms_of};
 ghost use Rattle.pick_problem.specs.Pool.{AreItems};
 ghost use Rattle.pick_problem.specs.Problem.{IsProblem};
@@ -8,6 +8,7 @@ ghost use Rattle.search_run.specs.Step.{AreSteps, IsStep};
 ghost use Rattle.fund_steps.specs.Making.{AreReady, AreSearchable, AreSearched, steps_by};
 ghost use Rattle.fund_steps.specs.Searches.{ending_by, load_with, problem_by, step_with};
 ghost use Rattle.fund_steps.specs.Turns.{HasSteps};
+ghost use Rattle.fund_steps.specs.declared.turns.Turn.{Turn};
 
 use crate::turns::Turn;
 use closing_log::Stage;
@@ -65,14 +66,13 @@ fn change_problem(items: Vec<Item>, lo: i128, most_weight: u64) -> Problem
 }
 
 /// What is looked for at a stage of a row.
-fn problem(alloc: Global, terms: &Terms, items: &[Item], stage: Stage) -> Result<Problem, Memory>
+fn problem(terms: &Terms, items: Vec<Item>, stage: Stage) -> Problem
     requires terms { AreSearchable terms.now }
-    requires items { AreItems items.now }
-    ensures value { IfOk result (λ p. p ≡ problem_by terms.now items.now stage) }
-    ensures problem { IfOk result IsProblem }
+    requires items { AreItems items.items }
+    ensures value { result ≡ problem_by terms.now items.items stage }
+    ensures problem { IsProblem result }
 {
-    let items = Vec::from_slice(alloc, items)?;
-    let problem = match stage {
+    match stage {
         Stage::Changeless => plain_problem(terms, items),
         Stage::LeanSmall => change_problem(items, terms.small, terms.change_limit),
         Stage::Presets | Stage::LeanBig | Stage::Draw | Stage::Wide => change_problem(
@@ -80,8 +80,7 @@ fn problem(alloc: Global, terms: &Terms, items: &[Item], stage: Stage) -> Result
             terms.big,
             terms.change_limit,
         ),
-    };
-    Ok(problem)
+    }
 }
 
 /// What making and spending a change costs, where the results of a stage have one.
@@ -99,23 +98,27 @@ fn ending(terms: &Terms, stage: Stage) -> u64
 }
 
 /// The step of a row at a stage, by the row's terms.
-fn step(
-    alloc: Global,
-    terms: &Terms,
-    row: &Row,
-    seen: &RowItems,
-    turn: &Turn,
-) -> Result<Step, Memory>
+fn step(terms: &Terms, row: &Row, seen: RowItems, turn: &Turn) -> Step
     requires terms { AreSearchable terms.now }
-    requires seen { AreSearched seen.now.items.items seen.now.sizes.items }
+    requires seen { AreSearched seen.items.items seen.sizes.items }
     requires stage { HasSteps turn.now.stage }
-    ensures value { IfOk result (λ s. s ≡ step_with terms.now row.now.number seen.now.items.items seen.now.sizes.items turn.now) }
-    ensures step { IfOk result IsStep }
+    ensures value { result ≡ step_with terms.now row.now.number seen.items.items seen.sizes.items turn.now }
+    ensures step { IsStep result }
 {
-    let problem = problem(alloc, terms, &seen.items, turn.stage)?;
-    let sizes = Vec::from_slice(alloc, &seen.sizes)?;
+    let RowItems { items, sizes } = seen;
+    let problem = problem(terms, items, turn.stage);
     let ending = ending(terms, turn.stage);
-    Ok(Step::new(row.number, turn.stage, problem, ending, sizes, turn.last))
+    Step::new(row.number, turn.stage, problem, ending, sizes, turn.last)
+}
+
+/// A copy of what a search sees of a row's pool.
+fn copied(alloc: Global, seen: &RowItems) -> Result<RowItems, Memory>
+    ensures items { IfOk result (λ s. s.items.items ≡ seen.now.items.items) }
+    ensures sizes { IfOk result (λ s. s.sizes.items ≡ seen.now.sizes.items) }
+{
+    let items = Vec::from_slice(alloc, &seen.items)?;
+    let sizes = Vec::from_slice(alloc, &seen.sizes)?;
+    Ok(RowItems { items, sizes })
 }
 
 /// The terms of a payment from the presets and from a row's pool: all coins of both count.
@@ -136,24 +139,48 @@ fn row_terms(rates: &Rates, load: &Load, seen: &RowItems) -> Terms
     )
 }
 
-/// Adds the steps of a row, by what a search sees of its pool.
-pub fn add_steps(
+/// Adds steps of a row, each with a copy of what a search sees of its pool.
+fn add_copies(
     alloc: Global,
-    rates: &Rates,
-    load: &Load,
+    terms: &Terms,
     row: &Row,
     seen: &RowItems,
     turns: &[Turn],
     steps: &mut Vec<Step>,
 ) -> Result<(), Memory>
-    requires ready { AreReady rates.now load.now turns.now }
+    requires terms { AreSearchable terms.now }
     requires seen { AreSearched seen.now.items.items seen.now.sizes.items }
-    ensures steps { OnOk result (steps.new.items ≡ steps.old.items ++ steps_by rates.now load.now turns.now row.now.number seen.now.items.items seen.now.sizes.items) }
+    requires stages { All (λ (u : Turn). HasSteps u.stage) turns.now }
+    ensures steps { OnOk result (steps.new.items ≡ steps.old.items ++ map (step_with terms.now row.now.number seen.now.items.items seen.now.sizes.items) turns.now) }
     ensures fine { OnOk result (AreSteps steps.old.items → AreSteps steps.new.items) }
 {
-    let terms = row_terms(rates, load, seen);
     for turn in turns {
-        steps.push(step(alloc, &terms, row, seen, turn)?)?;
+        let copy = copied(alloc, seen)?;
+        steps.push(step(terms, row, copy, turn))?;
     }
+    Ok(())
+}
+
+/// Adds the steps of a row, by what a search sees of its pool. The last one takes that itself.
+pub fn add_steps(
+    alloc: Global,
+    rates: &Rates,
+    load: &Load,
+    row: &Row,
+    seen: RowItems,
+    turns: &[Turn],
+    steps: &mut Vec<Step>,
+) -> Result<(), Memory>
+    requires ready { AreReady rates.now load.now turns.now }
+    requires seen { AreSearched seen.items.items seen.sizes.items }
+    ensures steps { OnOk result (steps.new.items ≡ steps.old.items ++ steps_by rates.now load.now turns.now row.now.number seen.items.items seen.sizes.items) }
+    ensures fine { OnOk result (AreSteps steps.old.items → AreSteps steps.new.items) }
+{
+    let Some((last, front)) = turns.split_last() else {
+        return Ok(());
+    };
+    let terms = row_terms(rates, load, &seen);
+    add_copies(alloc, &terms, row, &seen, front, steps)?;
+    steps.push(step(&terms, row, seen, last))?;
     Ok(())
 }

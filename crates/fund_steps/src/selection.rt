@@ -1,15 +1,17 @@
 //! The coins that a request lists, among those that may be spent.
 
-ghost use Rattle.std.specs.Prelude.{◌≡◌, ◌&&◌, ◌||◌, filter, map, IfOk, OnOk};
+ghost use Rattle.std.specs.Prelude.{◌≡◌, ◌≢◌, ◌&&◌, ◌||◌, None, Some, filter, find, map, not, option_map, IfErr, IfOk, OnOk};
 ghost use Rattle.std.specs.BTreeMap.{insert_entry};
 ghost use Rattle.indexmap.specs.IndexSet.{contains};
 ghost use Rattle.fund_base.specs.Outpoints.{outpoint_cmp, same_outpoint};
 ghost use Rattle.fund_base.specs.declared.candidate.Candidate.{Candidate};
 ghost use Rattle.fund_base.specs.declared.outpoint.OutPoint.{OutPoint};
 ghost use Rattle.fund_steps.specs.Listed.{burden_by, is_preset, presets_by};
-ghost use Rattle.fund_steps.specs.Selection.{by_outpoint, first_missing, in_order, is_listed, unlisted};
+ghost use Rattle.fund_steps.specs.Selection.{by_outpoint, first_missing, has_coin, in_order, is_listed, unlisted};
+ghost use Rattle.fund_steps.specs.declared.fault.PlanFault.TheVariants.{Memory as NoMemory, NotEligible};
 
 use crate::bump::BumpInput;
+use crate::fault::PlanFault;
 use fund_base::{Candidate, Memory, OutPoint};
 use indexmap::IndexSet;
 use request_text::Request;
@@ -34,21 +36,48 @@ fn points_of(alloc: Global, coins: &[Candidate]) -> Result<Vec<OutPoint>, Memory
     Ok(coins.iter().map(|coin| coin.coin).collect(alloc)?)
 }
 
-/// The first of the outpoints at which none of the coins is.
-pub fn missing(
-    alloc: Global,
-    coins: &[Candidate],
-    points: &[OutPoint],
-) -> Result<Option<OutPoint>, Memory>
-    ensures { IfOk result (λ o. o ≡ first_missing coins.now points.now) }
+/// The outpoints of coins as a set.
+fn points_in(alloc: Global, coins: &[Candidate]) -> Result<IndexSet<OutPoint>, Memory>
+    ensures { (q : OutPoint) → IfOk result (λ set. contains same_outpoint set q ≡ has_coin coins.now q) }
 {
-    let there = set_of(alloc, &points_of(alloc, coins)?)?;
+    let points = points_of(alloc, coins)?;
+    let set = set_of(alloc, &points)?;
+    Ok(set)
+}
+
+/// The first of the outpoints that isn't in the set. It takes no memory.
+fn missing(there: &IndexSet<OutPoint>, points: &[OutPoint]) -> Option<OutPoint>
+    ensures { result ≡ find (λ p. not (contains same_outpoint there.now p)) points.now }
+{
     for point in points {
         if !there.contains(point) {
-            return Ok(Some(*point));
+            return Some(*point);
         }
     }
-    Ok(None)
+    None
+}
+
+/// That each of the outpoints is in the set. Otherwise the fault is the first that isn't. It takes no memory.
+fn check_listed(there: &IndexSet<OutPoint>, points: &[OutPoint]) -> Result<(), PlanFault>
+    ensures there { OnOk result (find (λ p. not (contains same_outpoint there.now p)) points.now ≡ None) }
+    ensures missing { IfErr result (λ e. option_map NotEligible (find (λ p. not (contains same_outpoint there.now p)) points.now) ≡ Some e) }
+{
+    match missing(there, points) {
+        Some(point) => Err(PlanFault::NotEligible(point)),
+        None => Ok(()),
+    }
+}
+
+/// That one of the coins is at each of the outpoints. Otherwise the fault is the first at which none is, or out of memory.
+pub fn are_there(alloc: Global, coins: &[Candidate], points: &[OutPoint]) -> Result<(), PlanFault>
+    ensures there { OnOk result (first_missing coins.now points.now ≡ None) }
+    ensures missing { IfErr result (λ e. e ≢ NoMemory → option_map NotEligible (first_missing coins.now points.now) ≡ Some e) }
+{
+    let there = points_in(alloc, coins)?;
+    match check_listed(&there, points) {
+        Ok(()) => Ok(()),
+        Err(fault) => Err(fault),
+    }
 }
 
 /// Puts the coin at its outpoint.
@@ -119,11 +148,17 @@ pub struct Parted {
     pub rest: Vec<Candidate>,
 }
 
-/// Splits the candidates by what the request lists.
+/// Splits the candidates by what the request lists. Where it lists nothing they stay where they are.
 pub fn split(alloc: Global, request: &Request, candidates: Vec<Candidate>) -> Result<Parted, Memory>
     ensures listed { IfOk result (λ s. s.listed.items ≡ in_order (filter (is_preset request.now) candidates.items)) }
     ensures rest { IfOk result (λ s. s.rest.items ≡ unlisted request.now.coins candidates.items) }
 {
+    if request.coins.is_empty() {
+        return Ok(Parted {
+            listed: Vec::new(alloc),
+            rest: candidates,
+        });
+    }
     let wanted = set_of(alloc, &request.coins)?;
     let mut chosen = BTreeMap::new(alloc);
     let mut rest = Vec::new(alloc);

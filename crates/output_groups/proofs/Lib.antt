@@ -6,6 +6,7 @@ pub mod HundredLaws
 pub mod ItemLaws
 pub mod LeastLaws
 pub mod MeetLaws
+pub mod MemberLaws
 pub mod Members
 pub mod OnceLaws
 pub mod OrderLaws

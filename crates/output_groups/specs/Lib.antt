@@ -8,6 +8,7 @@ pub mod Order
 pub mod Part
 pub mod PlainGroups
 pub mod PlainPool
+pub mod Places
 pub mod Pool
 pub mod PoolOf
 pub mod Runs

@@ -1,11 +1,13 @@
 //! The groups that candidates form, made once for all rows.
 
-ghost use Rattle.std.specs.Prelude.{◌≡◌, ◌+◌, ◌<◌, ◌≤◌, ℕ, List, IfOk, IfErr, All, filter, map, length};
+ghost use Rattle.std.specs.Prelude.{◌≡◌, ◌+◌, ◌++◌, ◌<◌, ◌≤◌, ℕ, List, IfOk, IfErr, OnOk, All, filter, map, length};
 ghost use Rattle.fund_base.specs.Candidates.{AreCandidates};
 ghost use Rattle.fund_base.specs.declared.candidate.Candidate.{Candidate};
 ghost use Rattle.pick_problem.specs.Pool.{AreItems};
+ghost use Rattle.pick_problem.specs.Problem.{Rising};
 ghost use Rattle.output_groups.specs.Formed.{AreUseful, IsFormed, coins_at, keeps_formed, part_in};
 ghost use Rattle.output_groups.specs.Forming.{AreParts};
+ghost use Rattle.output_groups.specs.Places.{members};
 ghost use Rattle.output_groups.specs.PlainGroups.{pool_in};
 ghost use Rattle.output_groups.specs.Pool.{CountsKept, IsDue};
 ghost use Rattle.output_groups.specs.declared.formed.Formed.{Formed};
@@ -14,6 +16,7 @@ use crate::fault::PoolFault;
 use crate::formed::Formed;
 use crate::forming::{cut, singles, sort, sort_by_script, useful};
 use crate::group::Group;
+use crate::kept::Kept;
 use crate::lent::Lent;
 use crate::row_pool::RowPool;
 use crate::rows::Row;
@@ -127,6 +130,22 @@ impl<'a> Groups<'a> {
         let pool = kept_groups(alloc, &self.coins, &self.formed, row, count)?;
         Ok(pool)
     }
+
+    /// A copy of each coin of the groups at these places of the row's pool, in the order of the places, which rise. The
+    /// error is out of memory.
+    pub fn members(
+        &self,
+        alloc: Global,
+        row: &Row,
+        places: &[u32],
+    ) -> Result<Vec<Candidate>, Memory>
+        requires { Rising (length (pool_in self.now row.now).groups) 0 places.now }
+        ensures { IfOk result (λ v. v.items ≡ members (pool_in self.now row.now).groups places.now) }
+    {
+        let kept = kept(alloc, &self.formed, row)?;
+        let members = members(alloc, &self.coins, &kept, places)?;
+        Ok(members)
+    }
 }
 
 /// The groups of the coins, in some order. With `group` the coins are brought together by script.
@@ -213,14 +232,71 @@ fn copied(alloc: Global, coins: &[Lent], one: &Formed) -> Result<Group, Memory>
     Ok(Group::new(copies))
 }
 
+/// Appends a copy of each coin, in their order.
+fn add_copies(alloc: Global, copies: &mut Vec<Candidate>, coins: &[Lent]) -> Result<(), Memory>
+    ensures { OnOk result (copies.new.items ≡ copies.old.items ++ coins.now) }
+{
+    for lent in coins {
+        let copy = lent.coin().copy(alloc)?;
+        copies.push(copy)?;
+    }
+    Ok(())
+}
+
 /// A copy of each coin, in their order.
 fn copies(alloc: Global, coins: &[Lent]) -> Result<Vec<Candidate>, Memory>
     ensures { IfOk result (λ v. v.items ≡ coins.now) }
 {
     let mut copies = Vec::with_capacity(alloc, coins.len())?;
-    for lent in coins {
-        let copy = lent.coin().copy(alloc)?;
-        copies.push(copy)?;
-    }
+    add_copies(alloc, &mut copies, coins)?;
     Ok(copies)
+}
+
+/// The groups that the row keeps, lent.
+fn kept<'b, 'a>(
+    alloc: Global,
+    formed: &'b [Formed<'a>],
+    row: &Row,
+) -> Result<Vec<Kept<'b, 'a>>, Memory>
+    ensures { IfOk result (λ v. v.items ≡ filter (keeps_formed row.now) formed.now) }
+{
+    let mut kept = Vec::with_capacity(alloc, formed.len())?;
+    for one in formed {
+        if one.is_kept(row) {
+            kept.push(Kept::new(one))?;
+        }
+    }
+    Ok(kept)
+}
+
+/// Appends a copy of each coin of a group.
+fn add_group(
+    alloc: Global,
+    members: &mut Vec<Candidate>,
+    coins: &[Lent],
+    one: &Formed,
+) -> Result<(), Memory>
+    requires { one.now.start + one.now.size ≤ length coins.now }
+    ensures { OnOk result (members.new.items ≡ members.old.items ++ coins_at coins.now one.now) }
+{
+    let start = one.start as usize;
+    add_copies(alloc, members, &coins[start..start + one.size as usize])
+}
+
+/// A copy of each coin of the groups at these places, which rise.
+fn members(
+    alloc: Global,
+    coins: &[Lent],
+    kept: &[Kept],
+    places: &[u32],
+) -> Result<Vec<Candidate>, Memory>
+    requires within { All (λ (f : Formed). f.start + f.size ≤ length coins.now) kept.now }
+    requires places { Rising (length kept.now) 0 places.now }
+    ensures { IfOk result (λ v. v.items ≡ members (map (coins_at coins.now) kept.now) places.now) }
+{
+    let mut members = Vec::with_capacity(alloc, places.len())?;
+    for place in places {
+        add_group(alloc, &mut members, coins, kept[*place as usize].one())?;
+    }
+    Ok(members)
 }

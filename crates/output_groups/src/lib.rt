@@ -7,6 +7,7 @@ mod formed;
 mod forming;
 mod group;
 mod groups;
+mod kept;
 mod laws;
 mod lent;
 mod measures;

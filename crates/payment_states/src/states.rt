@@ -65,6 +65,9 @@ impl States {
     pub fn place(&self, txid: &Txid) -> Option<usize>
         ensures { result ≡ place_among self.now txid.now }
     {
+        if self.payments.is_empty() {
+            return None;
+        }
         self.txids.get_index_of(txid)
     }
 

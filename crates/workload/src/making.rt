@@ -83,7 +83,8 @@ pub(crate) fn earlier_of(
     for index in 0..count {
         let coin = next_coin(&mut words);
         let tx = maker_of(alloc, index, &coin)?;
-        earlier.push(Earlier::new(tx, HEIGHT))?;
+        let entry = Earlier::new(alloc, tx, HEIGHT)?;
+        earlier.push(entry)?;
         total += coin.worth();
     }
     Ok((earlier, total))

@@ -1,13 +1,14 @@
 use Rattle.std.proofs.Common.{◌≡◌, ◌∙◌, sym, ap}
 use Rattle.std.specs.Prelude.{◌&&◌, ◌||◌, Bool, List, true, false, not}
-use Rattle.std.proofs.lemmas.Bool.{and_parts}
+use Rattle.std.proofs.lemmas.Bool.{and_parts, eqb-true}
+use Rattle.std.proofs.lemmas.List.{nil_from_length}
 use Rattle.fund_base.specs.declared.candidate.Candidate.{Candidate}
 use Rattle.fund_base.specs.declared.outpoint.OutPoint.{OutPoint}
 use Rattle.request_text.specs.PlainRequest.{PlainRequest}
 use Rattle.fund_steps.specs.Listed.{is_preset}
 use Rattle.fund_steps.specs.Plan.{may_be_listed}
 use Rattle.fund_steps.specs.Selection.{by_outpoint, is_listed}
-use Rattle.fund_steps.proofs.SelectionLaws.{kept_more, kept_same, order_more, order_same}
+use Rattle.fund_steps.proofs.SelectionLaws.{all_unlisted, kept_more, kept_same, none_listed, order_more, order_same}
 use Rattle.fund_steps.proofs.selection.split.Goals as goal
 
 pub loop-candidate-init : goal.loop-candidate-init
@@ -57,3 +58,13 @@ loop-candidate-preserved c =
       order_same (is_preset r) c.loop-candidate.yielded x c.loop-candidate.chosen.entries fails c.loop-candidate.invariant.0,
       kept_same (others r) c.loop-candidate.yielded x c.loop-candidate.rest.items (ap not there) c.loop-candidate.invariant.1,
     )
+
+pub returns-then-is_empty-clause-listed : goal.returns-then-is_empty-clause-listed
+returns-then-is_empty-clause-listed c =
+    let none = nil_from_length c.request.inside.coins.items (sym c.request.inside.coins.ok.0 ∙ eqb-true _ _ (sym c.is_empty.ensures ∙ c.if-is_empty.true)) in
+    c.new.ensures.items ∙ none_listed c.args.request.now c.args.candidates.items (sym (ap (λ (q : PlainRequest). q.coins) c.request.view_is) ∙ none)
+
+pub returns-then-is_empty-clause-rest : goal.returns-then-is_empty-clause-rest
+returns-then-is_empty-clause-rest c =
+    let none = nil_from_length c.request.inside.coins.items (sym c.request.inside.coins.ok.0 ∙ eqb-true _ _ (sym c.is_empty.ensures ∙ c.if-is_empty.true)) in
+    all_unlisted c.args.request.now.coins c.args.candidates.items (sym (ap (λ (q : PlainRequest). q.coins) c.request.view_is) ∙ none)

@@ -19,6 +19,6 @@ loop-index-preserved c =
     let worth : c.worth-total.result ≡ (coin_at c.args.number c.loop-index.index).value = c.worth-total.ensures.value ∙ ap (λ (k : Coin). k.value) drawn in
     record {
       words = c.next_coin-coin.ensures.words c.args.number c.loop-index.index (omega arith) c.loop-index.invariant.words;
-      earlier = c.in_ok-push.ensures.items ∙ rw (c.loop-index.invariant.earlier, c.new.ensures, made) (sym (earlier_more c.args.number c.loop-index.index));
+      earlier = c.in_ok-push.ensures.items ∙ rw (c.loop-index.invariant.earlier, c.in_ok-entry.ensures, made) (sym (earlier_more c.args.number c.loop-index.index));
       total = omega (arith, c.loop-index.invariant.total, worth, total_more c.args.number c.loop-index.index);
     }

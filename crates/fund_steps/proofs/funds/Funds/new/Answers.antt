@@ -11,11 +11,11 @@ use Rattle.fund_steps.specs.Kept.{IsKept}
 use Rattle.fund_steps.specs.Listed.{burden_by, listed_of, presets_by}
 use Rattle.fund_steps.specs.Plan.{HasEligible, IsPlan, IsRoomy, PlainBump, PlainPlan, coins_with, ladder_in}
 use Rattle.fund_steps.specs.Searches.{steps_of}
-use Rattle.fund_steps.specs.Selection.{is_listed}
+use Rattle.fund_steps.specs.Selection.{first_missing, is_listed}
 use Rattle.fund_steps.specs.Terms.{load_of}
 use Rattle.fund_steps.proofs.BumpLaws.{bump_candidates, burden_within, presets_within}
 use Rattle.fund_steps.proofs.MakingLaws.{load_is_alone, steps_are}
-use Rattle.fund_steps.proofs.PresetLaws.{all_eligible, is_missing, missing_is, plan_is}
+use Rattle.fund_steps.proofs.PresetLaws.{all_eligible, missing_is, plan_is, told_crowded, told_missing}
 use Rattle.fund_steps.proofs.RowLaws.{filter_candidates}
 use Rattle.fund_steps.proofs.funds.Funds.new.Goals as goal
 
@@ -39,31 +39,25 @@ returns-in_err-listed-clause-fault c =
     let p = err_from_is_err_and c.from_residual.result c.from_residual.ensures.1 in
     rw (p.1, p.2) (subst (Fits c.args.bump) c.deref.ensures.value few)
 
-pub returns-in_err-point-clause-fault : goal.returns-in_err-point-clause-fault
-returns-in_err-point-clause-fault c =
-    let few : Fits c.args.bump c.deref.result.now = omega (arith, c.if-sum-from.false, c.from.ensures, c.worth-sum.ensures) in
-    let p = err_from_is_err_and c.from_residual-in_err-point.result c.from_residual-in_err-point.ensures.1 in
-    rw (p.1, p.2) (subst (Fits c.args.bump) c.deref.ensures.value few)
-
 pub returns-in_err-presets-clause-fault : goal.returns-in_err-presets-clause-fault
 returns-in_err-presets-clause-fault c =
     let few : Fits c.args.bump c.deref.result.now = omega (arith, c.if-sum-from.false, c.from.ensures, c.worth-sum.ensures) in
     let p = err_from_is_err_and c.from_residual-in_err-presets.result c.from_residual-in_err-presets.ensures.1 in
     rw (p.1, p.2) (subst (Fits c.args.bump) c.deref.ensures.value few)
 
-pub returns-in_err-row-clause-fault : goal.returns-in_err-row-clause-fault
-returns-in_err-row-clause-fault c =
+pub returns-in_err-crowded-clause-fault : goal.returns-in_err-crowded-clause-fault
+returns-in_err-crowded-clause-fault c =
     let few : Fits c.args.bump c.deref.result.now = omega (arith, c.if-sum-from.false, c.from.ensures, c.worth-sum.ensures) in
-    let p = err_from_is_err_and c.from_residual-in_err-row.result c.from_residual-in_err-row.ensures.1 in
+    let p = err_from_is_err_and c.from_residual-in_err-crowded.result c.from_residual-in_err-crowded.ensures.1 in
     rw (p.1, p.2) (subst (Fits c.args.bump) c.deref.ensures.value few)
 
-pub returns-in-Some-clause-fault : goal.returns-in-Some-clause-fault
-returns-in-Some-clause-fault c =
+pub returns-in-Err-clause-fault : goal.returns-in-Err-clause-fault
+returns-in-Err-clause-fault c =
     let p = plain c.args.request.now c.args.change.now c.args.candidates.items c.args.bump in
     let few : Fits c.args.bump c.deref.result.now = omega (arith, c.if-sum-from.false, c.from.ensures, c.worth-sum.ensures) in
     let points = c.deref-3.ensures.value ∙ ap (λ (q : PlainRequest). q.coins) c.request.view_is in
-    let missing = missing_is p c.in_ok-point.field-0 c.deref-2.result.now c.deref-3.result.now c.in_ok-point.ensures (c.deref-2.ensures.value ∙ c.in_ok-listed.ensures.listed) points in
-    (subst (Fits c.args.bump) c.deref.ensures.value few, is_missing p c.in-Some.point (sym missing ∙ c.in-Some.is))
+    let missing = missing_is p (first_missing c.deref-2.result.now c.deref-3.result.now) c.deref-2.result.now c.deref-3.result.now refl (c.deref-2.ensures.value ∙ c.in_ok-listed.ensures.listed) points in
+    told_missing p _ c.in-Err.fault c.in-Err.ensures.missing (subst (Fits c.args.bump) c.deref.ensures.value few) missing
 
 pub load-load-requires-clause-coins : goal.load-load-requires-clause-coins
 load-load-requires-clause-coins c =
@@ -79,15 +73,14 @@ add_rows-requires-clause-coins c =
     let rest = c.deref-5.ensures.value ∙ c.in_ok-listed.ensures.rest in
     subst AreCandidates (sym rest) (filter_candidates (λ x. not (is_listed c.args.request.now.coins x.coin)) c.args.candidates.items c.requires.candidates)
 
-pub returns-in-Some-2-clause-fault : goal.returns-in-Some-2-clause-fault
-returns-in-Some-2-clause-fault c =
+pub returns-in-Err-check_rows-clause-fault : goal.returns-in-Err-check_rows-clause-fault
+returns-in-Err-check_rows-clause-fault c =
     let p = plain c.args.request.now c.args.change.now c.args.candidates.items c.args.bump in
     let few : Fits c.args.bump c.deref.result.now = omega (arith, c.if-sum-from.false, c.from.ensures, c.worth-sum.ensures) in
     let points = c.deref-3.ensures.value ∙ ap (λ (q : PlainRequest). q.coins) c.request.view_is in
-    let missing = missing_is p c.in_ok-point.field-0 c.deref-2.result.now c.deref-3.result.now c.in_ok-point.ensures (c.deref-2.ensures.value ∙ c.in_ok-listed.ensures.listed) points in
+    let missing = missing_is p (first_missing c.deref-2.result.now c.deref-3.result.now) c.deref-2.result.now c.deref-3.result.now refl (c.deref-2.ensures.value ∙ c.in_ok-listed.ensures.listed) points in
     let rest = c.deref-5.ensures.value ∙ c.in_ok-listed.ensures.rest in
-    let first = rw c.in-Some-2.is at (c.in_ok-row.ensures.first p refl (sym rest)) in
-    (subst (Fits c.args.bump) c.deref.ensures.value few, all_eligible p (sym missing ∙ c.in_default.is), first)
+    told_crowded p c.in_ok-crowded.crowded c.in-Err-check_rows.fault c.in-Err-check_rows.ensures.first (subst (Fits c.args.bump) c.deref.ensures.value few) (all_eligible p (sym missing ∙ c.in-Ok.ensures.there)) (c.in_ok-crowded.ensures.first p refl (sym rest))
 
 -- what the sum was tested for
 within : (c : goal.After-rates) → Fits c.args.bump c.args.candidates.items
@@ -100,10 +93,10 @@ made : (c : goal.After-rates) → IsPlan (plain c.args.request.now c.args.change
 made c =
     let p = plain c.args.request.now c.args.change.now c.args.candidates.items c.args.bump in
     let points = c.deref-3.ensures.value ∙ ap (λ (q : PlainRequest). q.coins) c.request.view_is in
-    let missing = missing_is p c.in_ok-point.field-0 c.deref-2.result.now c.deref-3.result.now c.in_ok-point.ensures (c.deref-2.ensures.value ∙ c.in_ok-listed.ensures.listed) points in
+    let missing = missing_is p (first_missing c.deref-2.result.now c.deref-3.result.now) c.deref-2.result.now c.deref-3.result.now refl (c.deref-2.ensures.value ∙ c.in_ok-listed.ensures.listed) points in
     let rest = c.deref-5.ensures.value ∙ c.in_ok-listed.ensures.rest in
-    let roomy : All (IsRoomy p) (ladder_in p) = c.in_ok-row.ensures.none p refl (sym rest) c.in_default-2.is in
-    plan_is p c.keeps_rules.ensures c.requires.bump c.requires.change c.requires.candidates (within c) (sym missing ∙ c.in_default.is) roomy
+    let roomy : All (IsRoomy p) (ladder_in p) = c.in_ok-crowded.ensures.none p refl (sym rest) c.in-Ok-check_rows.ensures.none in
+    plan_is p c.keeps_rules.ensures c.requires.bump c.requires.change c.requires.candidates (within c) (sym missing ∙ c.in-Ok.ensures.there) roomy
 
 -- what is kept of the parts is what they are
 seen : (c : goal.After-rates) → plain c.args.request.now c.args.change.now c.args.candidates.items c.args.bump ≡ plain c.of.result.value c.of-2.result.value c.of-all.result.value.items c.of-replacing.result.value
@@ -151,7 +144,7 @@ returns-clause-steps c =
     let presets = c.in_ok-presets.field-0.presets.items in
     let rest = c.deref-5.ensures.value ∙ c.in_ok-listed.ensures.rest in
     let alone = load_is_alone p presets c.load-load.result (carried c) (given c) in
-    let stepped = rw c.new-steps.ensures.items at (c.in_ok-row.ensures.steps c.in_default-2.is) in
+    let stepped = rw c.new-steps.ensures.items at (c.in_ok-crowded.ensures.steps c.in-Ok-check_rows.ensures.none) in
     stepped
     ∙ steps_are (basis_of p) c.load-load.result c.deref-5.result.now c.row_turns-turns.result.now alone rest c.row_turns-turns.ensures.value
     ∙ ap (λ (q : PlainPlan). steps_of (basis_of q)) (seen c)

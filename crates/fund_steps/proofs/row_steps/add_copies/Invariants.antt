@@ -2,7 +2,7 @@ use Rattle.std.proofs.Common.{◌≡◌, ◌++◌, take}
 use Rattle.std.specs.Prelude.{map}
 use Rattle.search_run.specs.Step.{AreSteps}
 use Rattle.fund_steps.specs.Searches.{step_with}
-use Rattle.fund_steps.proofs.row_steps.add_steps.Given as goal
+use Rattle.fund_steps.proofs.row_steps.add_copies.Given as goal
 
 abbrev pub invariant-loop-turn : goal.invariant-loop-turn
 invariant-loop-turn l = record {
