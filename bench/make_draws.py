@@ -1,8 +1,8 @@
 #!/usr/bin/env python3
-"""Draws by the definition alone, for lines as crates/rows_draws reads them: words by RFC 8439 with a 64-bit counter and
+"""Draws by the definition alone, for the rows of `draws` in crates/rows_parts: words by RFC 8439 with a 64-bit counter and
 stream 0, a plain shuffle, and a fold that looks at all kept places.
 
-Usage: bench/make_draws.py < crates/rows_draws/stdin       prints what crates/rows_draws must print
+Usage: bench/make_draws.py < crates/rows_parts/stdin       prints what crates/rows_parts must print of them
 """
 import struct, sys
 
@@ -57,7 +57,12 @@ def text(places):
     return " ".join(map(str, places)) or "-"
 
 
+part = None
 for line in sys.stdin:
+    if line.startswith("# "):
+        part = line
+    if part != "# draws\n" or line == part:
+        continue
     lo, limit, list_text, seed = line.rstrip("\n").split("\t")
     items = [] if list_text == "-" else [tuple(map(int, item.split("/"))) for item in list_text.split(" ")]
     if int(lo) == 0:

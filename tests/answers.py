@@ -4,7 +4,7 @@
     tests/answers.py stored
     tests/answers.py PROGRAM [COUNT] [SEED]
 
-The first looks at what rows_methods has to print. PROGRAM is a built fund_cli: COUNT requests (500) of all methods are made
+The first looks at what `methods` in rows_commands has to print. PROGRAM is a built fund_cli: COUNT requests (500) of all methods are made
 from the SEED (1), over wallets of a few coins, some of them pending. What may be spent, and which coins of which row are
 chosen, is worked out as docs/FORMATS.md says, by trying every choice. Each section of LOG is checked as docs/CLOSING_LOG.md
 says: its problem by its digest, its letters one by one. It shares no code with the program, and needs Python alone.
@@ -15,6 +15,7 @@ import itertools
 import json
 import os
 import random
+import re
 import struct
 import subprocess
 import sys
@@ -617,13 +618,18 @@ def case(r):
     return wallet, request
 
 
+def stored_part(name, file):
+    """A part of rows_commands: its rows, or what is to be printed of them."""
+    folder = os.path.join(os.path.dirname(os.path.abspath(__file__)), "..", "crates", "rows_commands")
+    with open(os.path.join(folder, file), encoding="utf-8") as text:
+        _, *parts = re.split(r"^# (\w+)\n", text.read(), flags=re.MULTILINE)
+    return dict(zip(parts[::2], parts[1::2]))[name]
+
+
 def stored():
-    """Judges the cases of rows_methods: the files of its input, and what is to be printed for them."""
-    folder, ends = os.path.join(os.path.dirname(os.path.abspath(__file__)), "..", "crates", "rows_methods"), collections.Counter()
-    with open(os.path.join(folder, "stdin"), encoding="utf-8") as file:
-        cases = [line.rstrip("\n").split("\t") for line in file]
-    with open(os.path.join(folder, "stdout"), encoding="utf-8") as file:
-        printed = file.read()
+    """Judges the cases of `methods` in rows_commands: the files of its input, and what is to be printed for them."""
+    ends, printed = collections.Counter(), stored_part("methods", "stdout")
+    cases = [line.split("\t") for line in stored_part("methods", "stdin").splitlines()]
     for name, wallet, blocks, request in reversed(cases):
         printed, _, told = printed.rpartition(f"{name}: status ")
         status, _, text = told.partition("\n")

@@ -1,5 +1,5 @@
 #!/usr/bin/env python3
-"""Makes the rows of rows_complete, and what it must print of them; outside the gate.
+"""Makes the rows of `complete` in rows_commands, and what it must print of them; outside the gate.
 
     tests/completions.py FOLDER ROWS EXPECTED
 

@@ -1,9 +1,9 @@
 #!/usr/bin/env python3
-"""Judges what rows_desk has to print by docs/FORMATS.md alone; outside the gate.
+"""Judges what `desk` in rows_commands has to print by docs/FORMATS.md alone; outside the gate.
 
     tests/desk.py
 
-It goes through the stored cases of rows_desk, line by line: which lines are commands, which jobs are open, what a job's
+It goes through its stored cases, line by line: which lines are commands, which jobs are open, what a job's
 answer is (by trying every choice over the coins as they were when it was opened), how far a turn may have come, which coin of
 a payment is taken, what a committed PSBT spends and pays, which blocks and transactions come in. Of requests, blocks and
 transactions that are refused by their form it tells that there is a fault and not which. A PARTIAL answer, and one over many
@@ -18,7 +18,7 @@ import os
 import re
 import sys
 
-from answers import Chain, Request, answer, read_blocks, read_tx, shown_point, tell
+from answers import Chain, Request, answer, read_blocks, read_tx, shown_point, stored_part, tell
 from verdicts import meets, psbt_of
 
 NAME = re.compile(rb"[A-Za-z0-9-]{1,32}")
@@ -401,11 +401,8 @@ def sum_of_turns(files):
 
 
 def main():
-    folder, ends = os.path.join(os.path.dirname(os.path.abspath(__file__)), "..", "crates", "rows_desk"), collections.Counter()
-    with open(os.path.join(folder, "stdin"), encoding="utf-8") as file:
-        stored = list(cases(file.read()))
-    with open(os.path.join(folder, "stdout"), encoding="utf-8") as file:
-        printed = file.read()
+    ends = collections.Counter()
+    stored, printed = list(cases(stored_part("desk", "stdin"))), stored_part("desk", "stdout")
     for name, files, fails, is_sum in reversed(stored):
         printed, _, told = printed.rpartition(f"{name}: status ")
         status, _, text = told.partition("\n")

@@ -14,7 +14,7 @@ FILE is one of tests/people/*.txt, which are all of them where none is named. Ea
     + NAME CONTENT               a file that is there afterwards, its content as a JSON text
 
 and no other file is there or changed afterwards. Each row has a folder of its own, with the files of FILES. The expected text
-doesn't come from the program. Tables, PSBTs and logs are those of the stored runs of rows_pay, rows_complete and fund_cli, put
+doesn't come from the program. Tables, PSBTs and logs are those of the stored runs of rows_commands and fund_cli, put
 into the form of payment_table by hand or by a script. Sentences are those of docs/TROUBLES.md, which is looked at here. It
 shares no code with the program, and needs Python alone.
 """
@@ -27,8 +27,8 @@ import sys
 import tempfile
 
 TOP = os.path.dirname(os.path.dirname(os.path.abspath(__file__)))
-# The files of each row: the examples of fund_cli, and all that rows_pay has.
-FILES = {os.path.basename(path): path for path in glob.glob(os.path.join(TOP, "crates/rows_pay/data/*"))}
+# The files of each row: the examples of fund_cli, and all that rows_commands has.
+FILES = {os.path.basename(path): path for path in glob.glob(os.path.join(TOP, "crates/rows_commands/data/*"))}
 FILES.update((name, os.path.join(TOP, "crates/fund_cli/data", name)) for name in os.listdir(os.path.join(TOP, "crates/fund_cli/data")))
 FILES["report.txt"] = os.path.join(TOP, "crates/fund_cli/stdout")
 

@@ -1,0 +1,102 @@
+//! Each row is a label, a tip, a wallet and a request. It prints the label and then what a replacement of the payment that the
+//! request names is made from, or why there is none. The wallet has no blocks.
+
+ghost use Rattle.std.specs.Prelude.{◌<◌, IsSome};
+ghost use Rattle.payment_states.specs.BookOf.{IsBookOf};
+
+use crate::bump_lines::{fault_text, terms_text};
+use coin_book::Book;
+use fee_bump::{BumpTerms, bump_terms};
+use fund_base::Memory;
+use payment_states::{all_states, confirmed_without};
+use request_text::{Request, read_request};
+use row_books::book_of;
+use std::alloc::Global;
+use std::io;
+use wallet_text::{Wallet, read_wallet};
+
+/// The terms in lines.
+fn told(
+    alloc: Global,
+    book: &Book,
+    wallet: &Wallet,
+    tip: u32,
+    terms: &BumpTerms,
+) -> Result<String, Memory>
+    requires book { IsBookOf wallet.now book.now }
+    requires tip { tip < 4294967295 }
+{
+    let without = confirmed_without(alloc, book, wallet, tip, &terms.replaced)?;
+    let text = terms_text(alloc, terms, &without)?;
+    Ok(text)
+}
+
+/// What the request's payment comes to, by the wallet's book.
+fn by_book(
+    alloc: Global,
+    book: &Book,
+    wallet: &Wallet,
+    tip: u32,
+    request: &Request,
+) -> Result<String, Memory>
+    requires book { IsBookOf wallet.now book.now }
+    requires tip { tip < 4294967295 }
+    requires bump { IsSome request.now.bump }
+{
+    let states = all_states(alloc, book, wallet)?;
+    match bump_terms(alloc, book, wallet, &states, tip, request) {
+        Ok(terms) => told(alloc, book, wallet, tip, &terms),
+        Err(fault) => fault_text(alloc, fault),
+    }
+}
+
+/// What the request's payment comes to.
+fn by_wallet(
+    alloc: Global,
+    wallet: &Wallet,
+    tip: u32,
+    request: &Request,
+) -> Result<String, Memory> {
+    if tip == u32::MAX || request.bump.is_none() {
+        return Ok(String::from_str(alloc, "no tip or nothing to replace\n")?);
+    }
+    match book_of(alloc, wallet) {
+        Ok(book) => by_book(alloc, &book, wallet, tip, request),
+        Err(fault) => Ok(format!(in alloc; "{fault:?}\n")?),
+    }
+}
+
+/// The label, and then what a request comes to.
+fn answer(
+    alloc: Global,
+    label: &str,
+    tip: &str,
+    wallet: &str,
+    request: &str,
+) -> Result<String, Memory> {
+    let (Ok(tip), Ok(wallet), Ok(request)) = (
+        tip.parse::<u32>(),
+        read_wallet(alloc, wallet.as_bytes()),
+        read_request(alloc, request.as_bytes()),
+    ) else {
+        return Ok(format!(in alloc; "{label}: no wallet or no request\n")?);
+    };
+    let text = by_wallet(alloc, &wallet, tip, &request)?;
+    Ok(format!(in alloc; "{label}:\n{text}")?)
+}
+
+/// What a row comes to.
+fn row_text(alloc: Global, columns: &[&str]) -> Result<String, Memory> {
+    match columns {
+        [label, tip, wallet, request] => answer(alloc, label, tip, wallet, request),
+        _ => Ok(String::from_str(alloc, "no such row\n")?),
+    }
+}
+
+/// Prints what a row comes to.
+pub(crate) fn row(rt: &HostRuntime, columns: &[&str]) -> io::Result<()> {
+    match row_text(rt.alloc(), columns) {
+        Ok(text) => print!(rt; "{text}"),
+        Err(Memory) => println!(rt; "out of memory"),
+    }
+}

@@ -1,0 +1,39 @@
+//! Each row is a verb and its columns.
+//!
+//! - `text TEXT`: the saved position, and below it what is written of it, where that is another text; or where the bytes
+//!   leave the grammar
+//! - `resume TEXT JOB KIND LO HI WEIGHT ITEMS LETTERS TRIES`: where the search that goes on from a saved position stands
+//!   after so many tries, after these letters, JOB being the digest of the job now; or why it isn't resumed
+
+use crate::saved_lines::{fault_text, saved_text};
+use crate::saved_resumed;
+use fund_base::Memory;
+use row_bytes::{escaped, unescaped};
+use search_keep::{read_saved, write_saved};
+use std::alloc::Global;
+
+/// What a text comes to.
+fn told(alloc: Global, column: &str) -> Result<String, Memory> {
+    let bytes = unescaped(alloc, column.as_bytes())?;
+    let saved = match read_saved(alloc, bytes.as_slice()) {
+        Ok(saved) => saved,
+        Err(fault) => return fault_text(alloc, fault),
+    };
+    let mut out = String::from_str(alloc, "ok\t")?;
+    out.push_str(saved_text(alloc, &saved)?.as_str())?;
+    let written = write_saved(alloc, &saved)?;
+    if written.as_slice() != bytes.as_slice() {
+        out.push_str("\nwritten ")?;
+        out.push_str(escaped(alloc, written.as_slice())?.as_str())?;
+    }
+    Ok(out)
+}
+
+/// What the columns of a row come to.
+pub(crate) fn answer(alloc: Global, columns: &[&str]) -> Result<String, Memory> {
+    match columns {
+        ["text", text] => told(alloc, text),
+        ["resume", text, columns @ ..] => saved_resumed::told(alloc, text, columns),
+        _ => Ok(String::from_str(alloc, "no such row")?),
+    }
+}
