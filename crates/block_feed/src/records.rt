@@ -26,7 +26,9 @@ const MAGIC: [u8; 4] = [0xf9, 0xbe, 0xb4, 0xd9];
 /// The bytes of a record: the first eight, which are the magic and the block's length, and those of the block.
 #[derive(Drop)]
 pub struct Record {
+    /// The magic and the length of the block, eight bytes.
     pub head: Vec<u8>,
+    /// The bytes of the block.
     pub body: Vec<u8>,
 }
 

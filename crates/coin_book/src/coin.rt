@@ -22,6 +22,7 @@ pub struct Coin {
 /// A confirmed transaction that spends some outpoint.
 #[derive(Clone, Copy, Debug, PartialEq, Eq)]
 pub struct Spend {
+    /// Its txid.
     pub txid: Txid,
     /// The height at which it stands.
     pub height: u32,

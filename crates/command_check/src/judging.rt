@@ -29,7 +29,9 @@ use std::alloc::Global;
 /// A report, and the bytes of its log.
 #[derive(Drop)]
 pub struct Pair {
+    /// The report.
     pub report: Report,
+    /// The bytes of its log.
     pub log: Vec<u8>,
 }
 

@@ -23,7 +23,9 @@ const SCRIPT_LIMIT: usize = 16_777_216;
 /// A desk, and the text of a script.
 #[derive(Drop)]
 pub struct Start {
+    /// The desk, with no job open.
     pub desk: Desk,
+    /// The bytes of the script.
     pub text: Vec<u8>,
 }
 

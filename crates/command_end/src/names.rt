@@ -3,6 +3,8 @@
 /// The names of the files from which the coins are told.
 #[derive(Clone, Copy, Debug)]
 pub struct Sources<'a> {
+    /// The wallet file.
     pub wallet: &'a str,
+    /// The block file.
     pub blocks: &'a str,
 }

@@ -39,7 +39,9 @@ pub struct Texts {
 /// A run that goes on: its report, and its plan, which stands where the tries led.
 #[derive(Drop)]
 pub struct Left {
+    /// The bytes of the report, which says that tries are lacking.
     pub report: Vec<u8>,
+    /// The plan.
     pub plan: Plan,
 }
 

@@ -24,7 +24,9 @@ use std::alloc::Global;
 /// What the files of a payment hold.
 #[derive(Drop)]
 pub struct Inputs {
+    /// The wallet, with the book of its coins.
     pub held: Held,
+    /// The request.
     pub request: Request,
     /// What a replacement of the payment that the request names is made from, if it names one.
     pub terms: Option<BumpTerms>,

@@ -3,6 +3,7 @@
 /// The names of the files of a payment.
 #[derive(Clone, Copy, Debug)]
 pub struct Payment<'a> {
+    /// The request file.
     pub request: &'a str,
     /// The file that is written.
     pub log: &'a str,

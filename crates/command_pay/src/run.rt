@@ -19,8 +19,11 @@ use std::alloc::Global;
 /// What a run came to: its status, what it printed, and its log.
 #[derive(Debug, Drop)]
 pub struct Run {
+    /// Its status.
     pub status: Status,
+    /// The bytes that it printed.
     pub said: Vec<u8>,
+    /// The bytes of its log; none where it wrote none.
     pub log: Vec<u8>,
 }
 

@@ -33,9 +33,13 @@ use std::alloc::Global;
 /// log already.
 #[derive(Drop)]
 pub struct Left {
+    /// The bytes of the report, which says that tries are lacking.
     pub report: Vec<u8>,
+    /// The plan.
     pub plan: Plan,
+    /// The SHA-256 of what the job is made from.
     pub digest: [u8; 32],
+    /// What is kept of its log already.
     pub behind: Behind,
 }
 

@@ -26,8 +26,11 @@ use tx_codec::txid;
 /// A payment that is given out to be signed: its txid, the bytes of its PSBT, and the payment as it is remembered.
 #[derive(Drop)]
 pub struct Given {
+    /// The txid of its transaction.
     pub txid: Txid,
+    /// The bytes of its PSBT (BIP 174).
     pub psbt: Vec<u8>,
+    /// The payment as the desk remembers it.
     pub payment: Committed,
 }
 

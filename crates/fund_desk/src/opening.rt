@@ -25,7 +25,9 @@ use std::alloc::Global;
 /// A request, and its plan, of which no try is made yet.
 #[derive(Drop)]
 pub struct Made {
+    /// The request.
     pub request: Request,
+    /// Its plan.
     pub plan: Plan,
 }
 

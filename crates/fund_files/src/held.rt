@@ -24,8 +24,11 @@ pub struct Tip {
 /// A wallet, the book of what it and the blocks behind it hold, and where its chain ends.
 #[derive(Drop)]
 pub struct Held {
+    /// The wallet.
     pub wallet: Wallet,
+    /// The coins of the wallet, of the blocks and of pending transactions.
     pub book: Book,
+    /// The last block, or the wallet's where there is none.
     pub tip: Tip,
 }
 

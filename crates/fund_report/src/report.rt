@@ -7,6 +7,7 @@ use std::marker::Model;
 /// A coin that a payment spends.
 #[derive(Clone, Copy, Debug, PartialEq, Eq)]
 pub struct InLine {
+    /// The output that is spent.
     pub coin: OutPoint,
     /// Its value in satoshi.
     pub value: u64,
@@ -19,6 +20,7 @@ pub struct FundedReport {
     pub mark: Mark,
     /// The row of the ladder in which they were chosen; 0 where they weren't chosen.
     pub row: u8,
+    /// The stage at which they were chosen.
     pub stage: Stage,
     /// The tries of the whole job.
     pub tries: u64,

@@ -61,7 +61,9 @@ impl Model for Funds {
 /// What a payment is made from, and the steps of the run that chooses coins for it.
 #[derive(Drop)]
 pub struct Prepared {
+    /// What the payment is made from.
     pub funds: Funds,
+    /// The steps in the order in which they are taken.
     pub steps: Vec<Step>,
 }
 

@@ -14,7 +14,9 @@ use request_text::{Method, Request};
 /// A stage of a row, and whether it is the last one of its column.
 #[derive(Clone, Copy, Debug, PartialEq, Eq)]
 pub struct Turn {
+    /// The stage.
     pub stage: Stage,
+    /// Whether no other stage of its column stands behind it.
     pub last: bool,
 }
 

@@ -16,6 +16,7 @@ use std::alloc::Global;
 /// What a plan comes to that went on from a kept job, and what was kept of it.
 #[derive(Drop)]
 pub struct Resumed {
+    /// What the plan comes to.
     pub outcome: Outcome,
     /// In how many parts its log was kept.
     pub parts: u32,

@@ -17,6 +17,7 @@ use std::alloc::Global;
 /// What is kept of a log already: its first bytes, in so many parts. None is kept of a plan that is saved for the first time.
 #[derive(Clone, Copy, Debug)]
 pub struct Behind {
+    /// How many parts are kept.
     pub parts: u32,
     /// How many bytes these have together.
     pub length: u64,

@@ -52,7 +52,9 @@ impl<'a> Model for Groups<'a> {
 /// What a search sees of a row's pool: beside the item of each group how many coins it has.
 #[derive(Debug, Drop)]
 pub struct RowItems {
+    /// The item of each group, in the order of the pool.
     pub items: Vec<Item>,
+    /// How many coins each group has.
     pub sizes: Vec<u8>,
 }
 

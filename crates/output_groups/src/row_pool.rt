@@ -20,7 +20,9 @@ use std::marker::Model;
 /// The groups of a row's pool, in order, and beside each, at the same place, the item that a search sees of it.
 #[derive(Debug, Drop)]
 pub struct RowPool {
+    /// The item of each group.
     pub items: Vec<Item>,
+    /// The groups in the order of the pool.
     pub groups: Vec<Group>,
 }
 

@@ -37,6 +37,7 @@ pub struct Names {
 /// What the words of `pay` ask for.
 #[derive(Debug, Drop)]
 pub struct Asked {
+    /// The files that are read and written.
     pub names: Names,
     /// Who is paid, in the order of the words: at least one.
     pub payments: Vec<Payment>,

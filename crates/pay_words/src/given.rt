@@ -12,6 +12,7 @@ use std::alloc::Global;
 /// A flag that was given.
 #[derive(Clone, Copy, Debug)]
 pub struct Given {
+    /// Which flag it is.
     pub flag: Flag,
     /// The place of its value among the words, or of the flag itself where it takes none.
     pub place: usize,

@@ -157,7 +157,9 @@ fn count_all(
 /// How many counted ancestors and descendants each place has, itself included; where it is counted itself.
 #[derive(Drop)]
 pub struct Counts {
+    /// Its counted ancestors, itself included.
     pub ancestors: Vec<u32>,
+    /// Its counted descendants, itself included.
     pub descendants: Vec<u32>,
 }
 

@@ -23,9 +23,13 @@ use wallet_text::Wallet;
 /// descendants it has, itself included.
 #[derive(Drop)]
 pub struct Facts {
+    /// Whether the transaction is Pending.
     pub pending: Vec<bool>,
+    /// Whether it is safe.
     pub safe: Vec<bool>,
+    /// Its Pending ancestors.
     pub ancestors: Vec<u32>,
+    /// Its Pending descendants.
     pub descendants: Vec<u32>,
 }
 

@@ -25,6 +25,8 @@ pub enum State {
 /// A transaction of the pending list and its state.
 #[derive(Clone, Copy, Debug, PartialEq, Eq)]
 pub struct Payment {
+    /// The txid of the transaction.
     pub txid: Txid,
+    /// What became of it.
     pub state: State,
 }

@@ -1,5 +1,5 @@
-//! Files of which two are held in memory, a request that was made and the log; files that are never written over; and files of
-//! which it is told how far they are read.
+//! Files of which two are held in memory, a request that was made and the log; files of the system that are opened as new ones
+//! alone where they are written; and files of which it is told how far they are read.
 #![tactic(auto)]
 
 mod held;

@@ -1,4 +1,4 @@
-//! The files of the system, none of which is written over.
+//! The files of the system. A write asks for a new file.
 
 ghost use Rattle.std.specs.Prelude.{◌≡◌, ◌≢◌, ◌≤◌, length, IfOk, OnErr, OnOk, IsErrOf, IsTrue, Err, Ok};
 ghost use Rattle.std.specs.Fs.{asks_create_new, asks_write};

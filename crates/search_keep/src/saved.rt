@@ -13,6 +13,7 @@ pub struct Saved {
     pub tries: u64,
     /// The row of the ladder.
     pub row: u8,
+    /// The stage of that row.
     pub stage: Stage,
     /// The places that the search has chosen.
     pub chosen: Places,

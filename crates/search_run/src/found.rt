@@ -17,6 +17,7 @@ use std::marker::Model;
 pub struct Found {
     /// The row of the ladder.
     pub row: u8,
+    /// The stage of that row.
     pub stage: Stage,
     /// Its places of the pool, rising.
     pub places: Places,
