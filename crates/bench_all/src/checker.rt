@@ -5,6 +5,7 @@ use fund_base::Memory;
 use log_checker::{Checker, LogFault};
 use pick_problem::{Item, Kind, Problem, are_items};
 use std::alloc::Global;
+use std::rc::Rc;
 use std::time::Instant;
 use std::{fs, io};
 
@@ -62,6 +63,7 @@ fn problem(alloc: Global, head: &str) -> Result<Option<Problem>, Memory> {
     if !are_items(items.as_slice()) || lo < 1 || lo > hi {
         return Ok(None);
     }
+    let items = Rc::new(alloc, items)?;
     Ok(match kind {
         Kind::Changeless => Some(Problem::new(items, lo, hi, limit, kind)),
         Kind::Lean => Some(Problem::new(items, lo, lo, limit, kind)),

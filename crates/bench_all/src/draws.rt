@@ -10,6 +10,7 @@ use pick_problem::{Item, Kind, Problem, are_items};
 use random_draw::draw;
 use std::alloc::Global;
 use std::io;
+use std::rc::Rc;
 use std::time::Instant;
 
 /// Items of falling value, each of 272 weight units.
@@ -33,6 +34,7 @@ fn problem(alloc: Global, count: u32, lo: u64, limit: u64) -> Result<Option<Prob
     if lo == 0 || !are_items(items.as_slice()) {
         return Ok(None);
     }
+    let items = Rc::new(alloc, items)?;
     Ok(Some(Problem::new(items, lo, lo, limit, Kind::Lean)))
 }
 

@@ -18,6 +18,7 @@ use output_groups::{Row, RowItems};
 use pick_problem::{Item, Kind, Problem};
 use search_run::Step;
 use std::alloc::Global;
+use std::rc::Rc;
 
 /// How many coins there are together, by how many each group has.
 fn coins(sizes: &[u8]) -> u64
@@ -34,10 +35,10 @@ fn coins(sizes: &[u8]) -> u64
 }
 
 /// The search for a payment without change.
-fn plain_problem(terms: &Terms, items: Vec<Item>) -> Problem
+fn plain_problem(terms: &Terms, items: Rc<Vec<Item>>) -> Problem
     requires terms { AreSearchable terms.now }
-    requires items { AreItems items.items }
-    ensures value { result ≡ problem_by terms.now items.items Stage.Changeless }
+    requires items { AreItems items.value.items }
+    ensures value { result ≡ problem_by terms.now items.value.items Stage.Changeless }
     ensures problem { IsProblem result }
 {
     let problem = Problem::new(
@@ -52,11 +53,11 @@ fn plain_problem(terms: &Terms, items: Vec<Item>) -> Problem
 }
 
 /// The search for a payment with change, from an amount on.
-fn change_problem(items: Vec<Item>, lo: i128, most_weight: u64) -> Problem
+fn change_problem(items: Rc<Vec<Item>>, lo: i128, most_weight: u64) -> Problem
     requires some { pos 1 ≤ℤ lo }
     requires fits { lo ≤ℤ pos 18_446_744_073_709_551_615 }
-    requires items { AreItems items.items }
-    ensures value { result ≡ record { items = items.items; lo = unsigned_abs lo; hi = unsigned_abs lo; most_weight = most_weight; kind = Kind.Lean } }
+    requires items { AreItems items.value.items }
+    ensures value { result ≡ record { items = items.value.items; lo = unsigned_abs lo; hi = unsigned_abs lo; most_weight = most_weight; kind = Kind.Lean } }
     ensures problem { IsProblem result }
 {
     let lo = lo as u64;
@@ -66,10 +67,10 @@ fn change_problem(items: Vec<Item>, lo: i128, most_weight: u64) -> Problem
 }
 
 /// What is looked for at a stage of a row.
-fn problem(terms: &Terms, items: Vec<Item>, stage: Stage) -> Problem
+fn problem(terms: &Terms, items: Rc<Vec<Item>>, stage: Stage) -> Problem
     requires terms { AreSearchable terms.now }
-    requires items { AreItems items.items }
-    ensures value { result ≡ problem_by terms.now items.items stage }
+    requires items { AreItems items.value.items }
+    ensures value { result ≡ problem_by terms.now items.value.items stage }
     ensures problem { IsProblem result }
 {
     match stage {
@@ -97,28 +98,36 @@ fn ending(terms: &Terms, stage: Stage) -> u64
     }
 }
 
-/// The step of a row at a stage, by the row's terms.
-fn step(terms: &Terms, row: &Row, seen: RowItems, turn: &Turn) -> Step
-    requires terms { AreSearchable terms.now }
-    requires seen { AreSearched seen.items.items seen.sizes.items }
-    requires stage { HasSteps turn.now.stage }
-    ensures value { result ≡ step_with terms.now row.now.number seen.items.items seen.sizes.items turn.now }
-    ensures step { IsStep result }
-{
-    let RowItems { items, sizes } = seen;
-    let problem = problem(terms, items, turn.stage);
-    let ending = ending(terms, turn.stage);
-    Step::new(row.number, turn.stage, problem, ending, sizes, turn.last)
+/// What all steps of a row share: the items of its pool, and how many coins each of its groups has.
+#[derive(Drop)]
+struct Shared {
+    items: Rc<Vec<Item>>,
+    sizes: Rc<Vec<u8>>,
 }
 
-/// A copy of what a search sees of a row's pool.
-fn copied(alloc: Global, seen: &RowItems) -> Result<RowItems, Memory>
-    ensures items { IfOk result (λ s. s.items.items ≡ seen.now.items.items) }
-    ensures sizes { IfOk result (λ s. s.sizes.items ≡ seen.now.sizes.items) }
+/// What a search sees of a row's pool, for steps to share.
+fn share(alloc: Global, seen: RowItems) -> Result<Shared, Memory>
+    ensures items { IfOk result (λ s. s.items.value.items ≡ seen.items.items) }
+    ensures sizes { IfOk result (λ s. s.sizes.value.items ≡ seen.sizes.items) }
 {
-    let items = Vec::from_slice(alloc, &seen.items)?;
-    let sizes = Vec::from_slice(alloc, &seen.sizes)?;
-    Ok(RowItems { items, sizes })
+    let items = Rc::new(alloc, seen.items)?;
+    let sizes = Rc::new(alloc, seen.sizes)?;
+    Ok(Shared { items, sizes })
+}
+
+/// The step of a row at a stage, by the row's terms.
+fn step(terms: &Terms, row: &Row, seen: &Shared, turn: &Turn) -> Result<Step, Memory>
+    requires terms { AreSearchable terms.now }
+    requires seen { AreSearched seen.now.items.value.items seen.now.sizes.value.items }
+    requires stage { HasSteps turn.now.stage }
+    ensures value { IfOk result (λ s. s ≡ step_with terms.now row.now.number seen.now.items.value.items seen.now.sizes.value.items turn.now) }
+    ensures step { IfOk result IsStep }
+{
+    let items = seen.items.clone()?;
+    let sizes = seen.sizes.clone()?;
+    let problem = problem(terms, items, turn.stage);
+    let ending = ending(terms, turn.stage);
+    Ok(Step::new(row.number, turn.stage, problem, ending, sizes, turn.last))
 }
 
 /// The terms of a payment from the presets and from a row's pool: all coins of both count.
@@ -139,29 +148,28 @@ fn row_terms(rates: &Rates, load: &Load, seen: &RowItems) -> Terms
     )
 }
 
-/// Adds steps of a row, each with a copy of what a search sees of its pool.
-fn add_copies(
-    alloc: Global,
+/// Adds steps of a row, which share what a search sees of its pool.
+fn add_each(
     terms: &Terms,
     row: &Row,
-    seen: &RowItems,
+    seen: &Shared,
     turns: &[Turn],
     steps: &mut Vec<Step>,
 ) -> Result<(), Memory>
     requires terms { AreSearchable terms.now }
-    requires seen { AreSearched seen.now.items.items seen.now.sizes.items }
+    requires seen { AreSearched seen.now.items.value.items seen.now.sizes.value.items }
     requires stages { All (λ (u : Turn). HasSteps u.stage) turns.now }
-    ensures steps { OnOk result (steps.new.items ≡ steps.old.items ++ map (step_with terms.now row.now.number seen.now.items.items seen.now.sizes.items) turns.now) }
+    ensures steps { OnOk result (steps.new.items ≡ steps.old.items ++ map (step_with terms.now row.now.number seen.now.items.value.items seen.now.sizes.value.items) turns.now) }
     ensures fine { OnOk result (AreSteps steps.old.items → AreSteps steps.new.items) }
 {
     for turn in turns {
-        let copy = copied(alloc, seen)?;
-        steps.push(step(terms, row, copy, turn))?;
+        let step = step(terms, row, seen, turn)?;
+        steps.push(step)?;
     }
     Ok(())
 }
 
-/// Adds the steps of a row, by what a search sees of its pool. The last one takes that itself.
+/// Adds the steps of a row, by what a search sees of its pool, which they share.
 pub fn add_steps(
     alloc: Global,
     rates: &Rates,
@@ -176,11 +184,10 @@ pub fn add_steps(
     ensures steps { OnOk result (steps.new.items ≡ steps.old.items ++ steps_by rates.now load.now turns.now row.now.number seen.items.items seen.sizes.items) }
     ensures fine { OnOk result (AreSteps steps.old.items → AreSteps steps.new.items) }
 {
-    let Some((last, front)) = turns.split_last() else {
+    if turns.is_empty() {
         return Ok(());
-    };
+    }
     let terms = row_terms(rates, load, &seen);
-    add_copies(alloc, &terms, row, &seen, front, steps)?;
-    steps.push(step(&terms, row, seen, last))?;
-    Ok(())
+    let seen = share(alloc, seen)?;
+    add_each(&terms, row, &seen, turns, steps)
 }

@@ -88,7 +88,7 @@ impl Claim {
         }
         let score = answer_score(problem, answer);
         Ok(Claim {
-            problem: problem.copy(alloc)?,
+            problem: problem.copy()?,
             tails: Tails::new(alloc, problem)?,
             plain_costs: has_plain_costs(problem),
             answer: copied(alloc, answer)?,

@@ -6,13 +6,13 @@ ghost use Rattle.pick_problem.specs.Problem.{AreBounds, IsProblem};
 
 use crate::item::{Item, Kind};
 use fund_base::Memory;
-use std::alloc::Global;
 use std::marker::Model;
+use std::rc::Rc;
 
-/// A pool of items, and what a selection of its places is to reach.
+/// A pool of items, and what a selection of its places is to reach. Problems may share their items.
 #[derive(Debug, Drop)]
 pub struct Problem {
-    items: Vec<Item>,
+    items: Rc<Vec<Item>>,
     lo: u64,
     hi: u64,
     most_weight: u64,
@@ -24,20 +24,20 @@ impl Model for Problem {
 
     ghost Value = { PlainProblem };
 
-    ghost view = { λ p. record { items = p.items.items; lo = p.lo; hi = p.hi; most_weight = p.most_weight; kind = p.kind } };
+    ghost view = { λ p. record { items = p.items.value.items; lo = p.lo; hi = p.hi; most_weight = p.most_weight; kind = p.kind } };
 
-    ghost invariant = { λ p. IsProblem (record { items = p.items.items; lo = p.lo; hi = p.hi; most_weight = p.most_weight; kind = p.kind }) };
+    ghost invariant = { λ p. IsProblem (record { items = p.items.value.items; lo = p.lo; hi = p.hi; most_weight = p.most_weight; kind = p.kind }) };
 }
 
 impl Problem {
     /// The problem of these items, in the order and the ranges of [`crate::are_items`]. Values in satoshi from `lo` on
     /// are looked for, for [`Kind::Changeless`] up to `hi`, and weights in weight units up to `most_weight`. `lo` is
     /// at least 1 and `hi` at least `lo`; for [`Kind::Lean`] `hi` isn't used, and equals `lo`.
-    pub fn new(items: Vec<Item>, lo: u64, hi: u64, most_weight: u64, kind: Kind) -> Problem
-        requires items { AreItems items.items }
+    pub fn new(items: Rc<Vec<Item>>, lo: u64, hi: u64, most_weight: u64, kind: Kind) -> Problem
+        requires items { AreItems items.value.items }
         requires some { 1 ≤ lo }
         requires bounds { AreBounds kind lo hi }
-        ensures { result ≡ record { items = items.items; lo = lo; hi = hi; most_weight = most_weight; kind = kind } }
+        ensures { result ≡ record { items = items.value.items; lo = lo; hi = hi; most_weight = most_weight; kind = kind } }
     {
         Problem {
             items,
@@ -48,11 +48,12 @@ impl Problem {
         }
     }
 
-    /// A copy. It equals the problem. The error is out of memory.
-    pub fn copy(&self, alloc: Global) -> Result<Problem, Memory>
+    /// A copy, which shares the items. It equals the problem. It takes no memory: the error is that the items have 2^64 - 1
+    /// owners.
+    pub fn copy(&self) -> Result<Problem, Memory>
         ensures { IfOk result (λ p. p ≡ self.now) }
     {
-        let items = Vec::from_slice(alloc, self.items.as_slice())?;
+        let items = self.items.clone()?;
         Ok(Problem {
             items,
             lo: self.lo,

@@ -5,6 +5,7 @@
 use fund_base::Memory;
 use pick_problem::{Item, Kind, Problem, are_items};
 use std::alloc::Global;
+use std::rc::Rc;
 
 /// The item of a word `VALUE/WEIGHT/COST`.
 fn item(word: &str) -> Option<Item> {
@@ -33,17 +34,25 @@ fn items_in(alloc: Global, column: &str) -> Result<Option<Vec<Item>>, Memory> {
 }
 
 /// The problem of these items and numbers. `None` where there can't be one.
-fn problem_of(items: Vec<Item>, kind: &str, lo: u64, hi: u64, most_weight: u64) -> Option<Problem> {
+fn problem_of(
+    alloc: Global,
+    items: Vec<Item>,
+    kind: &str,
+    lo: u64,
+    hi: u64,
+    most_weight: u64,
+) -> Result<Option<Problem>, Memory> {
     if !are_items(&items) || lo < 1 {
-        return None;
+        return Ok(None);
     }
-    match kind {
+    let items = Rc::new(alloc, items)?;
+    Ok(match kind {
         "changeless" if lo <= hi => {
             Some(Problem::new(items, lo, hi, most_weight, Kind::Changeless))
         }
         "lean" if lo == hi => Some(Problem::new(items, lo, hi, most_weight, Kind::Lean)),
         _ => None,
-    }
+    })
 }
 
 /// The problem of five columns: `changeless` or `lean`, the least and the greatest value, the limit of weight, the
@@ -58,7 +67,7 @@ pub fn problem_in(alloc: Global, columns: &[&str]) -> Result<Option<Problem>, Me
     let Some(items) = items_in(alloc, items)? else {
         return Ok(None);
     };
-    Ok(problem_of(items, kind, lo, hi, most_weight))
+    problem_of(alloc, items, kind, lo, hi, most_weight)
 }
 
 /// The places of a column, with blanks between them; `-` is none. A word that is no place is read as the greatest

@@ -14,7 +14,7 @@ pub fn digest_text(alloc: Global, columns: &[&str]) -> Result<String, Memory> {
     let Some(problem) = problem_in(alloc, columns)? else {
         return no_problem(alloc);
     };
-    let problem = problem.copy(alloc)?;
+    let problem = problem.copy()?;
     Ok(hex::encode(alloc, problem.digest().as_slice())?)
 }
 
@@ -62,7 +62,7 @@ pub fn sums_text(alloc: Global, columns: &[&str], places: &str) -> Result<String
         return no_problem(alloc);
     };
     let places = places_in(alloc, places)?;
-    sums_of(alloc, &problem.copy(alloc)?, &places)
+    sums_of(alloc, &problem.copy()?, &places)
 }
 
 /// Whether the places of the first column come before those of the second.

@@ -10,6 +10,7 @@ use pick_problem::{Kind, Problem};
 use row_columns::problem_in;
 use search_run::Step;
 use std::alloc::Global;
+use std::rc::Rc;
 
 /// The stage of a word.
 fn stage_in(word: &str) -> Option<Stage> {
@@ -58,7 +59,7 @@ fn step_of(
     stage: Stage,
     problem: Problem,
     ending: u64,
-    sizes: Vec<u8>,
+    sizes: Rc<Vec<u8>>,
     last: bool,
 ) -> Option<Step> {
     let items = problem.items().len();
@@ -80,7 +81,7 @@ fn step_in(alloc: Global, text: &str) -> Result<Option<Step>, Memory> {
     let Some(problem) = problem_in(alloc, problem)? else {
         return Ok(None);
     };
-    let sizes = sizes_in(alloc, sizes)?;
+    let sizes = Rc::new(alloc, sizes_in(alloc, sizes)?)?;
     let (Ok(row), Ok(ending), Some(stage)) = (row.parse(), ending.parse(), stage_in(stage)) else {
         return Ok(None);
     };

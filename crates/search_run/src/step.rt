@@ -6,16 +6,18 @@ ghost use Rattle.search_run.specs.Step.{IsStep, is_drawn};
 use closing_log::Stage;
 use pick_problem::Problem;
 use std::marker::Model;
+use std::rc::Rc;
 
 /// A search or a draw of a problem, in a row of the ladder and a stage. Runs make one step after another. Steps up to
-/// a last one are a column: their results are compared with each other.
+/// a last one are a column: their results are compared with each other. Steps may share their sizes, and the items of
+/// their problems.
 #[derive(Debug, Drop)]
 pub struct Step {
     row: u8,
     stage: Stage,
     problem: Problem,
     ending: u64,
-    sizes: Vec<u8>,
+    sizes: Rc<Vec<u8>>,
     last: bool,
 }
 
@@ -24,9 +26,9 @@ impl Model for Step {
 
     ghost Value = { PlainStep };
 
-    ghost view = { λ s. record { row = s.row; stage = s.stage; problem = s.problem; ending = s.ending; sizes = s.sizes.items; last = s.last } };
+    ghost view = { λ s. record { row = s.row; stage = s.stage; problem = s.problem; ending = s.ending; sizes = s.sizes.value.items; last = s.last } };
 
-    ghost invariant = { λ s. IsStep (record { row = s.row; stage = s.stage; problem = s.problem; ending = s.ending; sizes = s.sizes.items; last = s.last }) };
+    ghost invariant = { λ s. IsStep (record { row = s.row; stage = s.stage; problem = s.problem; ending = s.ending; sizes = s.sizes.value.items; last = s.last }) };
 }
 
 impl Step {
@@ -39,7 +41,7 @@ impl Step {
         stage: Stage,
         problem: Problem,
         ending: u64,
-        sizes: Vec<u8>,
+        sizes: Rc<Vec<u8>>,
         last: bool,
     ) -> Step
         requires { IsStep (record {
@@ -47,7 +49,7 @@ impl Step {
           stage = stage;
           problem = problem;
           ending = ending;
-          sizes = sizes.items;
+          sizes = sizes.value.items;
           last = last;
         }) }
         ensures { result ≡ record {
@@ -55,7 +57,7 @@ impl Step {
           stage = stage;
           problem = problem;
           ending = ending;
-          sizes = sizes.items;
+          sizes = sizes.value.items;
           last = last;
         } }
     {

@@ -45,7 +45,7 @@ impl Prepared {
         let tails = Tails::new(alloc, problem)?;
         let plain_costs = are_plain(problem.items());
         Ok(Prepared {
-            problem: problem.copy(alloc)?,
+            problem: problem.copy()?,
             tails,
             plain_costs,
         })
