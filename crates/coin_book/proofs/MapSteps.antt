@@ -59,6 +59,36 @@ fault_two base coins o p b room is told left =
     let free = ap (λ n. nat_lt n 100_000) (length-append (keys_of base) (keys_of coins)) ∙ (λ k. nat_lt (key_count base k + key_count coins k) 100_000) ∙ sym left in
     fault_one (keys_of base ++ keys_of coins) o ∙ (λ k. cond (there k) (Some (RepeatCoin o)) (cond (free k) None (Some Full)))
 
+-- the fault of one coin, by where its outpoint stands
+pub fault_free : (base coins : List (OutPoint × Held)) (o p : OutPoint) → p ≡ o → list_any (same_outpoint p) (keys_of base) ≡ false → lookup (same_outpoint p) coins ≡ None → nat_lt (length base + length coins) 100_000 ≡ true
+    → fault_behind (keys_of base ++ keys_of coins) (o ∷ []) ≡ None
+fault_free base coins o p is apart none room =
+    let gone : list_any (same_outpoint p) (keys_of coins) ≡ false = sym (is_some-lookup (same_outpoint p) coins) ∙ ap is_some none in
+    fault_two base coins o p false true is (sym (λ k. apart k || gone k)) (sym room)
+
+pub fault_before : (base coins : List (OutPoint × Held)) (o p : OutPoint) → p ≡ o → list_any (same_outpoint p) (keys_of base) ≡ true → fault_behind (keys_of base ++ keys_of coins) (o ∷ []) ≡ Some (RepeatCoin p)
+fault_before base coins o p is there =
+    fault_two base coins o p true (nat_lt (length base + length coins) 100_000) is (sym (ap (λ (b : Bool). b || list_any (same_outpoint p) (keys_of coins)) there)) refl
+    ∙ ap (λ (q : OutPoint). Some (RepeatCoin q)) (sym is)
+
+pub fault_beside : (base coins : List (OutPoint × Held)) (o p : OutPoint) → p ≡ o → list_any (same_outpoint p) (keys_of base) ≡ false → is_some (lookup (same_outpoint p) coins) ≡ true → fault_behind (keys_of base ++ keys_of coins) (o ∷ []) ≡ Some (RepeatCoin p)
+fault_beside base coins o p is apart there =
+    let here : list_any (same_outpoint p) (keys_of coins) ≡ true = sym (is_some-lookup (same_outpoint p) coins) ∙ there in
+    fault_two base coins o p true (nat_lt (length base + length coins) 100_000) is (sym (λ k. apart k || here k)) refl
+    ∙ ap (λ (q : OutPoint). Some (RepeatCoin q)) (sym is)
+
+pub fault_full : (base coins : List (OutPoint × Held)) (o p : OutPoint) → p ≡ o → nat_lt (length base + length coins) 100_000 ≡ false
+    → fault_behind (keys_of base ++ keys_of coins) (o ∷ []) ≡ Some (cond (list_any (same_outpoint p) (keys_of base) || list_any (same_outpoint p) (keys_of coins)) (RepeatCoin p) Full)
+fault_full base coins o p is full =
+    let there = list_any (same_outpoint p) (keys_of base) || list_any (same_outpoint p) (keys_of coins) in
+    fault_two base coins o p there false is refl (sym full)
+    ∙ ap (λ (q : OutPoint). cond there (Some (RepeatCoin q)) (Some Full)) (sym is)
+    ∙ by there
+  where
+    by : (b : Bool) → cond b (Some (RepeatCoin p)) (Some Full) ≡ Some (cond b (RepeatCoin p) Full)
+    by true = refl
+    by false = refl
+
 or_none : (a b : Bool) → (a || b) ≡ false → b ≡ false
 or_none true b e = absurd (true≢false e)
 or_none false b e = e
@@ -154,6 +184,11 @@ fault_among before xs ys e here = fault_more before xs ys ∙ ap (λ (r : Option
 pub new_list : (b : Bool) (old list given : List Spend) → (b ≡ true → old ≡ []) → given ≡ list → cond b given old ≡ old ++ cond b list []
 new_list true old list given none is = is ∙ sym (ap (λ (l : List Spend). l ++ list) (none refl))
 new_list false old list given none is = sym (append-nil old)
+
+-- a list that is written with more behind it
+pub more_list : (b : Bool) (old list given : List Spend) → (b ≡ true → given ≡ old ++ list) → cond b given old ≡ old ++ cond b list []
+more_list true old list given is = is refl
+more_list false old list given is = sym (append-nil old)
 
 -- a list that is written again
 pub same_list : (b : Bool) (old given : List Spend) → (b ≡ true → given ≡ old) → cond b given old ≡ old

@@ -1,6 +1,7 @@
 -- What a book shows of what it holds.
 use Rattle.std.proofs.Common.{◌≡◌, ◌∙◌, ℕ, zero, suc, ◌+◌, ◌-◌, ◌<◌, ◌≤◌, Bool, true, false, cond, List, [], ◌∷◌, ◌++◌, length, map, Option, Some, None, refl, sym, ap, arith}
-use Rattle.std.specs.Prelude.{slice_get, find, option_map}
+use Rattle.std.specs.Prelude.{slice_get, find, option_map, unwrap_or}
+use Rattle.std.proofs.lemmas.Option.{slice_get-map}
 use Rattle.std.specs.Option.{option_or}
 use Rattle.std.specs.Map.{keys_of, lookup}
 use Rattle.std.proofs.lemmas.List.{length-append, length-map, map-append}
@@ -94,3 +95,13 @@ parent_shown h es ps o c w =
     (λ k. option_or (maker_is o (confirmed_made h) es c k) (maker_is o (pending_made h) ps w k))
     ∙ sym (map_or (find (λ (m : Made). same_outpoint o m.coin.coin) (confirmed_made h)) (find (λ (m : Made). same_outpoint o m.coin.coin) (pending_made h)))
     ∙ sym (ap (λ (f : Option Made). option_map (λ (m : Made). m.maker) f) (find-append (λ (m : Made). same_outpoint o m.coin.coin) (confirmed_made h) (pending_made h)))
+
+-- an entry stands under the outpoint of its coin
+pub own_key : (es : List (OutPoint × Held)) (i : ℕ) (k : OutPoint) (h : Held) → keys_of es ≡ points (map made_at es) → slice_get es i ≡ Some (k, h) → k ≡ h.coin.coin
+own_key es i k h keys at =
+    let left : slice_get (keys_of es) i ≡ Some k = slice_get-map (λ (e : OutPoint × Held). e.0) es i ∙ ap (option_map (λ (e : OutPoint × Held). e.0)) at in
+    let right : slice_get (points (map made_at es)) i ≡ Some h.coin.coin =
+    slice_get-map (λ (m : Made). m.coin.coin) (map made_at es) i
+    ∙ ap (option_map (λ (m : Made). m.coin.coin)) (slice_get-map made_at es i ∙ ap (option_map made_at) at)
+    in
+    ap (λ (o : Option OutPoint). unwrap_or o k) (sym left ∙ ap (λ (ps : List OutPoint). slice_get ps i) keys ∙ right)

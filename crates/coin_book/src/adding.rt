@@ -1,6 +1,6 @@
 //! Transactions added to a ledger.
 
-ghost use Rattle.std.specs.Prelude.{ℕ, ◌≡◌, ◌+◌, ◌<◌, ◌^◌, ◌++◌, ◌∷◌, [], IfOk, IfSome, List, OnErr, OnOk, Some, bytes_eq, false, is_some, length, map, if◌then◌else◌};
+ghost use Rattle.std.specs.Prelude.{ℕ, ◌≡◌, ◌+◌, ◌<◌, ◌^◌, ◌++◌, ◌∷◌, [], IfOk, IfSome, List, OnErr, OnOk, Some, bytes_eq, false, is_some, length, map, not, if◌then◌else◌};
 ghost use Rattle.std.specs.Map.{lookup};
 ghost use Rattle.fund_base.specs.declared.outpoint.OutPoint.{OutPoint};
 ghost use Rattle.tx_codec.specs.Txid.{txid_of};
@@ -17,6 +17,7 @@ use crate::ledger::{Ledger, Weights, add_coins, add_spends};
 use crate::making::held_in;
 use fund_base::{Memory, Txid};
 use indexmap::IndexMap;
+use indexmap::map::Entry;
 use std::alloc::Global;
 use std::rc::Rc;
 use tx_codec::{Tx, TxIn};
@@ -31,14 +32,23 @@ fn has_height(heights: &IndexMap<Txid, u32>, txid: &Txid) -> bool
     heights.contains_key(txid)
 }
 
-impl Ledger {
-    /// Whether a transaction of this txid stands here or in the other ledger.
-    fn is_known(&self, base: &Ledger, txid: &Txid) -> bool
-        ensures { result ≡ is_known base.now self.now txid.now }
-    {
-        has_height(&base.heights, txid) || has_height(&self.heights, txid)
+/// Keeps the height of a transaction of this txid, unless the txid has one. Gives whether it had none: only then does it
+/// take memory.
+fn add_height(heights: &mut IndexMap<Txid, u32>, txid: Txid, height: u32) -> Result<bool, Memory>
+    ensures fresh { IfOk result (λ fresh. fresh ≡ not (is_some (lookup (bytes_eq txid) heights.old.entries))) }
+    ensures short { OnErr result (is_some (lookup (bytes_eq txid) heights.old.entries) ≡ false) }
+    ensures heights { (t : List ℕ) → OnOk result (lookup (bytes_eq t) heights.new.entries ≡ (if is_some (lookup (bytes_eq txid) heights.old.entries) then lookup (bytes_eq t) heights.old.entries else if bytes_eq txid t then Some height else lookup (bytes_eq t) heights.old.entries)) }
+{
+    match heights.entry(txid)? {
+        Entry::Vacant(place) => {
+            place.insert(height);
+            Ok(true)
+        }
+        Entry::Occupied(_) => Ok(false),
     }
+}
 
+impl Ledger {
     /// Adds the height and the spends of a transaction of this txid, unless one stands here or in the other ledger: then
     /// it takes no memory.
     fn add_spender(
@@ -53,17 +63,20 @@ impl Ledger {
         ensures heights { (t : List ℕ) → OnOk result (lookup (bytes_eq t) self.new.heights.entries ≡ (if is_known base.now self.old spend.now.txid then lookup (bytes_eq t) self.old.heights.entries else if bytes_eq spend.now.txid t then Some spend.now.height else lookup (bytes_eq t) self.old.heights.entries)) }
         ensures spends { (o : OutPoint) → OnOk result (spends_in self.new.spends.entries o ≡ spends_in self.old.spends.entries o ++ (if is_known base.now self.old spend.now.txid then [] else if has_input o inputs.now then spend.now ∷ [] else [])) }
     {
-        if self.is_known(base, &spend.txid) {
+        if has_height(&base.heights, &spend.txid) {
             return Ok(());
         }
-        self.heights.insert(spend.txid, spend.height)?;
-        add_spends(alloc, &mut self.spends, inputs, spend)?;
-        Ok(())
+        let fresh = add_height(&mut self.heights, spend.txid, spend.height)?;
+        if fresh {
+            add_spends(alloc, &mut self.spends, inputs, spend)
+        } else {
+            Ok(())
+        }
     }
 
     /// Adds the transaction that stands after these and those of `base`, with its txid, height and place. Its coins share
-    /// the one that is shared, if there is one, and otherwise a copy of it. RepeatCoin or Full comes exactly where an outpoint would be a coin twice or a coin be number 100,001, by the first coin of
-    /// which this is so.
+    /// the one that is shared, if there is one, and otherwise a copy of it. RepeatCoin or Full comes exactly where an
+    /// outpoint would be a coin twice or a coin be number 100,001, by the first coin of which this is so.
     pub fn add(
         &mut self,
         alloc: Global,

@@ -1,7 +1,7 @@
 //! The book of coins.
 
-ghost use Rattle.std.specs.Prelude.{◌≡◌, ◌≢◌, All, Err, IfErr, IfOk, None, OnErr, OnOk, length, map, option_map, slice_get};
-ghost use Rattle.std.specs.Map.{lookup};
+ghost use Rattle.std.specs.Prelude.{◌≡◌, ◌≢◌, All, Err, IfErr, IfOk, IfSome, None, OnErr, OnOk, Some, length, map, option_map, slice_get};
+ghost use Rattle.std.specs.Map.{keys_of, lookup};
 ghost use Rattle.std.specs.Option.{option_copied};
 ghost use Rattle.fund_base.specs.Outpoints.{same_outpoint};
 ghost use Rattle.fund_base.specs.declared.outpoint.OutPoint.{OutPoint};
@@ -10,8 +10,9 @@ ghost use Rattle.tx_codec.specs.TransactionText.{IsTransaction};
 ghost use Rattle.tx_codec.specs.Txid.{txid_of};
 ghost use Rattle.coin_book.specs.AtOutpoint.{coin_under};
 ghost use Rattle.coin_book.specs.Coins.{coins_of, parent_of};
-ghost use Rattle.coin_book.specs.Faults.{Answers, fault_of};
+ghost use Rattle.coin_book.specs.Faults.{Answers, fault_of, points};
 ghost use Rattle.coin_book.specs.History.{start_of, with_block, with_pending};
+ghost use Rattle.coin_book.specs.Invariant.{made_at};
 ghost use Rattle.coin_book.specs.Spends.{height_of, spends_of};
 ghost use Rattle.coin_book.specs.declared.fault.BookFault.TheVariants.{Full, Memory};
 ghost use Rattle.coin_book.specs.declared.held.Held.{Held};
@@ -195,6 +196,22 @@ impl Book {
         }
     }
 
+    /// The coin of this number in order of creation, from 0, with its transaction, as [`Book::parent`] gives it. None
+    /// exactly from the number of coins on. The transaction of a confirmed coin isn't looked for by its outpoint.
+    pub fn at_with_parent(&self, i: usize) -> Option<(&Coin, Option<&Tx>)>
+        ensures coin { option_map (λ m. m.0.now) result ≡ slice_get (coins_of self.now) i }
+        ensures parent { IfSome result (λ m. option_copied m.1 ≡ parent_of self.now m.0.now.coin) }
+    {
+        let confirmed = self.ledger.coins.len();
+        if i < confirmed {
+            let (coin, tx) = made_in(&self.ledger.coins, i)?;
+            Some((coin, Some(tx)))
+        } else {
+            let coin = coin_in(&self.pending, i - confirmed)?;
+            Some((coin, self.parent(&coin.coin)))
+        }
+    }
+
     /// The coin at this outpoint. None exactly where no coin is there.
     pub fn get(&self, coin: &OutPoint) -> Option<&Coin>
         ensures { option_copied result ≡ coin_under self.now coin.now }
@@ -240,6 +257,16 @@ fn coin_in(coins: &IndexMap<OutPoint, Held>, i: usize) -> Option<&Coin>
 {
     let (_, held) = coins.get_index(i)?;
     Some(&held.coin)
+}
+
+/// The coin of this number among the entries, from 0, with its transaction.
+fn made_in(coins: &IndexMap<OutPoint, Held>, i: usize) -> Option<(&Coin, &Tx)>
+    requires { keys_of coins.now.entries ≡ points (map made_at coins.now.entries) }
+    ensures coin { option_map (λ m. m.0.now) result ≡ slice_get (map (λ (e : OutPoint × Held). e.1.coin) coins.now.entries) i }
+    ensures maker { IfSome result (λ m. option_map (λ (h : Held). h.maker.value) (lookup (same_outpoint m.0.now.coin) coins.now.entries) ≡ Some m.1.now) }
+{
+    let (_, held) = coins.get_index(i)?;
+    Some((&held.coin, held.maker.as_ref()))
 }
 
 /// The coin at this outpoint among the entries. Where there are none it isn't looked for.

@@ -10,13 +10,14 @@ ghost use Rattle.coin_book.specs.Spends.{has_input};
 ghost use Rattle.coin_book.specs.Faults.{fault_behind};
 ghost use Rattle.coin_book.specs.Merging.{Meets, StopsShort, entry_of, held_point, spends_in};
 ghost use Rattle.coin_book.specs.declared.coin.Spend.{Spend};
-ghost use Rattle.coin_book.specs.declared.fault.BookFault.TheVariants.{Memory as NoMemory};
+ghost use Rattle.coin_book.specs.declared.fault.BookFault.TheVariants.{Full, Memory as NoMemory, RepeatCoin};
 
 use crate::coin::Spend;
 use crate::fault::BookFault;
 use crate::held::Held;
 use crate::merging::append_list;
 use fund_base::{Memory, OutPoint, Txid};
+use indexmap::map::Entry;
 use indexmap::{IndexMap, IndexSet};
 use std::alloc::Global;
 use std::slice::from_ref;
@@ -34,8 +35,11 @@ pub type SpendLists = IndexMap<OutPoint, Vec<Spend>>;
 /// The coins of confirmed transactions in order, what these spend, and the height of the first of each txid.
 #[derive(Drop)]
 pub struct Ledger {
+    /// The coins by outpoint, in order of creation.
     pub coins: IndexMap<OutPoint, Held>,
+    /// What spends an outpoint, in chain order.
     pub spends: SpendLists,
+    /// The height of the first transaction of a txid.
     pub heights: IndexMap<Txid, u32>,
 }
 
@@ -101,6 +105,21 @@ fn point_of(held: &Held) -> OutPoint
     held.coin.coin
 }
 
+/// The fault of a coin at this outpoint, where there is no room for one more.
+fn fault_beside(
+    base: &IndexMap<OutPoint, Held>,
+    coins: &IndexMap<OutPoint, Held>,
+    point: OutPoint,
+) -> BookFault
+    ensures { result ≡ (if list_any (same_outpoint point) (keys_of base.now.entries) || list_any (same_outpoint point) (keys_of coins.now.entries) then RepeatCoin point else Full) }
+{
+    if stands(base, coins, &point) {
+        BookFault::RepeatCoin(point)
+    } else {
+        BookFault::Full
+    }
+}
+
 /// Adds a coin after the others, which stand after those of `base`. RepeatCoin comes exactly where its outpoint
 /// stands there, and Full where it doesn't and the coin would be number 100,001.
 fn add_coin(
@@ -115,14 +134,19 @@ fn add_coin(
     ensures short { result ≡ Err NoMemory → fault_behind (keys_of base.now.entries ++ keys_of coins.old.entries) (held_point held ∷ []) ≡ None }
     ensures kept { OnErr result (coins.new.entries ≡ coins.old.entries) }
 {
-    if stands(base, coins, &point) {
+    if !has_room(base, coins) {
+        return Err(fault_beside(base, coins, point));
+    }
+    if is_there(base, &point) {
         return Err(BookFault::RepeatCoin(point));
     }
-    if !has_room(base, coins) {
-        return Err(BookFault::Full);
+    match coins.entry(point)? {
+        Entry::Vacant(place) => {
+            place.insert(held);
+            Ok(())
+        }
+        Entry::Occupied(_) => Err(BookFault::RepeatCoin(point)),
     }
-    coins.insert(point, held)?;
-    Ok(())
 }
 
 /// Adds coins after the others, which stand after those of `base`. RepeatCoin or Full comes exactly where an outpoint

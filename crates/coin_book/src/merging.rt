@@ -12,6 +12,7 @@ ghost use Rattle.coin_book.specs.declared.coin.Spend.{Spend};
 use crate::coin::Spend;
 use crate::ledger::{Ledger, SpendLists};
 use fund_base::{Memory, OutPoint};
+use indexmap::map::Entry;
 use std::alloc::Global;
 
 /// Puts spends of an outpoint after those that it has.
@@ -24,13 +25,13 @@ pub fn append_list(
     ensures grown { (o : OutPoint) → OnOk result (spends_in spends.new.entries o ≡ spends_in spends.old.entries o ++ (if same_outpoint point.now o then list.now else [])) }
     ensures kept { (o : OutPoint) → OnErr result (spends_in spends.new.entries o ≡ spends_in spends.old.entries o) }
 {
-    match spends.get_mut(point) {
-        Some(held) => {
-            held.extend_from_slice(list)?;
+    match spends.entry(*point)? {
+        Entry::Occupied(held) => {
+            held.into_mut().extend_from_slice(list)?;
         }
-        None => {
+        Entry::Vacant(place) => {
             let copy = list.to_vec(alloc)?;
-            spends.insert(*point, copy)?;
+            place.insert(copy);
         }
     }
     Ok(())

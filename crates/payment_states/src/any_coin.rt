@@ -114,12 +114,12 @@ fn known(
                 ancestors: 0,
                 descendants: 0,
             };
-            described(alloc, book, coin, stands)
+            described(alloc, book, coin, book.parent(&coin.coin), stands)
         }
         None => {
             let place = states.place(&coin.coin.txid);
             let stands = waiting_at(alloc, book, wallet, states, facts, place)?;
-            described(alloc, book, coin, stands)
+            described(alloc, book, coin, book.parent(&coin.coin), stands)
         }
     }
 }

@@ -1,12 +1,15 @@
 //! What is known of a coin.
 
 ghost use Rattle.std.specs.Prelude.{◌≡◌, ◌<◌, IfOk};
+ghost use Rattle.std.specs.Option.{option_copied};
+ghost use Rattle.coin_book.specs.Coins.{parent_of};
 ghost use Rattle.payment_states.specs.ByPlace.{candidate_by, standing_by};
 
-use crate::own_coins::{Standing, comes_from_mine, flag_at, number_at};
+use crate::own_coins::{Standing, flag_at, is_from_mine, number_at};
 use coin_book::{Book, Coin};
 use fund_base::{Candidate, Memory};
 use std::alloc::Global;
+use tx_codec::Tx;
 
 /// How a coin stands whose transaction has this height, or waits at this place of the pending list.
 pub fn standing(
@@ -36,17 +39,19 @@ pub fn standing(
     }
 }
 
-/// The coin, with how it stands.
+/// The coin, with how it stands, by its transaction.
 pub fn described(
     alloc: Global,
     book: &Book,
     coin: &Coin,
+    parent: Option<&Tx>,
     standing: Standing,
 ) -> Result<Candidate, Memory>
+    requires { option_copied parent ≡ parent_of book.now coin.now.coin }
     ensures { IfOk result (λ c. c ≡ candidate_by book.now coin.now standing) }
 {
     let script = coin.script.copy(alloc)?;
-    let mine = comes_from_mine(book, coin);
+    let mine = is_from_mine(book, parent);
     Ok(Candidate {
         coin: coin.coin,
         value: coin.value,

@@ -1,21 +1,26 @@
 //! How coins stand: how deep they are, and what their transactions rest on.
 
-ghost use Rattle.std.specs.Prelude.{◌≡◌, ◌<◌};
-ghost use Rattle.payment_states.specs.Candidates.{comes_from_mine, is_coin};
+ghost use Rattle.std.specs.Prelude.{◌≡◌, ◌<◌, false};
+ghost use Rattle.payment_states.specs.Candidates.{is_coin, is_mine};
 ghost use Rattle.payment_states.specs.ByPlace.{flag_at, number_at};
 ghost use Rattle.coin_book.specs.Coins.{coins_of};
 ghost use Rattle.std.specs.List.{list_all};
+ghost use Rattle.std.specs.Option.{option_copied, option_map_or};
 ghost use Rattle.tx_codec.specs.declared.tx.TxIn.{TxIn};
 
-use coin_book::{Book, Coin};
-use tx_codec::TxIn;
+use coin_book::Book;
+use tx_codec::{Tx, TxIn};
 
 /// How deep a coin is, and how safe.
 #[derive(Clone, Copy)]
 pub struct Standing {
+    /// How many blocks deep it is; 0 where it waits for one.
     pub depth: u32,
+    /// Whether it is safe to spend.
     pub safe: bool,
+    /// The Pending ancestors of its transaction, itself included; 0 where it is confirmed.
     pub ancestors: u32,
+    /// The Pending descendants of its transaction, itself included; 0 where it is confirmed.
     pub descendants: u32,
 }
 
@@ -63,11 +68,11 @@ pub fn is_mine(book: &Book, inputs: &[TxIn]) -> bool
     true
 }
 
-/// Whether every input of a coin's transaction spends a coin of the book.
-pub fn comes_from_mine(book: &Book, coin: &Coin) -> bool
-    ensures { result ≡ comes_from_mine book.now coin.now }
+/// Whether every input of a coin's transaction spends a coin of the book. False where there is no transaction.
+pub fn is_from_mine(book: &Book, parent: Option<&Tx>) -> bool
+    ensures { result ≡ option_map_or (is_mine (coins_of book.now)) (option_copied parent.entry) false }
 {
-    match book.parent(&coin.coin) {
+    match parent {
         Some(tx) => is_mine(book, &tx.inputs),
         None => false,
     }

@@ -2,10 +2,11 @@
 
 ghost use Rattle.std.specs.Prelude.{◌≡◌, ◌<◌, ◌&&◌, not, IfOk, OnOk, None, option_and_then, slice_get};
 ghost use Rattle.std.specs.List.{filter_map};
+ghost use Rattle.std.specs.Option.{option_copied};
 ghost use Rattle.indexmap.specs.IndexSet.{contains};
 ghost use Rattle.fund_base.specs.Candidates.{AreCandidates};
 ghost use Rattle.fund_base.specs.Outpoints.{same_outpoint};
-ghost use Rattle.coin_book.specs.Coins.{coins_of};
+ghost use Rattle.coin_book.specs.Coins.{coins_of, parent_of};
 ghost use Rattle.coin_book.specs.Faults.{fault_of};
 ghost use Rattle.coin_book.specs.declared.coin.Coin.{Coin};
 ghost use Rattle.payment_states.specs.BookOf.{IsBookOf};
@@ -22,6 +23,7 @@ use coin_book::{Book, Coin};
 use fund_base::{Candidate, Memory, OutPoint};
 use indexmap::IndexSet;
 use std::alloc::Global;
+use tx_codec::Tx;
 use wallet_text::Wallet;
 
 /// Whether a coin is deep enough.
@@ -43,7 +45,7 @@ pub fn may_be_spent(live: bool, spent: bool, claimed: bool, locked: bool, deep: 
     live && !spent && !claimed && !locked && deep
 }
 
-/// The coin, if it may be spent.
+/// The coin of this transaction, if it may be spent.
 fn chosen(
     alloc: Global,
     book: &Book,
@@ -53,8 +55,10 @@ fn chosen(
     locked: &IndexSet<OutPoint>,
     tip: u32,
     coin: &Coin,
+    parent: Option<&Tx>,
 ) -> Result<Option<Candidate>, Memory>
-    requires { tip < 4294967295 }
+    requires tip { tip < 4294967295 }
+    requires parent { option_copied parent ≡ parent_of book.now coin.now.coin }
     ensures { IfOk result (λ r. r ≡ chosen_at book.now tip facts.now.pending.items facts.now.safe.items facts.now.ancestors.items facts.now.descendants.items (contains same_outpoint claimed.now coin.now.coin) (contains same_outpoint locked.now coin.now.coin) coin.now (place_among states.now coin.now.coin.txid)) }
 {
     let place = states.place(&coin.coin.txid);
@@ -71,7 +75,7 @@ fn chosen(
             coin.height,
             place,
         );
-        Ok(Some(described(alloc, book, coin, stands)?))
+        Ok(Some(described(alloc, book, coin, parent, stands)?))
     } else {
         Ok(None)
     }
@@ -91,8 +95,10 @@ fn chosen_number(
     requires { tip < 4294967295 }
     ensures { IfOk result (λ r. r ≡ option_and_then (λ (c : Coin). chosen_at book.now tip facts.now.pending.items facts.now.safe.items facts.now.ancestors.items facts.now.descendants.items (contains same_outpoint claimed.now c.coin) (contains same_outpoint locked.now c.coin) c (place_among states.now c.coin.txid)) (slice_get (coins_of book.now) number)) }
 {
-    match book.at(number) {
-        Some(coin) => chosen(alloc, book, states, facts, claimed, locked, tip, coin),
+    match book.at_with_parent(number) {
+        Some((coin, parent)) => chosen(
+            alloc, book, states, facts, claimed, locked, tip, coin, parent,
+        ),
         None => Ok(None),
     }
 }
