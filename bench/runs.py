@@ -3,7 +3,7 @@
 
 Usage: bench/runs.py PROGRAM [TRIES [ROUNDS]]
 
-PROGRAM is crates/bench_run's program, as `rt run` leaves it in crates/bench_run/out. For pools of 100, 1,000 and 10,000
+PROGRAM is crates/bench_all's program, as `rt run` leaves it in crates/bench_all/out. For pools of 100, 1,000 and 10,000
 items of both kinds the run makes TRIES tries in one turn, and in turns of 50, each turn with a look at what the run comes
 to. The least processor time of ROUNDS rounds counts, less that of a run without tries; and the greatest memory, less that
 of a run without tries, by the tries. What both print must be equal.
@@ -46,9 +46,9 @@ def main():
             for kind in ("changeless", "lean"):
                 path = f"{folder}/{kind}-{count}"
                 problem(path, kind, count)
-                none, room, _ = best(rounds, [program, path, "0", "1"])
-                whole, whole_room, whole_text = best(rounds, [program, path, str(tries), str(tries)])
-                turns, turns_room, turns_text = best(rounds, [program, path, str(tries), str(TURN)])
+                none, room, _ = best(rounds, [program, "run", path, "0", "1"])
+                whole, whole_room, whole_text = best(rounds, [program, "run", path, str(tries), str(tries)])
+                turns, turns_room, turns_text = best(rounds, [program, "run", path, str(tries), str(TURN)])
                 assert whole_text == turns_text, (whole_text, turns_text)
                 print(
                     f"{count:>6,} {kind:<10} one turn {1e9 * (whole - none) / tries:6.1f} ns a try, "

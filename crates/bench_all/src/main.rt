@@ -4,6 +4,7 @@
 //! - `wallet WALLET` reads a wallet file;
 //! - `coins WALLET BLOCKS` makes the book of a wallet's coins, and adds the blocks of a file that stand after it;
 //! - `walk FILE TRIES ROUNDS` walks the problem of a file ROUNDS times, each with TRIES tries;
+//! - `run FILE TRIES TURN` makes TRIES tries of a run over the problem of a file, TURN of them a turn;
 //! - `log` writes a log of 30,000,021 letters as a text and reads it back, and `log timed` prints the times too;
 //! - `draw ITEMS KEPT SEEDS` draws among made-up items, and with `timed` after it prints the time of a draw too;
 //! - `check FILE` checks the log of a file, and with `timed` after it prints how long that took;
@@ -18,6 +19,7 @@ mod draws;
 mod feed;
 mod groups;
 mod logs;
+mod turns;
 mod walk;
 mod wallet;
 
@@ -31,6 +33,7 @@ fn act(rt: &HostRuntime, command: &[&str]) -> io::Result<bool> {
         ["wallet", wallet] => wallet::read_file(rt, wallet),
         ["coins", wallet, blocks] => book::fill(rt, wallet, blocks),
         ["walk", file, tries, rounds] => walk::walk_file(rt, file, tries, rounds),
+        ["run", file, tries, turn] => turns::run_file(rt, file, tries, turn),
         ["log"] => logs::write_and_read(rt, false),
         ["log", "timed"] => logs::write_and_read(rt, true),
         ["draw", items, kept, seeds] => draws::draw_words(rt, items, kept, seeds, false),
@@ -43,7 +46,7 @@ fn act(rt: &HostRuntime, command: &[&str]) -> io::Result<bool> {
             println!(rt;
                 "feed BLOCKS | wallet WALLET | coins WALLET BLOCKS | groups COUNT [timed]"
             )?;
-            println!(rt; "walk FILE TRIES ROUNDS | check FILE [timed]")?;
+            println!(rt; "walk FILE TRIES ROUNDS | run FILE TRIES TURN | check FILE [timed]")?;
             println!(rt; "log [timed] | draw ITEMS KEPT SEEDS [timed]")?;
             Ok(false)
         }

@@ -1,4 +1,4 @@
-//! Runs in turns.
+//! A run over one search in turns: each turn asks where the run stands and what it comes to.
 
 ghost use Rattle.std.specs.Prelude.{◌≡◌, ◌≤◌, ℕ, IfOk, IsTrue, List, length};
 ghost use Rattle.std.specs.List.{AllByRecursion};
@@ -10,13 +10,15 @@ use pick_problem::{Kind, Problem};
 use row_columns::problem_in;
 use search_run::{End, SearchRun, Step};
 use std::alloc::Global;
+use std::rc::Rc;
+use std::{fs, io};
 
 /// What a run comes to: its tries, how many letters its log has, and whether it is over.
 #[derive(Drop)]
-pub(crate) struct Told {
-    pub(crate) tries: u64,
-    pub(crate) letters: usize,
-    pub(crate) over: bool,
+struct Told {
+    tries: u64,
+    letters: usize,
+    over: bool,
 }
 
 /// One coin at each of so many places.
@@ -57,6 +59,7 @@ fn steps_of(alloc: Global, problem: Problem) -> Result<Vec<Step>, Memory>
         return Ok(steps);
     }
     let stage = stage_of(problem.kind());
+    let sizes = Rc::new(alloc, sizes)?;
     steps.push(Step::new(1, stage, problem, 0, sizes, true))?;
     Ok(steps)
 }
@@ -97,7 +100,7 @@ fn letters_in(run: &SearchRun) -> Result<usize, Memory> {
 }
 
 /// What a run over the problem of a text comes to after so many tries in turns of so many; `None` where it holds none.
-pub(crate) fn outcome_of_turns(
+fn outcome_of_turns(
     alloc: Global,
     text: &str,
     tries: u64,
@@ -116,4 +119,30 @@ pub(crate) fn outcome_of_turns(
         letters,
         over: run.is_over(),
     }))
+}
+
+/// Prints what a run over the problem of a file comes to after so many tries, in turns of so many.
+pub fn run_file(rt: &HostRuntime, name: &str, tries: &str, turn: &str) -> io::Result<bool> {
+    let text = fs::read_to_string(rt, name)?;
+    let (Ok(tries), Ok(turn)) = (tries.parse(), turn.parse()) else {
+        println!(rt; "no numbers")?;
+        return Ok(false);
+    };
+    match outcome_of_turns(rt.alloc(), text.as_str(), tries, turn) {
+        Ok(Some(told)) => {
+            println!(rt;
+                "{} tries, {} letters, over {}",
+                told.tries, told.letters, told.over
+            )?;
+            Ok(true)
+        }
+        Ok(None) => {
+            println!(rt; "no problem")?;
+            Ok(false)
+        }
+        Err(_) => {
+            println!(rt; "out of memory")?;
+            Ok(false)
+        }
+    }
 }
