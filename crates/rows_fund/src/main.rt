@@ -1,7 +1,13 @@
 //! Does the command of each pair of words, a verb and a name, on files of that name, and prints what was printed, the
 //! status and the log of a payment. `keep` is `fund` with a job of that name, and `resume` goes on with it; both by a keeper
-//! made anew, over the job file. `desk` runs a script. What it must print was worked out apart from this program.
+//! made anew, over the job file. `desk` runs a script, `book` makes the book of coins in two orders, and the word `memory`
+//! does commands over files in memory. What it must print was worked out apart from this program.
 #![tactic(auto)]
+
+mod books;
+mod jobs;
+mod long_jobs;
+mod memory;
 
 use fund_base::{FileShelf, StdSink, put_all, read_whole};
 use fund_top::run;
@@ -49,18 +55,25 @@ fn show(rt: &HostRuntime, words: &Vec<String>) -> io::Result<()> {
     Ok(())
 }
 
+/// Does what a verb says with the files of a name.
+fn answer(rt: &HostRuntime, verb: &str, name: &str) -> io::Result<()> {
+    if verb == "book" {
+        return books::show(rt, name);
+    }
+    println!(rt; "{name}")?;
+    let words = words(rt.alloc(), verb, name)?;
+    show(rt, &words)
+}
+
 fn main(rt: HostRuntime) -> io::Result<()> {
     let alloc = rt.alloc();
     let _ = fs::remove_file(&rt, JOBS);
     let mut verb = String::from_str(alloc, "fund")?;
     for word in env::args(&rt)?.skip(1) {
         match word.as_str() {
-            "coins" | "fund" | "keep" | "resume" | "desk" => verb = word,
-            name => {
-                println!(rt; "{name}")?;
-                let words = words(alloc, verb.as_str(), name)?;
-                show(&rt, &words)?;
-            }
+            "coins" | "fund" | "keep" | "resume" | "desk" | "book" => verb = word,
+            "memory" => memory::show_all(&rt)?,
+            name => answer(&rt, verb.as_str(), name)?,
         }
     }
     let _ = fs::remove_file(&rt, JOBS);

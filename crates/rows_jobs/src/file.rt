@@ -1,7 +1,8 @@
 //! The job file itself, in the current folder.
 
+use crate::saves::{Save, held, keep};
+use crate::trouble::Trouble;
 use fund_outside::{KeepFault, Keeper, SureKeeper};
-use job_rows::{Save, Trouble, held, keep};
 use keep_sqlite::SqliteKeeper;
 use std::alloc::Global;
 use std::fs;

@@ -1,8 +1,9 @@
 //! Many jobs, long names and long parts.
 
 use crate::file::{clear, say};
+use crate::saves::{Save, keep, letters};
+use crate::trouble::Trouble;
 use fund_outside::Keeper;
-use job_rows::{Save, Trouble, keep, letters};
 use keep_sqlite::SqliteKeeper;
 use std::alloc::Global;
 use std::io;

@@ -1,8 +1,9 @@
 //! How long calls take over the job file.
 
 use crate::file::clear;
+use crate::saves::letters;
+use crate::trouble::Trouble;
 use fund_outside::Keeper;
-use job_rows::{Trouble, letters};
 use keep_sqlite::SqliteKeeper;
 use std::time::Instant;
 

@@ -7,7 +7,7 @@ use std::alloc::Global;
 use std::io;
 
 /// The name of the job.
-pub const JOB: &str = "job-1";
+pub(crate) const JOB: &str = "job-1";
 
 /// The words of a command with the job.
 fn words(alloc: Global, verb: &str) -> io::Result<Vec<String>> {
@@ -26,7 +26,7 @@ fn words(alloc: Global, verb: &str) -> io::Result<Vec<String>> {
 }
 
 /// The files of the job, taken into memory.
-pub fn files(rt: &HostRuntime) -> io::Result<Vec<(String, Vec<u8>)>> {
+pub(crate) fn files(rt: &HostRuntime) -> io::Result<Vec<(String, Vec<u8>)>> {
     let alloc = rt.alloc();
     let mut shelf = FileShelf::new(rt);
     let mut files = Vec::new(alloc);
@@ -66,7 +66,7 @@ fn show_job(rt: &HostRuntime, keeper: &mut MemKeeper) -> io::Result<()> {
 }
 
 /// Does a command with the job, and prints how it ended.
-pub fn act(
+pub(crate) fn act(
     rt: &HostRuntime,
     verb: &str,
     shelf: &mut SureShelf,
@@ -106,7 +106,7 @@ fn failing(
 }
 
 /// A job of which each kind of call fails in turn.
-pub fn failing_keepers(rt: &HostRuntime) -> io::Result<()> {
+pub(crate) fn failing_keepers(rt: &HostRuntime) -> io::Result<()> {
     failing(rt, "no call of the keeper fails", &[], &[], &[])?;
     failing(rt, "first save fails", &[], &[], &[0])?;
     failing(rt, "second save fails", &[], &[], &[1])?;

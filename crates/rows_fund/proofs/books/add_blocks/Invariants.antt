@@ -1,5 +1,5 @@
 use Rattle.std.proofs.Common.{◌≡◌}
-use Rattle.rows_coins.proofs.add_blocks.Given as goal
+use Rattle.rows_fund.proofs.books.add_blocks.Given as goal
 
 abbrev pub invariant-loop-added : goal.invariant-loop-added
 invariant-loop-added g l = record {

@@ -1,8 +1,9 @@
 //! Jobs in the tables of a database over two files, whatever these are.
 
 use crate::judging::{Due, Found, State, judge};
+use crate::saves::{Save, keep};
+use crate::trouble::Trouble;
 use fund_outside::{KeepFault, Keeper};
-use job_rows::{Save, Trouble, keep};
 use keep_sqlite::JobTables;
 use sqlite::{Connection, FileStore, Files, Options};
 use sqlite_disk::Disk;

@@ -1,11 +1,8 @@
 //! Does the commands on files in memory, surely and with failures that are told beforehand, and words that are no
-//! command, and prints for each the status, what was printed and the log. What it must print was worked out apart from
-//! this program.
-#![tactic(auto)]
+//! command, and prints for each the status, what was printed and the log.
 
-mod jobs;
-mod long_jobs;
-
+use crate::jobs::failing_keepers;
+use crate::long_jobs::long_jobs;
 use fund_base::{FileShelf, MemShelf, MemSink, StdSink, SureShelf, SureSink, put_all, read_whole};
 use fund_outside::SureKeeper;
 use fund_top::{Status, run, run_in_memory};
@@ -166,27 +163,28 @@ fn names_of_jobs(rt: &HostRuntime) -> io::Result<()> {
     )
 }
 
-fn main(rt: HostRuntime) -> io::Result<()> {
-    surely(&rt, "fund", &FUND, files(&rt)?)?;
-    surely(&rt, "coins", &COINS, files(&rt)?)?;
+/// Prints what each comes to.
+pub(crate) fn show_all(rt: &HostRuntime) -> io::Result<()> {
+    surely(rt, "fund", &FUND, files(rt)?)?;
+    surely(rt, "coins", &COINS, files(rt)?)?;
     surely(
-        &rt,
+        rt,
         "an empty wallet",
         &["coins", "a", "b"],
         Vec::new(rt.alloc()),
     )?;
-    no_commands(&rt)?;
-    names_of_jobs(&rt)?;
-    failing(&rt, "none fails", &[], &[], &[])?;
+    no_commands(rt)?;
+    names_of_jobs(rt)?;
+    failing(rt, "none fails", &[], &[], &[])?;
     // The wallet and the request are read twice each, the second time at their end. The empty block file is read three times:
     // for a record's head, for the zero bytes at its end, and for a byte above the limit.
-    failing(&rt, "first read fails", &[0], &[], &[])?;
-    failing(&rt, "third read fails", &[2], &[], &[])?;
-    failing(&rt, "fifth read fails", &[4], &[], &[])?;
-    failing(&rt, "sixth read fails", &[5], &[], &[])?;
-    failing(&rt, "eighth read fails", &[7], &[], &[])?;
-    failing(&rt, "first write fails", &[], &[0], &[])?;
-    failing(&rt, "first put fails", &[], &[], &[0])?;
-    jobs::failing_keepers(&rt)?;
-    long_jobs::long_jobs(&rt)
+    failing(rt, "first read fails", &[0], &[], &[])?;
+    failing(rt, "third read fails", &[2], &[], &[])?;
+    failing(rt, "fifth read fails", &[4], &[], &[])?;
+    failing(rt, "sixth read fails", &[5], &[], &[])?;
+    failing(rt, "eighth read fails", &[7], &[], &[])?;
+    failing(rt, "first write fails", &[], &[0], &[])?;
+    failing(rt, "first put fails", &[], &[], &[0])?;
+    failing_keepers(rt)?;
+    long_jobs(rt)
 }

@@ -1,7 +1,5 @@
-//! Makes the book of each wallet whose name is a word, from files of that name, and prints its coins and what spends
-//! them: once with the blocks added first, and once with the pending transactions first. What it must print was worked
-//! out apart from this program.
-#![tactic(auto)]
+//! Makes the book of a wallet and its blocks, and prints its coins and what spends them: once with the blocks added first,
+//! and once with the pending transactions first.
 
 ghost use Rattle.std.specs.Prelude.{◌≡◌, []};
 
@@ -9,7 +7,7 @@ use block_feed::Feed;
 use coin_book::{Book, BookFault, Coin};
 use fund_base::{FileShelf, OutPoint, Shelf, Txid, read_whole};
 use std::alloc::Global;
-use std::{env, io};
+use std::io;
 use wallet_text::{Wallet, read_wallet};
 
 /// The greatest length of a wallet file, in bytes.
@@ -193,11 +191,9 @@ fn row_text<H: Shelf>(alloc: Global, shelf: &mut H, name: &str) -> io::Result<St
     )?)
 }
 
-fn main(rt: HostRuntime) -> io::Result<()> {
-    let mut shelf = FileShelf::new(&rt);
-    for name in env::args(&rt)?.skip(1) {
-        let text = row_text(rt.alloc(), &mut shelf, name.as_str())?;
-        print!(rt; "{text}")?;
-    }
-    Ok(())
+/// Prints what the files of this name come to.
+pub(crate) fn show(rt: &HostRuntime, name: &str) -> io::Result<()> {
+    let mut shelf = FileShelf::new(rt);
+    let text = row_text(rt.alloc(), &mut shelf, name)?;
+    print!(rt; "{text}")
 }

@@ -1,11 +1,13 @@
 //! The saves that are stopped, each at every change of the files.
 
+use crate::file::say;
 use crate::images::Image;
 use crate::judging::{Due, Found, State};
 use crate::keeping::Step;
 use crate::machine::Change;
+use crate::saves::Save;
 use crate::stops::{Case, Stop, due_of, start_of, stop_of};
-use job_rows::{Save, Trouble};
+use crate::trouble::Trouble;
 use std::io;
 
 /// More changes than any of the runs makes.
@@ -44,11 +46,6 @@ fn with_all(findings: Findings, stop: &Stop) -> Findings {
     let findings = with(findings, stop.step, stop.written);
     let findings = with(findings, stop.step, stop.torn);
     with(findings, stop.step, stop.lasting)
-}
-
-/// A yes or a no.
-fn say(holds: bool) -> &'static str {
-    if holds { "yes" } else { "no" }
 }
 
 /// Prints what all stops of a case were found to leave.

@@ -3,8 +3,8 @@ use Rattle.tx_codec.specs.Transaction.{Transaction}
 use Rattle.tx_codec.specs.Txid.{txid_of}
 use Rattle.wallet_text.specs.PlainWallet.{PlainWallet}
 use Rattle.wallet_text.specs.WalletRules.{AreDistinct}
-use Rattle.rows_coins.proofs.Others.{others_before}
-use Rattle.rows_coins.proofs.add_waiting.Goals as goal
+use Rattle.rows_fund.proofs.Others.{others_before}
+use Rattle.rows_fund.proofs.books.add_waiting.Goals as goal
 
 pub add_pending-requires-clause-fresh : goal.add_pending-requires-clause-fresh
 add_pending-requires-clause-fresh c =

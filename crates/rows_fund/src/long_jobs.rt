@@ -64,7 +64,7 @@ fn with_parts(rt: &HostRuntime, row: &str, parts: &Parts) -> io::Result<()> {
 
 /// Jobs at the limit and above it. What is too long is told before a part that is missing, and a part that is missing before
 /// what the parts hold.
-pub fn long_jobs(rt: &HostRuntime) -> io::Result<()> {
+pub(crate) fn long_jobs(rt: &HostRuntime) -> io::Result<()> {
     with_parts(
         rt,
         "a part of the limit",

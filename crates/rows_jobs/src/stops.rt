@@ -4,8 +4,9 @@ use crate::images::{Image, Images, files_of, images_of, no_bytes};
 use crate::judging::{Due, Found};
 use crate::keeping::{Step, keep_all, reopened, run};
 use crate::machine::{Change, Machine};
+use crate::saves::{Save, keep};
+use crate::trouble::Trouble;
 use fund_outside::SureKeeper;
-use job_rows::{Save, Trouble, keep};
 use sqlite::Options;
 use std::alloc::Global;
 

@@ -1,7 +1,7 @@
 //! What a keeper holds, held against what is to be kept.
 
+use crate::trouble::Trouble;
 use fund_outside::{Keeper, SureKeeper};
-use job_rows::Trouble;
 
 /// What is to be kept before a save and after it.
 #[derive(Drop)]

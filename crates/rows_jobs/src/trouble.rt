@@ -6,7 +6,7 @@ use std::io;
 
 /// What stopped the program.
 #[derive(Clone, Copy, Debug)]
-pub enum Trouble {
+pub(crate) enum Trouble {
     /// There was not enough memory.
     Memory,
     /// A file failed that was to work.
@@ -16,7 +16,7 @@ pub enum Trouble {
 }
 
 impl Trouble {
-    pub fn name(self) -> &'static str {
+    pub(crate) fn name(self) -> &'static str {
         match self {
             Trouble::Memory => "there was not enough memory",
             Trouble::File => "a file failed",

@@ -1,4 +1,5 @@
-//! Saves of jobs, and all that a keeper holds of some jobs as one text.
+//! Saves of jobs whose bytes are letters, and all that a keeper holds of some jobs as one text, by which what two keepers
+//! hold is compared.
 
 use crate::trouble::Trouble;
 use fund_outside::{KeepFault, Keeper};
@@ -6,22 +7,22 @@ use std::alloc::{AllocError, Global};
 
 /// A save of a job. Its part is this letter so many times, and its saved text begins with the letter.
 #[derive(Clone, Copy)]
-pub struct Save {
-    pub job: &'static str,
-    pub first: u32,
-    pub letter: u8,
-    pub count: usize,
+pub(crate) struct Save {
+    pub(crate) job: &'static str,
+    pub(crate) first: u32,
+    pub(crate) letter: u8,
+    pub(crate) count: usize,
 }
 
 /// A letter so many times.
-pub fn letters(alloc: Global, letter: u8, count: usize) -> Result<Vec<u8>, AllocError> {
+pub(crate) fn letters(alloc: Global, letter: u8, count: usize) -> Result<Vec<u8>, AllocError> {
     let mut text = Vec::new(alloc);
     text.resize(count, letter)?;
     Ok(text)
 }
 
 /// Has a keeper do a save.
-pub fn keep<K: Keeper>(alloc: Global, keeper: &mut K, save: &Save) -> Result<(), KeepFault> {
+pub(crate) fn keep<K: Keeper>(alloc: Global, keeper: &mut K, save: &Save) -> Result<(), KeepFault> {
     let part = letters(alloc, save.letter, save.count)?;
     let saved = [save.letter, b'!'];
     keeper.save(save.job, save.first, part.as_slice(), saved.as_slice())
@@ -57,7 +58,7 @@ fn note_job<K: Keeper>(
 }
 
 /// What a keeper holds of the jobs `a`, `b` and `c`, with their first six parts.
-pub fn held<K: Keeper>(alloc: Global, keeper: &mut K) -> Result<Vec<u8>, Trouble> {
+pub(crate) fn held<K: Keeper>(alloc: Global, keeper: &mut K) -> Result<Vec<u8>, Trouble> {
     let mut text = Vec::new(alloc);
     note_job(keeper, &mut text, "a", 6)?;
     note_job(keeper, &mut text, "b", 6)?;
