@@ -55,6 +55,11 @@ payment request log = record { request = string_bytes request; log = string_byte
 abbrev pub listing_of : List ℕ → List ℕ → Option Command
 listing_of wallet blocks = where_stands (are_named (record { wallet = wallet; blocks = blocks })) (Coins (record { wallet = wallet; blocks = blocks }))
 
+-- a payment from files, where their names stand
+abbrev pub payment_of : (wallet blocks request log : List ℕ) → Option Command
+payment_of wallet blocks request log =
+    where_stands (names_stand (record { wallet = wallet; blocks = blocks }) (record { request = request; log = log })) (Fund (record { wallet = wallet; blocks = blocks }) (record { request = request; log = log }) None)
+
 -- the check of files, where their names stand
 abbrev pub check_of : (wallet blocks request report log : List ℕ) → Option Command
 check_of wallet blocks request report log =
@@ -101,9 +106,7 @@ command_of (verb ∷ first ∷ second ∷ []) =
 command_of (verb ∷ wallet ∷ blocks ∷ script ∷ []) =
     if bytes_eq (string_bytes verb) (codes "desk") then desk_of (string_bytes wallet) (string_bytes blocks) (string_bytes script) else None
 command_of (verb ∷ wallet ∷ blocks ∷ request ∷ log ∷ []) =
-    if bytes_eq (string_bytes verb) (codes "fund")
-    then where_stands (names_stand (sources wallet blocks) (payment request log)) (Fund (sources wallet blocks) (payment request log) None)
-    else None
+    if bytes_eq (string_bytes verb) (codes "fund") then payment_of (string_bytes wallet) (string_bytes blocks) (string_bytes request) (string_bytes log) else None
 command_of (verb ∷ wallet ∷ blocks ∷ request ∷ fourth ∷ fifth ∷ []) =
     if bytes_eq (string_bytes verb) (codes "check")
     then check_of (string_bytes wallet) (string_bytes blocks) (string_bytes request) (string_bytes fourth) (string_bytes fifth)

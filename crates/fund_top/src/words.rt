@@ -5,7 +5,7 @@ ghost use Rattle.std.specs.List.{list_all};
 ghost use Rattle.command_end.specs.Names.{plain_sources};
 ghost use Rattle.command_fund.specs.Names.{plain_payment};
 ghost use Rattle.fund_top.specs.Command.{plain};
-ghost use Rattle.fund_top.specs.Words.{IsInRange, are_judged, are_named, check_of, command_of, desk_of, is_job, is_job_byte, job_command, listing_of, names_stand, work_of};
+ghost use Rattle.fund_top.specs.Words.{IsInRange, are_judged, are_named, check_of, command_of, desk_of, is_job, is_job_byte, job_command, listing_of, names_stand, payment_of, work_of};
 
 use command_end::Sources;
 use command_fund::Payment;
@@ -129,6 +129,25 @@ fn listing_in<'a>(wallet: &'a str, blocks: &'a str) -> Option<Command<'a>>
     }
 }
 
+/// The payment from the files of these names, where they stand.
+fn payment_in<'a>(
+    wallet: &'a str,
+    blocks: &'a str,
+    request: &'a str,
+    log: &'a str,
+) -> Option<Command<'a>>
+    ensures command { option_map plain result ≡ payment_of wallet.now blocks.now request.now log.now }
+    ensures range { IfSome result (λ c. IsInRange (plain c)) }
+{
+    let sources = Sources { wallet, blocks };
+    let payment = Payment { request, log };
+    if names_stand(&sources, &payment) {
+        Some(Command::Fund(sources, payment, None))
+    } else {
+        None
+    }
+}
+
 /// The check of the files of these names, where none is empty.
 fn check_in<'a>(
     wallet: &'a str,
@@ -187,16 +206,13 @@ pub fn parse(words: &[String]) -> Option<Command<'_>>
             }
         }
         [verb, wallet, blocks, request, log] => {
-            let sources = Sources {
-                wallet: wallet.as_str(),
-                blocks: blocks.as_str(),
-            };
-            let payment = Payment {
-                request: request.as_str(),
-                log: log.as_str(),
-            };
-            if verb.as_str() == "fund" && names_stand(&sources, &payment) {
-                Some(Command::Fund(sources, payment, None))
+            if verb.as_str() == "fund" {
+                payment_in(
+                    wallet.as_str(),
+                    blocks.as_str(),
+                    request.as_str(),
+                    log.as_str(),
+                )
             } else {
                 None
             }
