@@ -62,7 +62,7 @@ comes_to files files' s p name report w blocks r kind h short inputs plan form f
 
 -- ---- tries
 
-few_tries : (p : PlainPlan) (n : ℕ) → tries_at p n ≤ 10_000_000
+pub few_tries : (p : PlainPlan) (n : ℕ) → tries_at p n ≤ 10_000_000
 unfolding tries_at
 few_tries p n = let most = tries_within p.request.seed (beginning_of p) (min n most_tries) in omega (arith, most)
 

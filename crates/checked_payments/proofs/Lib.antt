@@ -7,4 +7,5 @@ pub mod PsbtLaws
 pub mod ReportLaws
 pub mod RunLaws
 pub mod ShortLaws
+pub mod SummaryLaws
 pub mod TellLaws

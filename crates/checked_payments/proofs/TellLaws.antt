@@ -12,7 +12,7 @@ use Rattle.fund_plan.specs.Pays.{payment_from, payment_of, unsigned_input}
 use Rattle.fund_plan.specs.Selection.{PlainFunded}
 use Rattle.fund_plan.proofs.FigureLaws.{figures_agree}
 use Rattle.fund_report.specs.PlainFunded as reports
-use Rattle.fund_report.specs.ReportText.{IsReportText, change_text, figures_text, found_text, funded_text, in_line, line, text_of}
+use Rattle.fund_report.specs.ReportText.{CanBeRead, IsReportText, IsSized, change_text, figures_text, found_text, funded_text, in_line, line, text_of}
 use Rattle.fund_report.specs.declared.report.Report.TheVariants.{Funded}
 use Rattle.fund_report.proofs.WrittenLaws.{written_is_text}
 use Rattle.fund_steps.specs.Plan.{IsPlan, PlainPlan}
@@ -40,23 +40,20 @@ inputs_fit : (h : History) (p : PlainPlan) (g : PlainFunded) → IsPsbt (psbt_of
 unfolding psbt_of payment_from
 inputs_fit h p g psbt = psbt.text.inputs
 
-pub report_reads : (h : History) (p : PlainPlan) (tries : ℕ) (g : PlainFunded) → IsPlan p → IsPayment p g → CanBeTold p g → IsPsbt (psbt_of h p.request p.change g) → tries ≤ 10_000_000
-    → IsReportText (report_of h p.request p.change tries g) (Funded (reported h p.request p.change tries g))
-unfolding report_of
-report_reads h p tries g plan a told psbt few =
-    let r = p.request in
+pub report_can : (h : History) (p : PlainPlan) (tries : ℕ) (g : PlainFunded) → CanBeTold p g → CanBeRead (Funded (reported h p.request p.change tries g))
+report_can h p tries g told = record {
+  stage = told.stage;
+  coins = lines_some g.coins told.selection.some;
+  text = is_line (written (psbt_of h p.request p.change g)) (written_some (psbt_of h p.request p.change g));
+}
+
+pub report_sized : (h : History) (p : PlainPlan) (tries : ℕ) (g : PlainFunded) → IsPlan p → IsPayment p g → CanBeTold p g → IsPsbt (psbt_of h p.request p.change g) → tries ≤ 10_000_000 → IsSized (Funded (reported h p.request p.change tries g))
+report_sized h p tries g plan a told psbt few =
     let sum = figures_agree p g a in
     let worth = told.selection.coins.value in
     let light = sum.light in
     let size = sum.size in
-    let bytes = written (psbt_of h r p.change g) in
-    written_is_text (Funded (reported h r p.change tries g))
-    (record {
-      stage = told.stage;
-      coins = lines_some g.coins told.selection.some;
-      text = is_line bytes (written_some (psbt_of h r p.change g));
-    })
-    (record {
+    record {
       figures = record {
         row = told.row;
         tries = omega (arith, few);
@@ -66,8 +63,14 @@ report_reads h p tries g plan a told psbt few =
         waste = waste_fits p g plan a told.selection;
         change = wide_change g.change told.selection.change;
       };
-      coins = coins_fit r.replaceable g.coins (inputs_fit h p g psbt) told.selection.coins.each;
-    })
+      coins = coins_fit p.request.replaceable g.coins (inputs_fit h p g psbt) told.selection.coins.each;
+    }
+
+pub report_reads : (h : History) (p : PlainPlan) (tries : ℕ) (g : PlainFunded) → IsPlan p → IsPayment p g → CanBeTold p g → IsPsbt (psbt_of h p.request p.change g) → tries ≤ 10_000_000
+    → IsReportText (report_of h p.request p.change tries g) (Funded (reported h p.request p.change tries g))
+unfolding report_of
+report_reads h p tries g plan a told psbt few =
+    written_is_text (Funded (reported h p.request p.change tries g)) (report_can h p tries g told) (report_sized h p tries g plan a told psbt few)
 
 -- the PSBT is no longer than the report
 text_within : (coins : List ℕ) (f : reports.PlainFunded) → length f.text ≤ length (funded_text coins f)

@@ -1,6 +1,6 @@
 //! Laws of reports that a command wrote, and another checks. A call of any of them does nothing.
 
-ghost use Rattle.std.specs.Prelude.{ℕ, List};
+ghost use Rattle.std.specs.Prelude.{◌≡◌, ℕ, List};
 ghost use Rattle.fund_plan.specs.Outcome.{tries_at};
 ghost use Rattle.fund_report.specs.ReportText.{IsReportText};
 ghost use Rattle.fund_report.specs.declared.report.Report.TheVariants as kinds;
@@ -11,6 +11,7 @@ ghost use Rattle.command_end.specs.Names.{Sources};
 ghost use Rattle.command_fund.specs.Due.{plan_of};
 ghost use Rattle.command_fund.specs.Names.{Payment};
 ghost use Rattle.checked_payments.specs.Beside.{IsFunded, IsNotFunded, IsUnfinished, StandWithLog, StandsBeside, reported_of};
+ghost use Rattle.checked_payments.specs.Summed.{IsSummed, lines_for, report_for, reported_for};
 
 /// The law of written reports: what a payment from files printed, and the log that it wrote, are accepted from the same
 /// files. This holds of every mark: exhausted, drawn, given, and partial; and of no selection. A run that goes on writes no
@@ -26,4 +27,11 @@ pub fn written_reports_are_accepted()
 /// tells of that payment.
 pub fn paid_reports_can_be_read()
     ensures { (files : List ℕ → List ℕ) (s : Sources) (p : Payment) (report log : List ℕ) (k : IsFunded files s p report log) → IsReportText report (kinds.Funded (reported_of files s p report log k)) }
+{}
+
+/// The law of summaries: where `work` sums up a payment, its report can be read, and tells of that payment. The summary is
+/// the command's words, the report's lines in order but for those of coins and of the PSBT, and the SHA-256 of the report.
+pub fn summaries_are_of_reports()
+    ensures report { (number count : ℕ) (summary : List ℕ) (k : IsSummed number count summary) → IsReportText (report_for number count k.funded) (kinds.Funded (reported_for number count k.funded)) }
+    ensures lines { (number count : ℕ) (summary : List ℕ) (k : IsSummed number count summary) → summary ≡ lines_for number count k.funded }
 {}

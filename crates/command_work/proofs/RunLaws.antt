@@ -72,6 +72,7 @@ pub run_paid : (number count : ℕ) (report log summary : List ℕ) → AreDisti
 run_paid number count report log summary distinct h is = record {
   funded = h.1.funded;
   plan = h.0;
+  steps = h.1.steps;
   outcome = h.1.outcome;
   pays = h.1.pays;
   eligible = All-weaker (MaySpend (load_plan number count)) (IsEligible (load_plan number count)) (λ c may. may_plain (load_plan number count) c refl may) h.1.funded.coins h.1.eligible;

@@ -8,11 +8,13 @@ use Rattle.fund_plan.specs.Answer.{IsPayment}
 use Rattle.fund_plan.specs.Claims.{Claims, IsProvedNone, IsUsedUp}
 use Rattle.fund_plan.specs.Outcome.{log_at, outcome_at, tries_at}
 use Rattle.fund_plan.specs.Selection.{PlainFunded}
+use Rattle.fund_plan.specs.Steps.{steps_of}
 use Rattle.fund_plan.specs.declared.outcome.Outcome.TheVariants as answers
 use Rattle.fund_report.specs.ReportText.{IsReportText}
 use Rattle.fund_report.specs.declared.report.Report.TheVariants as kinds
 use Rattle.fund_steps.specs.Plan.{IsEligible, IsPlan}
 use Rattle.psbt_codec.specs.Psbt.{IsPsbt}
+use Rattle.search_run.specs.Step.{AreSteps}
 use Rattle.workload.specs.Load.{request_of, wallet_of}
 use Rattle.workload.specs.Summary.{summary_text}
 use Rattle.command_end.specs.Lines.{GotLine, fault_line}
@@ -34,10 +36,11 @@ status_of (Summed status summary) = status
 -- The summary of a payment from the workload, with its 100,000 tries. The payment's coins are candidates of the wallet,
 -- of groups of the pool of the row that it names; the transaction made of them pays the recipient exactly, and at least the
 -- fee. The PSBT in the report is of version 0 (BIP 174), and each of its inputs shows the value and the script of its coin.
--- An exhausted payment is proved to be the best, by the log of the run.
+-- An exhausted payment is proved to be the best, by the log of the run. The searches and draws of its plan keep their rules.
 pub record IsFunded (number count : ℕ) (summary : List ℕ) : Type 0 where
   pub funded : PlainFunded
   pub plan : IsPlan (load_plan number count)
+  pub steps : AreSteps (steps_of (load_plan number count))
   pub outcome : outcome_at (load_plan number count) 100_000 ≡ answers.Funded funded
   pub pays : IsPayment (load_plan number count) funded
   pub eligible : All (IsEligible (load_plan number count)) funded.coins
