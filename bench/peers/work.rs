@@ -1,12 +1,14 @@
-//! `work NUMBER COUNT` in plain Rust, beside which the proved one is measured: the same wallet, searches, payment and
+//! `work NUMBER COUNT` in plain Rust, beside which the proved one is measured: the same coins, searches, payment and
 //! summary. It reads no JSON, keeps no log behind its walk, and knows the first row and its first column alone, in which
-//! such payments end.
+//! such payments end. It makes the coins alone; by a third word it makes the wallet, with its transactions and what they
+//! spend, keeps it, and finds the coins there.
 //!
-//! usage: rustc --edition 2021 -O bench/peers/work.rs -o /tmp/work && /tmp/work NUMBER COUNT
+//! usage: rustc --edition 2021 -O bench/peers/work.rs -o /tmp/work && /tmp/work NUMBER COUNT [wallet]
 #[allow(dead_code)]
 mod draw;
 #[allow(dead_code)]
 mod walk;
+mod wallet;
 
 use std::env;
 use std::fmt::Write;
@@ -178,7 +180,7 @@ fn transaction(inputs: &[&Coin], outputs: &[Vec<u8>]) -> Vec<u8> {
     bytes
 }
 
-fn psbt(inputs: &[&Coin], outputs: &[Vec<u8>], kinds: &[(Vec<u8>, u64); 3]) -> Vec<u8> {
+fn psbt(inputs: &[&Coin], outputs: &[Vec<u8>], kinds: &[(Vec<u8>, u64); 3], whole: impl Fn(&Coin) -> Vec<u8>) -> Vec<u8> {
     let transaction = transaction(inputs, outputs);
     let mut bytes = b"psbt\xff\x01\x00".to_vec();
     bytes.extend(compact(transaction.len()));
@@ -186,7 +188,7 @@ fn psbt(inputs: &[&Coin], outputs: &[Vec<u8>], kinds: &[(Vec<u8>, u64); 3]) -> V
     bytes.push(0);
     for coin in inputs {
         let (kind, shown) =
-            if coin.kind < 2 { (1, output(coin.value, &kinds[coin.kind].0)) } else { (0, coin.whole.clone()) };
+            if coin.kind < 2 { (1, output(coin.value, &kinds[coin.kind].0)) } else { (0, whole(coin)) };
         bytes.extend([1, kind]);
         bytes.extend(compact(shown.len()));
         bytes.extend(shown);
@@ -222,7 +224,8 @@ fn main() {
     let sha = Sha::new();
     let kinds = kinds();
     let weights = [kinds[0].1, kinds[1].1, kinds[2].1];
-    let mut pool = coins(&sha, number, count);
+    let wallet = words.get(2).map(|_| wallet::Wallet::new(&sha, number, count, &kinds));
+    let mut pool = wallet.as_ref().map_or_else(|| coins(&sha, number, count), |wallet| wallet.unspent(&kinds));
     let paid = pool.iter().map(|coin| coin.value).sum::<u64>() / 20;
     pool.sort_by_key(|coin| {
         let fee = input_fee(RATE, coin.kind, &weights);
@@ -289,6 +292,7 @@ fn main() {
         writeln!(report, "in {}:0 {}", hex(coin.txid.into_iter().rev()), coin.value).unwrap();
     }
     report.push_str(&tail);
-    writeln!(report, "psbt {}", base64(&psbt(&inputs, &outputs, &kinds))).unwrap();
+    let whole = |coin: &Coin| wallet.as_ref().map_or_else(|| coin.whole.clone(), |wallet| wallet.maker(coin));
+    writeln!(report, "psbt {}", base64(&psbt(&inputs, &outputs, &kinds, whole))).unwrap();
     print!("work {number} {count}\n{head}{tail}report {}\n", hex(sha.digest(report.as_bytes()).into_iter()));
 }
