@@ -1,6 +1,7 @@
 -- What a claim keeps beside its problem and its answer.
 use Rattle.std.specs.Prelude.{◌≡◌, ◌↔◌, ℕ, Bool, IsTrue, List, Option}
 use Rattle.std.specs.Option.{ForSome}
+use Rattle.pick_problem.specs.declared.item.Item.{Item}
 use Rattle.pick_problem.specs.declared.score.Score.{Score}
 use Rattle.pick_problem.specs.declared.tails.Tail.{Tail}
 use Rattle.pick_problem.specs.Problem.{PlainProblem, IsProblem}
@@ -14,10 +15,11 @@ pub record PlainClaim : Type 0 where
   pub problem : PlainProblem
   pub answer : Option (List ℕ)
 
--- the answer is admissible; the tails are the problem's, the score is the answer's, and it is known whether a cost is
--- negative
-pub record IsClaim (p : PlainProblem) (a : Option (List ℕ)) (rows : List Tail) (plain : Bool) (known : Score) : Type 0 where
+-- the answer is admissible; the items and the tails are the problem's, the score is the answer's, and it is known whether a
+-- cost is negative
+pub record IsClaim (p : PlainProblem) (a : Option (List ℕ)) (items : List Item) (rows : List Tail) (plain : Bool) (known : Score) : Type 0 where
   pub problem : IsProblem p
+  pub items_are : items ≡ p.items
   pub fit : IsFit p a
   pub tails : AreTails p rows
   pub costs : IsTrue plain ↔ NoNegative p

@@ -57,13 +57,29 @@ fn has_plain_costs(problem: &Problem) -> bool
 }
 
 /// A problem, and the answer that is claimed to be its best; without one, that no selection is admissible.
-#[derive(Debug, Drop)]
+#[derive(Debug)]
 pub struct Claim {
     problem: Problem,
+    // its items once more: each letter looks at one
+    items: Vec<Item>,
     tails: Tails,
     plain_costs: bool,
     answer: Option<Places>,
     score: Score,
+}
+
+/// One call, wherever it is dropped.
+impl Drop for Claim {
+    fn drop(self) {
+        let Claim {
+            problem: _,
+            items: _,
+            tails: _,
+            plain_costs: _,
+            answer: _,
+            score: _,
+        } = self;
+    }
 }
 
 impl Model for Claim {
@@ -73,7 +89,7 @@ impl Model for Claim {
 
     ghost view = { λ c. record { problem = c.problem; answer = c.answer } };
 
-    ghost invariant = { λ c. IsClaim c.problem c.answer c.tails c.plain_costs c.score };
+    ghost invariant = { λ c. IsClaim c.problem c.answer c.items.items c.tails c.plain_costs c.score };
 }
 
 impl Claim {
@@ -89,6 +105,7 @@ impl Claim {
         let score = answer_score(problem, answer);
         Ok(Claim {
             problem: problem.copy()?,
+            items: Vec::from_slice(alloc, problem.items())?,
             tails: Tails::new(alloc, problem)?,
             plain_costs: has_plain_costs(problem),
             answer: copied(alloc, answer)?,
@@ -104,7 +121,7 @@ impl Claim {
         ensures problem { IsProblem self.now.problem }
         ensures fit { IsFit self.now.problem self.now.answer }
     {
-        self.problem.items().len() as u32
+        self.items.len() as u32
     }
 
     /// The item at a place.
@@ -115,7 +132,7 @@ impl Claim {
         ensures ranges { IsItem result }
         ensures problem { IsProblem self.now.problem }
     {
-        self.problem.items()[place as usize]
+        self.items[place as usize]
     }
 
     /// The least value, in satoshi.
