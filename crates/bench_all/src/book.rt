@@ -23,7 +23,44 @@ struct Counts {
     blocks: u64,
 }
 
-/// Makes the book of a wallet, adds the blocks of the file `name`, which stand after the wallet's height, and counts.
+/// Adds the next block of the file `name` to the book; whether there was one.
+fn add_next<H: Shelf>(
+    alloc: Global,
+    shelf: &mut H,
+    name: &str,
+    feed: &mut Feed,
+    book: &mut Book,
+) -> Result<bool, Fault> {
+    match feed.next(alloc, shelf, name) {
+        Ok(Some(block)) => match book.add_block(&block) {
+            Ok(()) => Ok(true),
+            Err(fault) => Err(Fault::Book(fault)),
+        },
+        Ok(None) => Ok(false),
+        Err(fault) => Err(Fault::Feed(fault)),
+    }
+}
+
+/// Adds the blocks of the file `name`, which stand after the wallet's height, and counts them.
+fn add_blocks<H: Shelf>(
+    alloc: Global,
+    shelf: &mut H,
+    name: &str,
+    wallet: &Wallet,
+    book: &mut Book,
+) -> Result<u64, Fault> {
+    let mut feed = Feed::new(wallet.hash, wallet.height);
+    for blocks in 0..u64::MAX {
+        match add_next(alloc, shelf, name, &mut feed, book) {
+            Ok(true) => {}
+            Ok(false) => return Ok(blocks),
+            Err(fault) => return Err(fault),
+        }
+    }
+    Ok(u64::MAX)
+}
+
+/// Makes the book of a wallet, adds the blocks of the file `name`, and counts.
 fn counts_of<H: Shelf>(
     alloc: Global,
     wallet: &Wallet,
@@ -34,23 +71,13 @@ fn counts_of<H: Shelf>(
         Ok(book) => book,
         Err(fault) => return Err(Fault::Book(fault)),
     };
-    let mut feed = Feed::new(wallet.hash, wallet.height);
-    for blocks in 0..u64::MAX {
-        let block = match feed.next(alloc, shelf, name) {
-            Ok(Some(block)) => block,
-            Ok(None) => {
-                let coins = book.len();
-                return Ok(Counts { coins, blocks });
-            }
-            Err(fault) => return Err(Fault::Feed(fault)),
-        };
-        match book.add_block(&block) {
-            Ok(()) => {}
-            Err(fault) => return Err(Fault::Book(fault)),
-        }
+    match add_blocks(alloc, shelf, name, wallet, &mut book) {
+        Ok(blocks) => Ok(Counts {
+            coins: book.len(),
+            blocks,
+        }),
+        Err(fault) => Err(fault),
     }
-    let (coins, blocks) = (book.len(), u64::MAX);
-    Ok(Counts { coins, blocks })
 }
 
 /// Counts the coins of the wallet file `wallet` with the blocks of the file `blocks`, and these.

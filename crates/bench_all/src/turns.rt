@@ -99,6 +99,30 @@ fn letters_in(run: &SearchRun) -> Result<usize, Memory> {
     Ok(letters)
 }
 
+/// The problem of a text; `None` where it holds none.
+fn problem_of(alloc: Global, text: &str) -> Result<Option<Problem>, Memory> {
+    let columns: Vec<&str> = text.lines().collect(alloc)?;
+    problem_in(alloc, &columns)
+}
+
+/// What a run comes to after so many tries in turns of so many.
+fn told_of(run: &mut SearchRun, tries: u64, turn: u64) -> Result<Told, Memory> {
+    turns_on(run, tries / turn.max(1), turn)?;
+    let letters = letters_in(run)?;
+    Ok(Told {
+        tries: run.tries(),
+        letters,
+        over: run.is_over(),
+    })
+}
+
+/// The same of a run over this problem.
+fn told_over(alloc: Global, problem: Problem, tries: u64, turn: u64) -> Result<Told, Memory> {
+    let steps = steps_of(alloc, problem)?;
+    let mut run = SearchRun::new(alloc, [0; 32], steps);
+    told_of(&mut run, tries, turn)
+}
+
 /// What a run over the problem of a text comes to after so many tries in turns of so many; `None` where it holds none.
 fn outcome_of_turns(
     alloc: Global,
@@ -106,19 +130,10 @@ fn outcome_of_turns(
     tries: u64,
     turn: u64,
 ) -> Result<Option<Told>, Memory> {
-    let columns: Vec<&str> = text.lines().collect(alloc)?;
-    let Some(problem) = problem_in(alloc, &columns)? else {
-        return Ok(None);
-    };
-    let steps = steps_of(alloc, problem)?;
-    let mut run = SearchRun::new(alloc, [0; 32], steps);
-    turns_on(&mut run, tries / turn.max(1), turn)?;
-    let letters = letters_in(&run)?;
-    Ok(Some(Told {
-        tries: run.tries(),
-        letters,
-        over: run.is_over(),
-    }))
+    match problem_of(alloc, text)? {
+        Some(problem) => Ok(Some(told_over(alloc, problem, tries, turn)?)),
+        None => Ok(None),
+    }
 }
 
 /// Prints what a run over the problem of a file comes to after so many tries, in turns of so many.

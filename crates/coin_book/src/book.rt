@@ -39,7 +39,6 @@ use wallet_text::Wallet;
 ///
 /// A pending transaction that is confirmed too, by its txid, counts at its confirmed place alone. A book never has more
 /// than 100,000 coins, and no outpoint of it is a confirmed coin twice.
-#[derive(Drop)]
 pub struct Book {
     alloc: Global,
     // what the book was made from takes no memory
@@ -53,6 +52,23 @@ pub struct Book {
     txids: IndexSet<Txid>,
     // how many transactions are confirmed
     count: u64,
+}
+
+/// One call, wherever it is dropped.
+impl Drop for Book {
+    fn drop(self) {
+        let Book {
+            alloc: _,
+            wallet: _,
+            blocks: _,
+            waiting: _,
+            weights: _,
+            ledger: _,
+            pending: _,
+            txids: _,
+            count: _,
+        } = self;
+    }
 }
 
 impl Model for Book {

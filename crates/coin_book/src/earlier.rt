@@ -1,6 +1,6 @@
 //! What a wallet tells of coins before any block: its scripts, and its earlier transactions.
 
-ghost use Rattle.std.specs.Prelude.{◌≡◌, [], IfOk, map};
+ghost use Rattle.std.specs.Prelude.{◌≡◌, [], IfOk, OnOk, map};
 ghost use Rattle.coin_book.specs.Coins.{weight_for};
 ghost use Rattle.coin_book.specs.Faults.{fault_behind};
 ghost use Rattle.coin_book.specs.History.{confirmed_before};
@@ -29,14 +29,21 @@ pub fn weights_of(alloc: Global, scripts: &[Watch]) -> Result<Weights, Memory>
     Ok(weights)
 }
 
-/// A ledger of the earlier transactions. RepeatCoin or Full comes exactly where an outpoint would be a coin twice or a
-/// coin be number 100,001, by the first coin of which this is so.
-pub fn ledger_of(alloc: Global, weights: &Weights, earlier: &[Earlier]) -> Result<Ledger, BookFault>
-    ensures holds { IfOk result (λ l. HoldsChain (weigher weights.now.entries) [] (map confirmed_before earlier.now) l) }
+/// Adds the earlier transactions to a ledger of none. RepeatCoin or Full comes exactly where an outpoint would be a coin
+/// twice or a coin be number 100,001, by the first coin of which this is so.
+fn add_all(
+    alloc: Global,
+    ledger: &mut Ledger,
+    weights: &Weights,
+    earlier: &[Earlier],
+) -> Result<(), BookFault>
+    requires coins { ledger.old.coins.entries ≡ [] }
+    requires spends { ledger.old.spends.entries ≡ [] }
+    requires heights { ledger.old.heights.entries ≡ [] }
+    ensures holds { OnOk result (HoldsChain (weigher weights.now.entries) [] (map confirmed_before earlier.now) ledger.new) }
     ensures exact { Meets result (fault_behind [] (points_in (weigher weights.now.entries) (map confirmed_before earlier.now))) }
 {
     let base = Ledger::new(alloc);
-    let mut ledger = Ledger::with_room(alloc, earlier.len())?;
     for index in 0..earlier.len() {
         let entry = &earlier[index];
         let spend = Spend {
@@ -56,5 +63,18 @@ pub fn ledger_of(alloc: Global, weights: &Weights, earlier: &[Earlier]) -> Resul
             Err(fault) => return Err(fault),
         }
     }
-    Ok(ledger)
+    Ok(())
+}
+
+/// A ledger of the earlier transactions. RepeatCoin or Full comes exactly where an outpoint would be a coin twice or a
+/// coin be number 100,001, by the first coin of which this is so.
+pub fn ledger_of(alloc: Global, weights: &Weights, earlier: &[Earlier]) -> Result<Ledger, BookFault>
+    ensures holds { IfOk result (λ l. HoldsChain (weigher weights.now.entries) [] (map confirmed_before earlier.now) l) }
+    ensures exact { Meets result (fault_behind [] (points_in (weigher weights.now.entries) (map confirmed_before earlier.now))) }
+{
+    let mut ledger = Ledger::with_room(alloc, earlier.len())?;
+    match add_all(alloc, &mut ledger, weights, earlier) {
+        Ok(()) => Ok(ledger),
+        Err(fault) => Err(fault),
+    }
 }

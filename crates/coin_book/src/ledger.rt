@@ -33,7 +33,6 @@ pub type Weights = IndexMap<Vec<u8>, u64>;
 pub type SpendLists = IndexMap<OutPoint, Vec<Spend>>;
 
 /// The coins of confirmed transactions in order, what these spend, and the height of the first of each txid.
-#[derive(Drop)]
 pub struct Ledger {
     /// The coins by outpoint, in order of creation.
     pub coins: IndexMap<OutPoint, Held>,
@@ -41,6 +40,17 @@ pub struct Ledger {
     pub spends: SpendLists,
     /// The height of the first transaction of a txid.
     pub heights: IndexMap<Txid, u32>,
+}
+
+/// One call, wherever it is dropped.
+impl Drop for Ledger {
+    fn drop(self) {
+        let Ledger {
+            coins: _,
+            spends: _,
+            heights: _,
+        } = self;
+    }
 }
 
 impl Ledger {

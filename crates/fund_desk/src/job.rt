@@ -24,12 +24,23 @@ const MOST_JOBS: usize = 64;
 const MOST_TRIES: u64 = 10_000_000;
 
 /// A job: its name, what it pays, its plan where that stands, and what its last turn came to.
-#[derive(Drop)]
 pub struct OpenJob {
     name: String,
     request: Request,
     plan: Plan,
     answer: Option<Outcome>,
+}
+
+/// One call, wherever it is dropped.
+impl Drop for OpenJob {
+    fn drop(self) {
+        let OpenJob {
+            name: _,
+            request: _,
+            plan: _,
+            answer: _,
+        } = self;
+    }
 }
 
 impl Model for OpenJob {

@@ -50,9 +50,8 @@ fn read_blocks<H: Shelf>(
         let Some(block) = feed.next(alloc, shelf, name)? else {
             return Ok((booked, tip));
         };
-        match add_block(booked, &block) {
-            Ok(more) => booked = more,
-            Err(Memory) => return Err(FeedFault::Memory),
+        if let Err(Memory) = add_block(&mut booked, &block) {
+            return Err(FeedFault::Memory);
         }
         tip = Tip {
             height: block.height,

@@ -1,6 +1,6 @@
 //! The book while a wallet and blocks are read.
 
-ghost use Rattle.std.specs.Prelude.{◌≡◌, ◌≢◌, [], All, IfOk, OnErr};
+ghost use Rattle.std.specs.Prelude.{◌≡◌, ◌≢◌, [], All, IfOk, OnErr, OnOk};
 ghost use Rattle.tx_codec.specs.Transaction.{Transaction};
 ghost use Rattle.tx_codec.specs.TransactionText.{IsTransaction};
 ghost use Rattle.tx_codec.specs.Txid.{txid_of};
@@ -43,41 +43,33 @@ fn broken(fault: BookFault) -> Result<Booked, Memory>
     }
 }
 
-/// What it makes with one block more, where no transaction waits yet.
-pub fn add_block(booked: Booked, block: &Block) -> Result<Booked, Memory>
+/// Adds one block more, where no transaction waits yet.
+pub fn add_block(booked: &mut Booked, block: &Block) -> Result<(), Memory>
     requires { All IsTransaction block.now.txs }
-    ensures { (h : History) → h.pending ≡ [] → IsBooked booked h → IfOk result (λ b. IsBooked b (with_block h block.now)) }
+    ensures { (h : History) → h.pending ≡ [] → IsBooked booked.old h → OnOk result (IsBooked booked.new (with_block h block.now)) }
 {
     first_fault_stays();
-    match booked {
-        Booked::Broken(fault) => Ok(Booked::Broken(fault)),
-        Booked::Kept(book) => {
-            let mut book = book;
-            match book.add_block(block) {
-                Ok(()) => Ok(Booked::Kept(book)),
-                Err(fault) => broken(fault),
-            }
+    if let Booked::Kept(book) = booked {
+        if let Err(fault) = book.add_block(block) {
+            *booked = broken(fault)?;
         }
     }
+    Ok(())
 }
 
-/// What it makes with one waiting transaction more, whose txid none has that waits.
-pub fn add_pending(booked: Booked, tx: &Tx) -> Result<Booked, Memory>
+/// Adds one waiting transaction more, whose txid none has that waits.
+pub fn add_pending(booked: &mut Booked, tx: &Tx) -> Result<(), Memory>
     requires text { IsTransaction tx.now }
-    requires fresh { IfKept booked (λ book. All (λ (t : Transaction). txid_of t ≢ txid_of tx.now) book.pending) }
-    ensures { (h : History) → IsBooked booked h → IfOk result (λ b. IsBooked b (with_pending h tx.now)) }
+    requires fresh { IfKept booked.old (λ book. All (λ (t : Transaction). txid_of t ≢ txid_of tx.now) book.pending) }
+    ensures { (h : History) → IsBooked booked.old h → OnOk result (IsBooked booked.new (with_pending h tx.now)) }
 {
     first_fault_stays();
-    match booked {
-        Booked::Broken(fault) => Ok(Booked::Broken(fault)),
-        Booked::Kept(book) => {
-            let mut book = book;
-            match book.add_pending(tx) {
-                Ok(()) => Ok(Booked::Kept(book)),
-                Err(fault) => broken(fault),
-            }
+    if let Booked::Kept(book) = booked {
+        if let Err(fault) = book.add_pending(tx) {
+            *booked = broken(fault)?;
         }
     }
+    Ok(())
 }
 
 /// What it makes with these waiting transactions, where none waits yet.
@@ -89,7 +81,7 @@ pub fn add_waiting(booked: Booked, pending: &[Tx]) -> Result<Booked, Memory>
 {
     let mut booked = booked;
     for tx in pending {
-        booked = add_pending(booked, tx)?;
+        add_pending(&mut booked, tx)?;
     }
     Ok(booked)
 }

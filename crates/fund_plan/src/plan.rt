@@ -36,11 +36,21 @@ const MOST_TRIES: u64 = 10_000_000;
 /// How a request is funded: what it was made from is a request, the script that its change is paid to, the candidates,
 /// which are the coins that may be spent, and what it is given where it replaces a payment. It keeps the rules that
 /// [`Plan::keeps_rules`] states. It searches row by row, and stands where its tries led.
-#[derive(Drop)]
 pub struct Plan {
     funding: Funding,
     run: SearchRun,
     partial: Option<Found>,
+}
+
+/// One call, wherever it is dropped.
+impl Drop for Plan {
+    fn drop(self) {
+        let Plan {
+            funding: _,
+            run: _,
+            partial: _,
+        } = self;
+    }
 }
 
 impl Model for Plan {

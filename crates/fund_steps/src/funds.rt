@@ -33,7 +33,6 @@ use wallet_text::Watch;
 /// What a payment of a request is made from: the coins that each payment spends, those that may be added, the rates, and
 /// what the payment is to carry. It is seen as the plan: the request, the script that its change is paid to, the
 /// candidates, and what it is given where it replaces a payment. It keeps the rules that [`Funds::keeps_rules`] states.
-#[derive(Drop)]
 pub struct Funds {
     // what the plan was made from takes no memory
     request: Snapshot<Request>,
@@ -45,6 +44,22 @@ pub struct Funds {
     rest: Vec<Candidate>,
     rates: Rates,
     load: Load,
+}
+
+/// One call, wherever it is dropped.
+impl Drop for Funds {
+    fn drop(self) {
+        let Funds {
+            request: _,
+            change: _,
+            candidates: _,
+            bump: _,
+            presets: _,
+            rest: _,
+            rates: _,
+            load: _,
+        } = self;
+    }
 }
 
 impl Model for Funds {

@@ -5,6 +5,7 @@ ghost use Rattle.std.specs.List.{filter_map, list_all};
 ghost use Rattle.indexmap.specs.IndexSet.{contains};
 ghost use Rattle.fund_base.specs.Candidates.{AreCandidates};
 ghost use Rattle.fund_base.specs.Outpoints.{same_outpoint};
+ghost use Rattle.fund_base.specs.declared.outpoint.OutPoint.{OutPoint};
 ghost use Rattle.tx_codec.specs.Transaction.{Transaction};
 ghost use Rattle.tx_codec.specs.Txid.{txid_of};
 ghost use Rattle.tx_codec.specs.declared.tx.TxIn.{TxIn};
@@ -13,9 +14,11 @@ ghost use Rattle.coin_book.specs.Faults.{fault_of};
 ghost use Rattle.coin_book.specs.declared.coin.Coin.{Coin};
 ghost use Rattle.coin_book.specs.Spends.{height_of};
 ghost use Rattle.payment_states.specs.BookOf.{IsBookOf};
-ghost use Rattle.payment_states.specs.Candidates.{is_coin};
+ghost use Rattle.payment_states.specs.ByPlace.{view_by};
+ghost use Rattle.payment_states.specs.Candidates.{is_claimed, is_coin};
 ghost use Rattle.payment_states.specs.LeftOut.{comes_from_left, confirmed_without_of, left_by, stays_coin};
 ghost use Rattle.payment_states.specs.Makers.{HasMaker};
+ghost use Rattle.wallet_text.specs.WalletRules.{AreDistinct, ParentsComeFirst};
 
 use crate::abandoned::listed;
 use crate::claims::{claimed_of, pending_of, points_of};
@@ -165,6 +168,23 @@ fn all_left(
     Ok(all)
 }
 
+/// The outpoints that the Pending ones of these transactions spend.
+fn claimed_by(
+    alloc: Global,
+    book: &Book,
+    txs: &[Tx],
+    abandoned: &[Txid],
+) -> Result<IndexSet<OutPoint>, Memory>
+    requires distinct { AreDistinct txs.now }
+    requires parents { ParentsComeFirst txs.now }
+    ensures { (o : OutPoint) → IfOk result (λ s. contains same_outpoint s o ≡ is_claimed (view_by book.now.confirmed txs.now abandoned.now) o) }
+{
+    let states = states_of(alloc, book, txs, abandoned)?;
+    let pending = pending_of(alloc, states.payments())?;
+    let claimed = claimed_of(alloc, txs, &pending)?;
+    Ok(claimed)
+}
+
 /// The confirmed coins that could be spent if the pending list had been written without the transactions of these txids,
 /// in order of creation, each with what would be known of it. Outputs of these are no coins then; a transaction that
 /// spends one is no longer the wallet's own. The states of the others are those of the shorter list. A txid that isn't in
@@ -185,10 +205,10 @@ pub fn confirmed_without(
     ensures makers { IfOk result (λ v. All (HasMaker book.now) v.items) }
 {
     let out = listed(alloc, gone)?;
-    let left = left_of(alloc, &wallet.pending, &out)?;
-    let states = states_of(alloc, book, &left, &wallet.abandoned)?;
-    let pending = pending_of(alloc, states.payments())?;
-    let claimed = claimed_of(alloc, &left, &pending)?;
+    let claimed = {
+        let left = left_of(alloc, &wallet.pending, &out)?;
+        claimed_by(alloc, book, &left, &wallet.abandoned)?
+    };
     let locked = points_of(alloc, &wallet.locked)?;
     let all = all_left(alloc, book, &out, &claimed, &locked, tip)?;
     Ok(all)

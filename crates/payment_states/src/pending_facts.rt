@@ -21,16 +21,27 @@ use wallet_text::Wallet;
 
 /// At each place of the pending list: whether its transaction is Pending and safe, and how many Pending ancestors and
 /// descendants it has, itself included.
-#[derive(Drop)]
 pub struct Facts {
     /// Whether the transaction is Pending.
     pub pending: Vec<bool>,
     /// Whether it is safe.
     pub safe: Vec<bool>,
-    /// Its Pending ancestors.
+    /// Its Pending ancestors, itself included.
     pub ancestors: Vec<u32>,
-    /// Its Pending descendants.
+    /// Its Pending descendants, itself included.
     pub descendants: Vec<u32>,
+}
+
+/// One call, wherever it is dropped.
+impl Drop for Facts {
+    fn drop(self) {
+        let Facts {
+            pending: _,
+            safe: _,
+            ancestors: _,
+            descendants: _,
+        } = self;
+    }
 }
 
 /// Whether each transaction of the pending list is safe.

@@ -25,11 +25,20 @@ use tx_codec::Tx;
 use wallet_text::Wallet;
 
 /// The transactions of a wallet's pending list, in order, each with its state.
-#[derive(Drop)]
 pub struct States {
     payments: Vec<Payment>,
     // their txids, in the same order
     txids: IndexSet<Txid>,
+}
+
+/// One call, wherever it is dropped.
+impl Drop for States {
+    fn drop(self) {
+        let States {
+            payments: _,
+            txids: _,
+        } = self;
+    }
 }
 
 impl Model for States {

@@ -31,13 +31,25 @@ use wallet_text::Watch;
 
 /// What reports are judged against: a request, the script that its change is paid to, the candidates, which are the coins that
 /// may be spent, and what a plan is given where it replaces a payment. It is seen as the plan that is made from these.
-#[derive(Drop)]
 pub struct Examiner {
     alloc: Global,
     request: Request,
     change: Watch,
     funding: Funding,
     steps: Vec<Step>,
+}
+
+/// One call, wherever it is dropped.
+impl Drop for Examiner {
+    fn drop(self) {
+        let Examiner {
+            alloc: _,
+            request: _,
+            change: _,
+            funding: _,
+            steps: _,
+        } = self;
+    }
 }
 
 impl Model for Examiner {

@@ -39,6 +39,12 @@ fn followed(
     whole_text(alloc, &reading)
 }
 
+/// How a file of these bytes ends.
+fn end_of(alloc: Global, bytes: &[u8], before: Before) -> Result<String, RowError> {
+    let reading = read_of(alloc, before, Vec::from_slice(alloc, bytes)?)?;
+    last_text(alloc, &reading)
+}
+
 /// How the first parts of the file end, from no bytes on: of how many in a row, and how.
 fn cuts(alloc: Global, before: Before, file: &str) -> Result<String, RowError> {
     let bytes = words::bytes(alloc, file)?;
@@ -46,9 +52,7 @@ fn cuts(alloc: Global, before: Before, file: &str) -> Result<String, RowError> {
     let mut last = String::new(alloc);
     let mut same: u64 = 0;
     for len in 0..=bytes.len() {
-        let front = Vec::from_slice(alloc, &bytes[..len])?;
-        let reading = read_of(alloc, before, front)?;
-        let end = last_text(alloc, &reading)?;
+        let end = end_of(alloc, &bytes[..len], before)?;
         if len > 0 && end.as_str() != last.as_str() {
             text.push_str(format!(in alloc; "{same} with {last}; ")?.as_str())?;
             same = 0;
@@ -114,14 +118,29 @@ fn failing_at(
     }
 }
 
+/// What is read where the read of this number fails, and how many did.
+fn failing_text(
+    alloc: Global,
+    before: Before,
+    file: &str,
+    number: u64,
+) -> Result<(String, u64), RowError> {
+    let (reading, failed) = failing_at(alloc, before, file, number)?;
+    Ok((whole_text(alloc, &reading)?, failed))
+}
+
+/// What is read where no read fails.
+fn sure_text(alloc: Global, before: Before, file: &str) -> Result<String, RowError> {
+    let reading = read_of(alloc, before, words::bytes(alloc, file)?)?;
+    whole_text(alloc, &reading)
+}
+
 /// What is read where the read of each number fails in turn and the call is made again: the same for each, or the first
 /// that gives something else.
 fn fails(alloc: Global, before: Before, file: &str) -> Result<String, RowError> {
-    let sure = read_of(alloc, before, words::bytes(alloc, file)?)?;
-    let sure = whole_text(alloc, &sure)?;
+    let sure = sure_text(alloc, before, file)?;
     for number in 0..u64::MAX {
-        let (reading, failed) = failing_at(alloc, before, file, number)?;
-        let text = whole_text(alloc, &reading)?;
+        let (text, failed) = failing_text(alloc, before, file, number)?;
         if text.as_str() != sure.as_str() || failed > 1 {
             return Ok(format!(in alloc; "after read {number}: {text}")?);
         }

@@ -11,11 +11,22 @@ use fund_base::Memory;
 use std::marker::Model;
 
 /// The results of the column that a run is in, the finished searches, and the tries made.
-#[derive(Debug, Drop)]
+#[derive(Debug)]
 pub(crate) struct Trail {
     pub(crate) found: Vec<Found>,
     pub(crate) closed: Vec<Section>,
     pub(crate) tries: u64,
+}
+
+/// One call, wherever it is dropped.
+impl Drop for Trail {
+    fn drop(self) {
+        let Trail {
+            found: _,
+            closed: _,
+            tries: _,
+        } = self;
+    }
 }
 
 impl Model for Trail {

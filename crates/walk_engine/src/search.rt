@@ -23,7 +23,7 @@ const MOST_TRIES: u64 = 3_074_457_345_618_258_602;
 
 /// A walk of a problem, try by try, with the letters that it writes. Tries are made in room that was reserved before:
 /// none of them takes memory.
-#[derive(Debug, Drop)]
+#[derive(Debug)]
 pub struct Search {
     pub(crate) prepared: Prepared,
     pub(crate) stack: Stack,
@@ -35,6 +35,24 @@ pub struct Search {
     pub(crate) kept: usize,
     pub(crate) earlier: u64,
     pub(crate) spare: u64,
+}
+
+/// One call, wherever it is dropped.
+impl Drop for Search {
+    fn drop(self) {
+        let Search {
+            prepared: _,
+            stack: _,
+            next: _,
+            best: _,
+            made: _,
+            done: _,
+            letters: _,
+            kept: _,
+            earlier: _,
+            spare: _,
+        } = self;
+    }
 }
 
 impl Model for Search {

@@ -55,8 +55,8 @@ reading-preserved g c =
       };
       reads = e.unfailed (λ h. absurd cc) ∙ c.reading.invariant.reads;
       asked = λ t. asks_again _ _ _ _ (c.reading.invariant.asked t) (e.asked t);
-      so_far = so_far_more g.H.Shelf.tells _ _ _ _ c.reading.feed c.next.new.self c.reading.booked c.in-Ok-add_block.more c.in-Some.block _ _ linked moves (λ t. ap (λ (files : List ℕ → List ℕ). files c.args.name.now) (c.reading.invariant.frame.same t))
-          (λ t. exact t c.reading.invariant.fine) (λ t. within t c.reading.invariant.fine) (λ t. before t c.reading.invariant.fine) _ _ height hash c.in-Ok-add_block.ensures c.reading.invariant.so_far;
+      so_far = so_far_more g.H.Shelf.tells _ _ _ _ c.reading.feed c.next.new.self c.reading.booked c.add_block.new.booked c.in-Some.block _ _ linked moves (λ t. ap (λ (files : List ℕ → List ℕ). files c.args.name.now) (c.reading.invariant.frame.same t))
+          (λ t. exact t c.reading.invariant.fine) (λ t. within t c.reading.invariant.fine) (λ t. before t c.reading.invariant.fine) _ _ height hash c.in_default-add_block.ensures c.reading.invariant.so_far;
     }
 
 pub returns-in_err-block-clause-asked : goal.returns-in_err-block-clause-asked

@@ -12,4 +12,4 @@ add_pending-requires-clause-fresh c =
 
 pub loop-tx-preserved : goal.loop-tx-preserved
 loop-tx-preserved c = λ h none is.
-    waiting_more c.loop-tx.booked c.in_ok-booked.booked h c.args.pending.now c.loop-tx.tx-index c.tx-item.result c.loop-tx-test.true c.tx-item.is c.in_ok-booked.ensures (c.loop-tx.invariant h none is)
+    waiting_more c.loop-tx.booked c.add_pending.new.booked h c.args.pending.now c.loop-tx.tx-index c.tx-item.result c.loop-tx-test.true c.tx-item.is c.in_ok-add_pending.ensures (c.loop-tx.invariant h none is)

@@ -33,22 +33,15 @@ same_test p gone is = λ k. λ t. is t k
 left_is : (p : List ℕ → Bool) (gone : List (List ℕ)) (ts us : List Transaction) → ((t : List ℕ) → p t ≡ is_listed gone t) → ts ≡ us → filter (λ (t : Transaction). not (p (txid_of t))) ts ≡ left_of gone us
 left_is p gone ts us is same = λ k. filter (λ (t : Transaction). not (is (txid_of t) k)) (same k)
 
-pub states_of-requires-clause-distinct : goal.states_of-requires-clause-distinct
-states_of-requires-clause-distinct c =
+pub claimed_by-requires-clause-distinct : goal.claimed_by-requires-clause-distinct
+claimed_by-requires-clause-distinct c =
     let left = left_is (contains bytes_eq c.in_ok-out.out) c.args.gone.now c.deref.result.now c.wallet.inside.pending.items c.in_ok-out.ensures c.deref.ensures.value in
     subst AreDistinct (sym (c.deref-2.ensures.value ∙ c.in_ok-left.ensures ∙ left)) (apart_left c.args.gone.now c.wallet.inside.pending.items c.wallet.invariant.pending_distinct)
 
-pub states_of-requires-clause-parents : goal.states_of-requires-clause-parents
-states_of-requires-clause-parents c =
+pub claimed_by-requires-clause-parents : goal.claimed_by-requires-clause-parents
+claimed_by-requires-clause-parents c =
     let left = left_is (contains bytes_eq c.in_ok-out.out) c.args.gone.now c.deref.result.now c.wallet.inside.pending.items c.in_ok-out.ensures c.deref.ensures.value in
     subst ParentsComeFirst (sym (c.deref-2.ensures.value ∙ c.in_ok-left.ensures ∙ left)) (order_left c.args.gone.now c.wallet.inside.pending.items c.wallet.invariant.parents)
-
-pub claimed_of-requires : goal.claimed_of-requires
-claimed_of-requires c =
-    c.deref-5.ensures.len ∙ c.in_ok-pending.ensures.len
-    ∙ ap (λ (ps : List Payment). length ps) (c.payments.ensures ∙ c.in_ok-states.ensures)
-    ∙ payments_count (view_by c.args.book.now.confirmed c.deref-2.result.now c.deref-3.result.now)
-    ∙ ap (λ (ts : List Transaction). length ts) (c.deref-2.ensures.value ∙ sym c.deref-4.ensures.value)
 
 pub returns-clause-exact : goal.returns-clause-exact
 returns-clause-exact c =
@@ -58,16 +51,11 @@ returns-clause-exact c =
     let w = view_of (wallet_without gone wallet) (history_without gone h) in
     let own : c.wallet.inside.pending.items ≡ wallet.pending = ap (λ (w : PlainWallet). w.pending) c.wallet.view_is in
     let left : c.in_ok-left.left.items ≡ left_of gone wallet.pending = c.in_ok-left.ensures ∙ left_is (contains bytes_eq c.in_ok-out.out) gone c.deref.result.now wallet.pending c.in_ok-out.ensures (c.deref.ensures.value ∙ own) in
-    let payments : c.payments.result.now ≡ payments_in w =
-    c.payments.ensures ∙ c.in_ok-states.ensures
-    ∙ (λ k. payments_in (view_by h.confirmed ((c.deref-2.ensures.value ∙ left) k) ((c.deref-3.ensures.value ∙ ap (λ (w : PlainWallet). w.abandoned) c.wallet.view_is) k))) in
-    let flags : c.deref-5.result.now ≡ map (is_pending w) (below (length w.pending)) = c.deref-5.ensures.value ∙ c.in_ok-pending.ensures.pending ∙ ap (map (λ (p : Payment). is_pending_state p.state)) payments ∙ pending_are w in
     let claimed : (o : OutPoint) → contains same_outpoint c.in_ok-claimed.claimed o ≡ is_claimed w o =
     λ o. c.in_ok-claimed.ensures o
-    ∙ (λ k. list_any (λ i. slice_index_or c.deref-5.result.now i false && has_input o (slice_index_or ((c.deref-4.ensures.value ∙ left) k) i no_tx).inputs) (below (length ((c.deref-4.ensures.value ∙ left) k))))
-    ∙ claimed_are w c.deref-5.result.now o flags in
+    ∙ (λ k. is_claimed (view_by h.confirmed ((c.deref-2.ensures.value ∙ left) k) ((c.deref-3.ensures.value ∙ ap (λ (w : PlainWallet). w.abandoned) c.wallet.view_is) k)) o) in
     let locked : (o : OutPoint) → contains same_outpoint c.in_ok-locked.locked o ≡ is_locked wallet o =
-    λ o. c.in_ok-locked.ensures o ∙ ap (λ (os : List OutPoint). list_any (λ x. same_outpoint x o) os) (c.deref-6.ensures.value ∙ ap (λ (w : PlainWallet). w.locked) c.wallet.view_is) in
+    λ o. c.in_ok-locked.ensures o ∙ ap (λ (os : List OutPoint). list_any (λ x. same_outpoint x o) os) (c.deref-4.ensures.value ∙ ap (λ (w : PlainWallet). w.locked) c.wallet.view_is) in
     let rules : IsWallet wallet = subst IsWallet c.wallet.view_is c.wallet.invariant in
     c.in_ok-all.ensures.left
     ∙ ap (λ (p : List ℕ → Bool). filter_map (λ (x : Coin). left_by h p c.args.tip (contains same_outpoint c.in_ok-claimed.claimed x.coin) (contains same_outpoint c.in_ok-locked.locked x.coin) x) (coins_of h)) (same_test (contains bytes_eq c.in_ok-out.out) gone c.in_ok-out.ensures)

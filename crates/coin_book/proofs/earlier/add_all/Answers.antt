@@ -5,12 +5,12 @@ use Rattle.wallet_text.specs.PlainWallet.{Earlier}
 use Rattle.coin_book.specs.History.{Confirmed, confirmed_at, confirmed_before}
 use Rattle.coin_book.specs.Invariant.{HoldsChain, points_in, weigher}
 use Rattle.coin_book.proofs.ChainSteps.{all_of, next_of, no_chain, place_of, fault_early, fault_on}
-use Rattle.coin_book.proofs.earlier.ledger_of.Goals as goal
+use Rattle.coin_book.proofs.earlier.add_all.Goals as goal
 
 pub loop-index-init : goal.loop-index-init
 unfolding fault_behind
 loop-index-init c = record {
-  holds = no_chain (weigher c.args.weights.now.entries) c.in_ok-ledger.ledger c.in_ok-ledger.ensures.coins c.in_ok-ledger.ensures.spends c.in_ok-ledger.ensures.heights;
+  holds = no_chain (weigher c.args.weights.now.entries) c.args.ledger.now c.requires.coins c.requires.spends c.requires.heights;
   fresh = refl;
 }
 

@@ -2,7 +2,7 @@ use Rattle.std.proofs.Common.{◌≡◌, [], None, map, take}
 use Rattle.coin_book.specs.Faults.{fault_behind}
 use Rattle.coin_book.specs.History.{confirmed_before}
 use Rattle.coin_book.specs.Invariant.{HoldsChain, points_in, weigher}
-use Rattle.coin_book.proofs.earlier.ledger_of.Given as goal
+use Rattle.coin_book.proofs.earlier.add_all.Given as goal
 
 abbrev pub invariant-loop-index : goal.invariant-loop-index
 invariant-loop-index l = record {
