@@ -15,7 +15,7 @@ FILE is one of tests/people/*.txt, which are all of them where none is named. Ea
 
 and no other file is there or changed afterwards. Each row has a folder of its own, with the files of FILES. The expected text
 doesn't come from the program. Tables, PSBTs and logs are those of the stored runs of rows_commands and fund_cli, put
-into the form of payment_table by hand or by a script. Sentences are those of docs/TROUBLES.md, which is looked at here. It
+into the form of command_pay by hand or by a script. Sentences are those of docs/TROUBLES.md, which is looked at here. It
 shares no code with the program, and needs Python alone.
 """
 import glob

@@ -3,7 +3,7 @@
     python3 tests/troubles.py           compares; ends with 1 where they differ
     python3 tests/troubles.py --write   makes these sections of the page anew
 
-The sentences stand in crates/fault_sentences/specs/Sentences.antt, and those of the words of `ninelace pay` in
+The sentences stand in crates/fault_lines/specs/Sentences.antt, and those of the words of `ninelace pay` in
 crates/pay_words/specs/Sentences.antt; the code is proved to give these. Where both have a fault, as an unknown method,
 its sentence is one."""
 import os
@@ -11,7 +11,7 @@ import re
 import sys
 
 TOP = os.path.dirname(os.path.dirname(os.path.abspath(__file__)))
-SENTENCES = os.path.join(TOP, "crates/fault_sentences/specs/Sentences.antt")
+SENTENCES = os.path.join(TOP, "crates/fault_lines/specs/Sentences.antt")
 WORDS = os.path.join(TOP, "crates/pay_words/specs/Sentences.antt")
 PAGE = os.path.join(TOP, "docs/TROUBLES.md")
 HEADING = "## Each fault in a sentence"
@@ -131,7 +131,7 @@ def main():
     begin = page.find(HEADING)
     end = page.find("## Taken without a word")
     if apart():
-        print("pay_words says of %s otherwise than fault_sentences" % ", ".join(apart()))
+        print("pay_words says of %s otherwise than fault_lines" % ", ".join(apart()))
         return 1
     if sys.argv[1:] == ["--write"]:
         begin = end if begin < 0 else begin

@@ -7,8 +7,8 @@ use Rattle.fund_plan.specs.Outcome.{tries_at}
 use Rattle.fund_report.specs.ReportText.{IsReportText}
 use Rattle.fund_report.specs.declared.report.Report.TheVariants as kinds
 use Rattle.fund_steps.specs.Plan.{PlainPlan}
-use Rattle.workload.proofs.KeptLaws.{funded_kept}
-use Rattle.workload.specs.Summary.{digest_line, summary_text, title_of}
+use Rattle.command_work.proofs.KeptLaws.{funded_kept}
+use Rattle.command_work.specs.Summary.{digest_line, summary_text, title_of}
 use Rattle.command_work.specs.Due.{load_of, load_plan}
 use Rattle.checked_payments.specs.Summed.{IsSummed, lines_for, report_for, reported_for}
 use Rattle.checked_payments.proofs.CommandLaws.{few_tries, paid_reads}

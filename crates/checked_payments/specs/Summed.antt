@@ -4,9 +4,9 @@ use Rattle.fund_payment.specs.Report.{report_of, reported}
 use Rattle.fund_plan.specs.Outcome.{tries_at}
 use Rattle.fund_plan.specs.Selection.{PlainFunded}
 use Rattle.fund_report.specs.PlainFunded as reports
-use Rattle.workload.specs.Load.{request_of, wallet_of}
-use Rattle.workload.specs.Outline.{outline_of}
-use Rattle.workload.specs.Summary.{digest_line, title_of}
+use Rattle.command_work.specs.Load.{request_of, wallet_of}
+use Rattle.command_work.specs.Outline.{outline_of}
+use Rattle.command_work.specs.Summary.{digest_line, title_of}
 use Rattle.command_work.specs.Due.{load_of, load_plan}
 use Rattle.command_work.specs.Statuses as workloads
 

@@ -1,3 +1,4 @@
 pub mod AskingLaws
 pub mod EndsLaws
+pub mod LinesLaws
 pub mod ListingLaws

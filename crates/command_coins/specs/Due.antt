@@ -1,6 +1,6 @@
 -- What the files of a listing come to.
 use Rattle.std.specs.Prelude.{ℕ, List, [], Result, Ok, Err}
-use Rattle.coin_listing.specs.Listing.{listing_of}
+use Rattle.command_coins.specs.Listing.{listing_of}
 use Rattle.fund_files.specs.Cause.{FileCause}
 use Rattle.fund_files.specs.Outcome.{chain_of}
 use Rattle.fund_files.specs.declared.held.Held.{Held}

@@ -1,3 +1,4 @@
 pub mod Answer
 pub mod Due
+pub mod Listing
 pub mod Statuses

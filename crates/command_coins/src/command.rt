@@ -10,7 +10,7 @@ ghost use Rattle.command_coins.specs.Answer.{IsStopped};
 ghost use Rattle.command_coins.specs.Due.{name_of};
 ghost use Rattle.command_coins.specs.Statuses.{AsksToUnread, Ends, IsListed};
 
-use crate::listing::listing_text;
+use crate::chain_listing::listing_text;
 use command_end::{Sources, Status, put_report, refuse_file, refuse_read, want_of_memory};
 use fund_base::{Memory, Shelf, Sink};
 use fund_files::{File, Stop, read_chain};

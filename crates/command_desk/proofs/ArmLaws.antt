@@ -4,7 +4,7 @@ use Rattle.fund_base.specs.Causes.{ShelfView, SinkView}
 use Rattle.desk_machine.specs.Commands.{Command, plain_command}
 use Rattle.desk_machine.specs.State.{PlainDesk}
 use Rattle.desk_machine.specs.declared.command.Command as given
-use Rattle.desk_script.specs.Line.{Line}
+use Rattle.command_desk.specs.Line.{Line}
 use Rattle.command_desk.specs.Course.{AnswersBy}
 use Rattle.command_desk.specs.Halts.{HaltsLine, HaltsPutting, HaltsReplying, HasCommand, IsDoneLine, IsReplied}
 use Rattle.command_desk.specs.declared.halt.Halt.{Halt}

@@ -5,7 +5,7 @@ use Rattle.desk_machine.specs.Commands.{Command}
 use Rattle.desk_machine.specs.Machine.{step_of}
 use Rattle.desk_machine.specs.Runs.{Runs, Said}
 use Rattle.desk_machine.specs.State.{PlainDesk}
-use Rattle.desk_script.specs.Line.{Line, command_of, line_of}
+use Rattle.command_desk.specs.Line.{Line, command_of, line_of}
 use Rattle.command_desk.specs.Calls.{Shows, ShowsBy}
 use Rattle.command_desk.specs.Course.{AnswersBy, Course}
 use Rattle.command_desk.proofs.ReplyLaws.{one_line}

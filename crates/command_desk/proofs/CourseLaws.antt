@@ -7,7 +7,7 @@ use Rattle.std.proofs.lemmas.Bool.{le-ltb, lt-ltb, or_left, or_right}
 use Rattle.std.proofs.lemmas.List.{append-nil}
 use Rattle.std.proofs.lemmas.List.Elements.{Contains-append_left, Contains-append_right, Contains-push}
 use Rattle.desk_machine.specs.State.{PlainDesk}
-use Rattle.desk_script.specs.Line.{Line, Open, Turn, Commit, Close, Release, Blocks, Pending, Other, Wanted, line_of, wanted}
+use Rattle.command_desk.specs.Line.{Line, Open, Turn, Commit, Close, Release, Blocks, Pending, Other, Wanted, line_of, wanted}
 use Rattle.command_desk.specs.Asked.{file_in, files_in}
 use Rattle.command_desk.specs.Course.{Answers, Course, IsLong, IsWithin, file_name}
 use Rattle.command_desk.specs.Due.{is_long}

@@ -14,7 +14,7 @@ use Rattle.command_end.specs.Names.{Sources}
 use Rattle.command_end.specs.declared.status.Status.{Status}
 use Rattle.command_end.specs.declared.status.Status.TheVariants as statuses
 use Rattle.desk_machine.specs.State.{PlainDesk}
-use Rattle.desk_script.specs.Script.{lines_of}
+use Rattle.command_desk.specs.Script.{lines_of}
 use Rattle.command_desk.specs.Asked.{first_names}
 use Rattle.command_desk.specs.Due.{Outcome, Refused, TooLong, Halted, Replied, IsRefusal, by_chain, by_lines, by_script, due_of, is_long, status_of}
 use Rattle.command_desk.specs.Running.{StopsInside}

@@ -9,8 +9,8 @@ use Rattle.command_end.specs.Names.{Sources}
 use Rattle.command_end.specs.declared.status.Status.{Status}
 use Rattle.command_end.specs.declared.status.Status.TheVariants as statuses
 use Rattle.desk_machine.specs.State.{PlainDesk}
-use Rattle.desk_script.specs.Line.{line_of}
-use Rattle.desk_script.specs.Script.{lines_of}
+use Rattle.command_desk.specs.Line.{line_of}
+use Rattle.command_desk.specs.Script.{lines_of}
 use Rattle.command_desk.specs.Asked.{NoneBehind, files_in, first_names}
 use Rattle.command_desk.specs.Course.{Answers, Course, IsLong, long_word}
 use Rattle.command_desk.specs.Running.{RunsOn, StandsAt, StopsAt, StopsInside}

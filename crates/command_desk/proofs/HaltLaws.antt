@@ -10,8 +10,8 @@ use Rattle.command_end.specs.Printed.{TellsWhole}
 use Rattle.command_end.specs.declared.status.Status.{Status}
 use Rattle.command_end.specs.declared.status.Status.TheVariants as statuses
 use Rattle.desk_machine.specs.State.{PlainDesk}
-use Rattle.desk_script.specs.Line.{Line, line_of, wanted}
-use Rattle.desk_script.specs.Script.{lines_of}
+use Rattle.command_desk.specs.Line.{Line, line_of, wanted}
+use Rattle.command_desk.specs.Script.{lines_of}
 use Rattle.command_desk.specs.Asked.{file_in}
 use Rattle.command_desk.specs.Course.{Answers, IsCommandLine, IsLong, file_name, long_word}
 use Rattle.command_desk.specs.Halts.{EndsAt, EndsFirst, HaltsLine, HasPutPart, IsUnreadLine, status_of}

@@ -1,10 +1,16 @@
 pub mod ArmLaws
 pub mod CallLaws
 pub mod CourseLaws
+pub mod CutLaws
 pub mod DueLaws
 pub mod EndsLaws
 pub mod HaltLaws
 pub mod LineLaws
+pub mod OnlyLaws
 pub mod ReplyLaws
+pub mod SaidLaws
+pub mod ScriptLaws
 pub mod SoFar
 pub mod StopLaws
+pub mod TextLaws
+pub mod WordLaws

@@ -5,7 +5,7 @@ use Rattle.fund_base.specs.Causes.{ShelfView, SinkView}
 use Rattle.desk_machine.specs.Commands.{Command, plain_command}
 use Rattle.desk_machine.specs.State.{PlainDesk}
 use Rattle.desk_machine.specs.declared.command.Command as given
-use Rattle.desk_script.specs.Line.{Line, Open, Turn, Commit, Close, Release, Blocks, Pending, Other, Wanted, wanted}
+use Rattle.command_desk.specs.Line.{Line, Open, Turn, Commit, Close, Release, Blocks, Pending, Other, Wanted, wanted}
 use Rattle.command_desk.specs.Course.{Answers, AnswersBy, IsCommandLine}
 use Rattle.command_desk.specs.Halts.{HaltsAt, HaltsLine, HaltsPutting, HaltsReading, HaltsReplying, HasCommand, HasPutPart, IsBegun, IsDoneLine, IsReplied, LacksMemory}
 use Rattle.command_desk.specs.declared.halt.Halt.{Halt}

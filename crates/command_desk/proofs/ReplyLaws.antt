@@ -21,8 +21,8 @@ use Rattle.desk_machine.specs.declared.reply.Refusal.{Refusal}
 use Rattle.desk_machine.specs.declared.reply.Refusal.TheVariants as refusals
 use Rattle.desk_machine.specs.declared.reply.Reply.{Reply}
 use Rattle.desk_machine.specs.declared.reply.Reply.TheVariants as replies
-use Rattle.desk_script.specs.Line.{Line}
-use Rattle.desk_script.specs.ReplyText.{book_words, plan_words, refusal_words, reply_line, reply_words, subject_of}
+use Rattle.command_desk.specs.Line.{Line}
+use Rattle.command_desk.specs.ReplyText.{book_words, plan_words, refusal_words, reply_line, reply_words, subject_of}
 
 -- the words of a fault by its plain form
 field_text : FieldFault → List ℕ

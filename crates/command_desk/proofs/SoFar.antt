@@ -8,8 +8,8 @@ use Rattle.fund_files.proofs.FrameLaws.{only_reads_on}
 use Rattle.command_end.proofs.WholeLaws.{took_on}
 use Rattle.command_end.specs.Printed.{TookAll}
 use Rattle.desk_machine.specs.State.{PlainDesk}
-use Rattle.desk_script.specs.Line.{line_of, wanted}
-use Rattle.desk_script.specs.Script.{lines_of}
+use Rattle.command_desk.specs.Line.{line_of, wanted}
+use Rattle.command_desk.specs.Script.{lines_of}
 use Rattle.command_desk.specs.Asked.{file_in, files_in}
 use Rattle.command_desk.specs.Course.{Answers, Course}
 use Rattle.command_desk.specs.Halts.{IsDoneLine}

@@ -7,7 +7,7 @@ use Rattle.fund_files.specs.Cause.{FileCause}
 use Rattle.fund_files.specs.Contents.{HasChain}
 use Rattle.fund_files.specs.FileStops.{IsWalletCause}
 use Rattle.command_end.specs.Names.{Sources}
-use Rattle.desk_script.specs.Line.{Wanted, line_of, wanted}
+use Rattle.command_desk.specs.Line.{Wanted, line_of, wanted}
 
 -- the file that a line names, if it names one
 abbrev pub file_in : Option Wanted → List (List ℕ)

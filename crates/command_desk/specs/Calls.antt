@@ -4,8 +4,8 @@ use Rattle.desk_machine.specs.Commands.{Command}
 use Rattle.desk_machine.specs.Replies.{plain_reply}
 use Rattle.desk_machine.specs.Runs.{Said}
 use Rattle.desk_machine.specs.declared.reply.Reply.{Reply}
-use Rattle.desk_script.specs.Line.{Line, command_of, line_of}
-use Rattle.desk_script.specs.ReplyText.{other_line, reply_line}
+use Rattle.command_desk.specs.Line.{Line, command_of, line_of}
+use Rattle.command_desk.specs.ReplyText.{other_line, reply_line}
 
 -- The first of some calls is that of a line, and its reply is printed; or the line is no command, and that is printed. What is
 -- said of the other lines stands behind.

@@ -5,8 +5,8 @@ use Rattle.desk_machine.specs.Machine.{step_of}
 use Rattle.desk_machine.specs.Replies.{plain_reply}
 use Rattle.desk_machine.specs.State.{PlainDesk}
 use Rattle.desk_machine.specs.declared.reply.Reply.{Reply}
-use Rattle.desk_script.specs.Line.{Line, Open, Turn, Commit, Close, Release, Blocks, Pending, Other, Wanted, command_of, line_of, wanted}
-use Rattle.desk_script.specs.ReplyText.{other_line, reply_line}
+use Rattle.command_desk.specs.Line.{Line, Open, Turn, Commit, Close, Release, Blocks, Pending, Other, Wanted, command_of, line_of, wanted}
+use Rattle.command_desk.specs.ReplyText.{other_line, reply_line}
 
 -- ---- the file of a line
 

@@ -9,8 +9,8 @@ use Rattle.command_end.specs.Lines.{status_of_file}
 use Rattle.command_end.specs.Names.{Sources}
 use Rattle.command_end.specs.declared.status.Status.{Status}
 use Rattle.command_end.specs.declared.status.Status.TheVariants as statuses
-use Rattle.desk_script.specs.Line.{Wanted, line_of, wanted}
-use Rattle.desk_script.specs.Script.{lines_of}
+use Rattle.command_desk.specs.Line.{Wanted, line_of, wanted}
+use Rattle.command_desk.specs.Script.{lines_of}
 
 -- The wallet or the blocks are refused for a cause; the script is too long, or the file of its first line; the file of a
 -- later line is; or each line is replied to.

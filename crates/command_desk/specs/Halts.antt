@@ -13,7 +13,7 @@ use Rattle.desk_machine.specs.Commands as commands
 use Rattle.desk_machine.specs.Commands.{IsCommand, plain_command}
 use Rattle.desk_machine.specs.State.{PlainDesk}
 use Rattle.desk_machine.specs.declared.command.Command.{Command}
-use Rattle.desk_script.specs.Line.{Line, Other, Says, Wanted, command_of, wanted}
+use Rattle.command_desk.specs.Line.{Line, Other, Says, Wanted, command_of, wanted}
 use Rattle.command_desk.specs.Course.{Answers, AnswersBy, IsCommandLine, IsLong, IsWithin, file_name, long_word}
 use Rattle.command_desk.specs.declared.halt.Halt.{Halt}
 use Rattle.command_desk.specs.declared.halt.Halt.TheVariants as halts

@@ -4,7 +4,11 @@ pub mod Course
 pub mod Due
 pub mod Endings
 pub mod Halts
+pub mod Lent
+pub mod Line
+pub mod ReplyText
 pub mod Running
+pub mod Script
 pub mod Starts
 pub mod Statuses
 pub mod Stops

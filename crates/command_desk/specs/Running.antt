@@ -6,8 +6,8 @@ use Rattle.command_end.specs.Lines.{GotLine, fault_line}
 use Rattle.command_end.specs.declared.status.Status.{Status}
 use Rattle.command_end.specs.declared.status.Status.TheVariants as statuses
 use Rattle.desk_machine.specs.State.{PlainDesk}
-use Rattle.desk_script.specs.Line.{Wanted, line_of, wanted}
-use Rattle.desk_script.specs.Script.{lines_of}
+use Rattle.command_desk.specs.Line.{Wanted, line_of, wanted}
+use Rattle.command_desk.specs.Script.{lines_of}
 use Rattle.command_desk.specs.Asked.{files_in}
 use Rattle.command_desk.specs.Course.{Answers, Course, IsCommandLine, IsLong, long_word}
 

@@ -6,8 +6,8 @@ use Rattle.fund_files.specs.declared.refusal.File.{File}
 use Rattle.command_end.specs.Names.{Sources}
 use Rattle.command_end.specs.declared.status.Status.{Status}
 use Rattle.desk_machine.specs.State.{PlainDesk}
-use Rattle.desk_script.specs.Line.{Wanted, line_of, wanted}
-use Rattle.desk_script.specs.Script.{lines_of}
+use Rattle.command_desk.specs.Line.{Wanted, line_of, wanted}
+use Rattle.command_desk.specs.Script.{lines_of}
 use Rattle.command_desk.specs.Asked.{first_names}
 use Rattle.command_desk.specs.Endings.{EndsBefore}
 use Rattle.command_desk.specs.Running.{RunsOn}

@@ -4,7 +4,7 @@ ghost use Rattle.std.specs.Prelude.{◌≡◌, ◌≢◌, ◌⊎◌, ◌++◌};
 ghost use Rattle.fund_base.specs.Causes.{Asks, CountsNeverFall, OnlyReads};
 ghost use Rattle.command_end.specs.Names.{plain_sources};
 ghost use Rattle.command_end.specs.Printed.{TellsWhole, TookAll};
-ghost use Rattle.desk_script.specs.Script.{lines_of};
+ghost use Rattle.command_desk.specs.Script.{lines_of};
 ghost use Rattle.command_desk.specs.Asked.{NoneBehind, files_in, first_names};
 ghost use Rattle.command_desk.specs.Due.{IsRefusal, due_of, status_of};
 ghost use Rattle.command_desk.specs.Statuses.{Ends, NoneFailed, NoneUnread};

@@ -3,13 +3,13 @@
 ghost use Rattle.std.specs.Prelude.{◌≡◌, ◌++◌, codes};
 ghost use Rattle.fund_base.specs.Causes.{CountsNeverFall};
 ghost use Rattle.command_end.specs.Lines.{GotLine, fault_line};
-ghost use Rattle.desk_script.specs.Lent.{plain_line};
+ghost use Rattle.command_desk.specs.Lent.{plain_line};
 ghost use Rattle.command_desk.specs.Course.{file_name, long_word};
 ghost use Rattle.command_desk.specs.Halts.{EndsAt, EndsFirst, status_of};
 
 use crate::halt::Halt;
+use crate::line::Line;
 use command_end::{Status, put_line, refuse_read, want_of_memory};
-use desk_script::Line;
 use fund_base::Sink;
 use std::alloc::Global;
 

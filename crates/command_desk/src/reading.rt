@@ -2,14 +2,14 @@
 
 ghost use Rattle.std.specs.Prelude.{◌≡◌, ◌≢◌, ◌≤◌, [], ◌∷◌, IfErr, IfOk, OnOk, length, string_bytes};
 ghost use Rattle.fund_base.specs.Causes.{Asks, OnlyReads};
-ghost use Rattle.desk_script.specs.Lent.{plain_line};
-ghost use Rattle.desk_script.specs.Line.{Blocks, Open, wanted};
+ghost use Rattle.command_desk.specs.Lent.{plain_line};
+ghost use Rattle.command_desk.specs.Line.{Blocks, Open, wanted};
 ghost use Rattle.command_desk.specs.Asked.{file_in};
 ghost use Rattle.command_desk.specs.Halts.{HaltsAt, HaltsReading, HasCommand, IsSaid};
 
 use crate::halt::{Halt, read_halt};
+use crate::line::Line;
 use desk_machine::Command;
-use desk_script::Line;
 use fund_base::{Memory, Shelf, read_whole};
 use std::alloc::Global;
 

@@ -3,14 +3,15 @@
 ghost use Rattle.std.specs.Prelude.{◌≡◌, ◌≢◌, []};
 ghost use Rattle.fund_base.specs.Causes.{Asks, CountsNeverFall, OnlyReads};
 ghost use Rattle.command_end.specs.Printed.{TellsWhole, TookAll};
-ghost use Rattle.desk_script.specs.Script.{lines_of};
+ghost use Rattle.command_desk.specs.Script.{lines_of};
 ghost use Rattle.command_desk.specs.Asked.{files_in};
 ghost use Rattle.command_desk.specs.Running.{RunsOn};
 
 use crate::doing::do_line;
 use crate::ending::end_at;
+use crate::line::parse;
+use crate::script::next_line;
 use command_end::Status;
-use desk_script::{next_line, parse};
 use fund_base::{Shelf, Sink};
 use fund_desk::Desk;
 use std::alloc::Global;

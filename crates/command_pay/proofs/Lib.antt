@@ -1,3 +1,4 @@
 mod MoneyLaws
 mod PaymentLaws
+pub mod Pieces
 mod RunLaws

@@ -20,7 +20,7 @@ use Rattle.command_fund.specs.Due.{plan_of}
 use Rattle.command_fund.specs.Statuses.{IsFunded}
 use Rattle.checked_payments.proofs.CommandLaws.{paid_reads}
 use Rattle.pay_words.specs.declared.asked.Asked.{Asked}
-use Rattle.request_shelf.specs.Held.{count_among, file_among, log_name, request_name}
+use Rattle.command_pay.specs.Held.{count_among, file_among, log_name, request_name}
 use Rattle.command_pay.specs.AsAsked.{IsAsAsked, IsOther}
 use Rattle.command_pay.specs.Run.{IsPayment, IsRun, beside, held_names, sources_of}
 

@@ -20,7 +20,7 @@ use Rattle.fund_top.specs.Due.{ComesTo, IsRefusal, IsTold, Outcome}
 use Rattle.fund_top.specs.Statuses.{Ends, EndsBroken, EndsInput, EndsLimited, EndsNotFunded, EndsNotKept, EndsUnfinished, EndsUnkept, EndsUnread, EndsUnwritten, EndsWithoutMemory, KeepsOthers, NoneFailed, NoneUnkept, NoneUnread, WhereFunding, status_of}
 use Rattle.fund_top.specs.Words.{Command, Fund, command_of, names_stand, payment, sources, where_stands}
 use Rattle.pay_words.specs.declared.asked.Asked.{Asked}
-use Rattle.request_shelf.specs.Held.{log_name}
+use Rattle.command_pay.specs.Held.{log_name}
 use Rattle.command_pay.specs.declared.run.Run.{Run}
 use Rattle.command_pay.specs.Run.{IsRun, beside, command_for, empty_sink, held_names, no_jobs, sources_of}
 

@@ -18,7 +18,7 @@ use Rattle.request_text.specs.PlainRequest.{PlainRequest}
 use Rattle.wallet_text.specs.PlainWallet.{PlainWallet}
 use Rattle.command_fund.specs.Due.{log_text_at, plan_of}
 use Rattle.pay_words.specs.declared.asked.Asked.{Asked}
-use Rattle.request_shelf.specs.Held.{log_name, request_name}
+use Rattle.command_pay.specs.Held.{log_name, request_name}
 
 -- a name other than those of the two files that are held
 abbrev pub IsOther : List ℕ → Type 0

@@ -1,5 +1,12 @@
 pub mod AsAsked
-pub mod Run
-pub mod Written
-pub mod Pays
+pub mod Change
+pub mod Fees
+pub mod Held
+pub mod Lines
 pub mod Money
+pub mod Pays
+pub mod Rates
+pub mod Run
+pub mod Said
+pub mod Table
+pub mod Written

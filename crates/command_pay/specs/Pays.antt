@@ -4,7 +4,7 @@ use Rattle.fund_base.specs.Causes.{ShelfView}
 use Rattle.fund_report.specs.PlainFunded.{PlainFunded}
 use Rattle.command_end.specs.declared.status.Status.TheVariants as statuses
 use Rattle.pay_words.specs.declared.asked.Asked.{Asked}
-use Rattle.payment_table.specs.Fees.{fee_ceiling}
+use Rattle.command_pay.specs.Fees.{fee_ceiling}
 use Rattle.command_pay.specs.Run.{IsPayment, IsRun}
 use Rattle.command_pay.specs.Written.{HasFileIf, IsStill, IsUnwritten}
 use Rattle.command_pay.specs.declared.outcome.Ending.{Ending}

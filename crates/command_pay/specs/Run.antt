@@ -20,7 +20,7 @@ use Rattle.fund_top.specs.Due.{ComesTo, IsRefusal, Outcome}
 use Rattle.fund_top.specs.Statuses.{Ends, KeepsOthers, NoneFailed, NoneUnkept, NoneUnread, status_of}
 use Rattle.fund_top.specs.Words.{Command, Fund, names_stand}
 use Rattle.pay_words.specs.declared.asked.Asked.{Asked}
-use Rattle.request_shelf.specs.Held.{held_view, log_name, request_name}
+use Rattle.command_pay.specs.Held.{held_view, log_name, request_name}
 
 -- the files from which its coins are told
 abbrev pub sources_of : Asked → Sources

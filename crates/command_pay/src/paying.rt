@@ -10,6 +10,7 @@ ghost use Rattle.pay_words.specs.declared.fault.WordFault.TheVariants.{Memory as
 ghost use Rattle.command_pay.specs.Pays.{HasTwoNames, Pays, most_for};
 ghost use Rattle.command_pay.specs.Written.{KeepsFiles};
 
+use crate::fees::{fee_ceiling, is_fee_taken};
 use crate::outcome::Ending;
 use crate::run::{Run, run_asked};
 use crate::written::{PutFault, put_files};
@@ -17,7 +18,6 @@ use command_end::Status;
 use fund_base::{Memory, Shelf};
 use fund_report::{FundedReport, Report, ReportFault, read_report};
 use pay_words::{Asked, WordFault, read_pay};
-use payment_table::{fee_ceiling, is_fee_taken};
 use std::alloc::Global;
 
 /// The payment of which these bytes are the report. It refuses only when out of memory.

@@ -8,12 +8,12 @@ ghost use Rattle.fund_top.specs.Words.{command_of, names_stand, where_stands};
 ghost use Rattle.command_pay.specs.Run.{IsRun, command_for, held_names, sources_of};
 ghost use Rattle.command_pay.specs.Written.{KeepsFiles};
 
+use crate::held::{RequestShelf, log_name, request_name};
 use command_end::Status;
 use fund_base::{Memory, Shelf, SureSink};
 use fund_outside::SureKeeper;
 use fund_top::run;
 use pay_words::Asked;
-use request_shelf::{RequestShelf, log_name, request_name};
 use std::alloc::Global;
 
 /// What a run came to: its status, what it printed, and its log.

@@ -23,9 +23,9 @@ use Rattle.coin_book.specs.Faults.{fault_of, points}
 use Rattle.coin_book.specs.History.{Confirmed, History, confirmed_before}
 use Rattle.coin_book.specs.Outputs.{IsCoinOf}
 use Rattle.payment_states.proofs.FitSteps.{all_flat}
-use Rattle.workload.proofs.CoinLaws.{value_most}
-use Rattle.workload.specs.Kinds.{watches}
-use Rattle.workload.specs.Load.{earlier_at, earlier_of, maker_of}
+use Rattle.command_work.proofs.CoinLaws.{value_most}
+use Rattle.command_work.specs.Kinds.{watches}
+use Rattle.command_work.specs.Load.{earlier_at, earlier_of, maker_of}
 use Rattle.command_work.specs.Due.{load_of}
 
 -- ---- lists of outpoints

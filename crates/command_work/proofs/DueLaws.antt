@@ -6,7 +6,7 @@ use Rattle.fund_plan.specs.declared.outcome.Outcome.{Outcome as Answer}
 use Rattle.fund_plan.specs.declared.outcome.Outcome.TheVariants as answers
 use Rattle.wallet_text.specs.WalletRules.{AreDistinctEarlier}
 use Rattle.wallet_text.specs.WalletText.{earlier_txids, repeat_from}
-use Rattle.workload.specs.Load.{earlier_of, request_of, wallet_of}
+use Rattle.command_work.specs.Load.{earlier_of, request_of, wallet_of}
 use Rattle.command_end.specs.Names.{Sources}
 use Rattle.command_fund.proofs.DueLaws.{due_is, inputs_due}
 use Rattle.command_fund.specs.Cause.{Cause}

@@ -1,6 +1,15 @@
 pub mod BookLaws
+pub mod CoinLaws
 pub mod DueLaws
 pub mod EndLaws
+pub mod KeptLaws
+pub mod KindLaws
+pub mod LeftOutLaws
+pub mod LineLaws
+pub mod MakerLaws
 pub mod PlanLaws
 pub mod RepeatLaws
+pub mod RuleLaws
 pub mod RunLaws
+pub mod SummaryLaws
+pub mod TextLaws

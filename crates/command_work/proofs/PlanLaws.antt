@@ -33,11 +33,11 @@ use Rattle.fund_steps.specs.declared.fault.PlanFault.{PlanFault}
 use Rattle.fund_steps.specs.declared.fault.PlanFault.TheVariants as plans
 use Rattle.wallet_text.specs.PlainWallet.{PlainWallet}
 use Rattle.wallet_text.specs.WalletRules.{AreDistinctEarlier, IsWallet}
-use Rattle.workload.proofs.CoinLaws.{total_within}
-use Rattle.workload.proofs.MakerLaws.{earlier_are}
-use Rattle.workload.proofs.RuleLaws.{request_is, wallet_is}
-use Rattle.workload.specs.Coins.{total_of}
-use Rattle.workload.specs.Load.{earlier_of, request_of, wallet_of}
+use Rattle.command_work.proofs.CoinLaws.{total_within}
+use Rattle.command_work.proofs.MakerLaws.{earlier_are}
+use Rattle.command_work.proofs.RuleLaws.{request_is, wallet_is}
+use Rattle.command_work.specs.Coins.{total_of}
+use Rattle.command_work.specs.Load.{earlier_of, request_of, wallet_of}
 use Rattle.command_work.specs.Due.{load_of, load_plan}
 use Rattle.command_work.proofs.BookLaws.{IsCheap, load_cheap, load_few, load_sound}
 

@@ -11,9 +11,9 @@ use Rattle.wallet_text.specs.WalletRules.{AreDistinctEarlier, IsWallet}
 use Rattle.wallet_text.specs.declared.fault.Refusal.TheVariants as wallets
 use Rattle.wallet_text.specs.declared.fault.WalletFault.{WalletFault}
 use Rattle.wallet_text.specs.declared.fault.WalletFault.TheVariants as told
-use Rattle.workload.specs.Load.{earlier_of, request_of, wallet_of}
-use Rattle.workload.specs.Refused.{IsRefused}
-use Rattle.workload.specs.Summary.{summary_text}
+use Rattle.command_work.specs.Load.{earlier_of, request_of, wallet_of}
+use Rattle.command_work.specs.Refused.{IsRefused}
+use Rattle.command_work.specs.Summary.{summary_text}
 use Rattle.fund_files.specs.Alone.{StopsAlone}
 use Rattle.fund_files.specs.Cause as causes
 use Rattle.fund_files.specs.Chain.{history_of}

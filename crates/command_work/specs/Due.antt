@@ -7,8 +7,8 @@ use Rattle.fund_steps.specs.Plan.{PlainPlan}
 use Rattle.json_fields.specs.Repeats.{IsFirstRepeat}
 use Rattle.wallet_text.specs.WalletText.{earlier_txids, repeat_from, told_index}
 use Rattle.wallet_text.specs.declared.fault.Refusal.TheVariants as wallets
-use Rattle.workload.specs.Load.{earlier_of, request_of, wallet_of}
-use Rattle.workload.specs.Summary.{summary_text}
+use Rattle.command_work.specs.Load.{earlier_of, request_of, wallet_of}
+use Rattle.command_work.specs.Summary.{summary_text}
 use Rattle.command_end.specs.declared.status.Status.{Status}
 use Rattle.command_fund.specs.Cause.{Cause, Files}
 use Rattle.command_fund.specs.Due as payments

@@ -1,3 +1,11 @@
+pub mod Coins
 pub mod Due
+pub mod Kinds
+pub mod LeftOut
+pub mod Lines
+pub mod Load
+pub mod Outline
+pub mod Refused
 pub mod Statuses
 pub mod Stops
+pub mod Summary

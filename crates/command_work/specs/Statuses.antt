@@ -15,8 +15,8 @@ use Rattle.fund_report.specs.declared.report.Report.TheVariants as kinds
 use Rattle.fund_steps.specs.Plan.{IsEligible, IsPlan}
 use Rattle.psbt_codec.specs.Psbt.{IsPsbt}
 use Rattle.search_run.specs.Step.{AreSteps}
-use Rattle.workload.specs.Load.{request_of, wallet_of}
-use Rattle.workload.specs.Summary.{summary_text}
+use Rattle.command_work.specs.Load.{request_of, wallet_of}
+use Rattle.command_work.specs.Summary.{summary_text}
 use Rattle.command_end.specs.Lines.{GotLine, fault_line}
 use Rattle.command_end.specs.declared.status.Status.{Status}
 use Rattle.command_end.specs.declared.status.Status.TheVariants as statuses

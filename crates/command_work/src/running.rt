@@ -2,19 +2,20 @@
 
 ghost use Rattle.std.specs.Prelude.{◌≡◌, ◌≢◌, ◌≤◌, IfErr, IfOk, OnOk};
 ghost use Rattle.wallet_text.specs.WalletRules.{AreDistinctEarlier, IsWallet};
-ghost use Rattle.workload.specs.Load.{earlier_of, request_of, wallet_of};
-ghost use Rattle.workload.specs.Summary.{summary_text};
+ghost use Rattle.command_work.specs.Load.{earlier_of, request_of, wallet_of};
+ghost use Rattle.command_work.specs.Summary.{summary_text};
 ghost use Rattle.command_fund.specs.PlanEnds.{IsConcluded};
 ghost use Rattle.command_work.specs.Due.{load_of};
 ghost use Rattle.command_work.specs.Stops.{IsRun, StopsLoad};
 
+use crate::load::Workload;
+use crate::summary::summarize;
 use command_end::Status;
 use command_fund::{Ending, Refusal, Stop, conclude};
 use fund_base::Memory;
 use fund_files::{FileRefusal, hold};
 use std::alloc::Global;
 use wallet_text::WalletFault;
-use workload::{Workload, summarize};
 
 /// A run that isn't refused.
 #[derive(Drop)]

@@ -1,7 +1,7 @@
 -- Sentences that go by a name: those of a name as it is shown are those of the name.
 use Rattle.std.proofs.Common.{◌≡◌, codes, refl, string_bytes}
 use Rattle.std.specs.declared.string.String.{String}
-use Rattle.fault_sentences.specs.Sentences.{request_kind_sentence, request_member_sentence, wallet_kind_sentence}
+use Rattle.fault_lines.specs.Sentences.{request_kind_sentence, request_member_sentence, wallet_kind_sentence}
 use Rattle.fault_text.specs.Name.{shown_name}
 use Rattle.fault_lines.proofs.WordLaws.{same_name}
 

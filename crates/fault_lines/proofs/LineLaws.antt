@@ -25,7 +25,7 @@ use Rattle.fault_text.specs.Words.{address_fault_words, bump_fault_words, feed_f
 use Rattle.fault_laws.proofs.ShownLaws.{name_plain}
 use Rattle.fault_laws.proofs.WordLaws.{decimal_plain}
 use Rattle.fault_laws.specs.Numbers.{HasRequestNumbers, HasWalletNumbers}
-use Rattle.fault_sentences.specs.Sentences.{address_sentence, blocks_sentence, bump_sentence, not_pending_sentence, plan_sentence, psbt_sentence, request_kind_sentence, request_member_sentence, request_sentence, state_sentence, tx_sentence, wallet_kind_sentence, wallet_sentence}
+use Rattle.fault_lines.specs.Sentences.{address_sentence, blocks_sentence, bump_sentence, not_pending_sentence, plan_sentence, psbt_sentence, request_kind_sentence, request_member_sentence, request_sentence, state_sentence, tx_sentence, wallet_kind_sentence, wallet_sentence}
 use Rattle.fault_lines.specs.Lines.{address_line, blocks_line, bump_line, input_line, limit_line, plan_line, psbt_line, psbt_rest, request_line, request_rest, state_line, tx_line, wallet_line, words_sentence}
 use Rattle.fault_lines.specs.Word.{after_word, word}
 use Rattle.fault_lines.proofs.KindLaws.{request_kind_shown, request_member_shown, wallet_kind_shown}

@@ -1,7 +1,7 @@
 -- The sentence of a fault line, or of a report without a payment: by its words, from the front.
 use Rattle.std.specs.Prelude.{ℕ, List, bytes_eq, codes, replicate, Option, Some, None, if◌then◌else◌}
-use Rattle.fault_sentences.specs.Sentences.{address_sentence, blocks_sentence, bump_sentence, check_sentence, kept_sentence, missing_sentence, none_sentence, not_pending_sentence, other_output_sentence, other_pairs_sentence, plan_sentence, psbt_sentence, rate_range_sentence, request_kind_sentence, request_member_sentence, request_missing_sentence, request_sentence, stop_sentence, tx_sentence, unfinished_sentence, wallet_kind_sentence, wallet_member_sentence, wallet_missing_sentence, wallet_repeat_sentence, wallet_sentence}
-use Rattle.fault_sentences.specs.declared.stop.Stop.TheVariants as stops
+use Rattle.fault_lines.specs.Sentences.{address_sentence, blocks_sentence, bump_sentence, check_sentence, kept_sentence, missing_sentence, none_sentence, not_pending_sentence, other_output_sentence, other_pairs_sentence, plan_sentence, psbt_sentence, rate_range_sentence, request_kind_sentence, request_member_sentence, request_missing_sentence, request_sentence, stop_sentence, tx_sentence, unfinished_sentence, wallet_kind_sentence, wallet_member_sentence, wallet_missing_sentence, wallet_repeat_sentence, wallet_sentence}
+use Rattle.fault_lines.specs.declared.stop.Stop.TheVariants as stops
 use Rattle.tx_codec.specs.declared.fault.TxFault.TheVariants as txs
 use Rattle.block_feed.specs.declared.fault.FeedFault.TheVariants as feeds
 use Rattle.segwit_addr.specs.declared.fault.AddrFault.TheVariants as addresses

@@ -3,9 +3,9 @@
 ghost use Rattle.std.specs.Prelude.{◌≡◌, option_copied};
 ghost use Rattle.fault_lines.specs.Lines.{blocks_line};
 
+use crate::blocks_sentences::blocks_sentence;
 use crate::word::begins;
 use block_feed::FeedFault;
-use fault_sentences::blocks_sentence;
 use tx_codec::TxFault;
 
 /// The sentence of a block file's fault, by its words. None where it has none.

@@ -1,18 +1,18 @@
 //! The words of why a payment isn't replaced.
 
 ghost use Rattle.std.specs.Prelude.{◌≡◌, option_copied};
-ghost use Rattle.fault_sentences.specs.Sentences.{not_pending_sentence};
+ghost use Rattle.fault_lines.specs.Sentences.{not_pending_sentence};
 ghost use Rattle.fault_lines.specs.Lines.{bump_line, state_line};
 
+use crate::bump_sentences::bump_sentence;
 use crate::coin::no_coin;
 use crate::word::{begins, behind};
-use fault_sentences::bump_sentence;
 use fee_bump::BumpFault;
 use fund_base::Txid;
 use payment_states::State;
 
 /// The sentence of a payment that isn't there, or of one of this state.
-#[tactic(auto, unfolding(fault_sentences::specs::Sentences::bump_sentence))]
+#[tactic(auto, unfolding(crate::specs::Sentences::bump_sentence))]
 fn found_sentence(found: Option<State>) -> &'static str
     ensures { result.now ≡ not_pending_sentence found }
 {

@@ -3,8 +3,8 @@
 ghost use Rattle.std.specs.Prelude.{◌≡◌, option_copied};
 ghost use Rattle.fault_lines.specs.Lines.{kept_line};
 
+use crate::kept_sentences::kept_sentence;
 use crate::word::begins;
-use fault_sentences::kept_sentence;
 use kept_job::KeptFault;
 use log_checker::LogFault;
 

@@ -7,14 +7,15 @@ use crate::blocks::blocks_line;
 use crate::bump::bump_line;
 use crate::coin::no_coin;
 use crate::job::kept_line;
+use crate::kept_sentences::kept_sentence;
+use crate::plan_sentences::plan_sentence;
 use crate::psbt::psbt_line;
 use crate::report::check_line;
 use crate::request::request_line;
+use crate::stop::{Stop, stop_sentence};
+use crate::unpaid_sentences::{none_sentence, unfinished_sentence};
 use crate::wallet::wallet_line;
 use crate::word::{begins, behind, word};
-use fault_sentences::{
-    Stop, kept_sentence, none_sentence, plan_sentence, stop_sentence, unfinished_sentence,
-};
 use fund_steps::PlanFault;
 use kept_job::KeptFault;
 

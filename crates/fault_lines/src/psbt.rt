@@ -3,10 +3,10 @@
 ghost use Rattle.std.specs.Prelude.{◌≡◌, option_copied};
 ghost use Rattle.fault_lines.specs.Lines.{psbt_line, psbt_rest};
 
-use crate::word::begins;
-use fault_sentences::{
+use crate::psbt_sentences::{
     missing_sentence, other_output_sentence, other_pairs_sentence, psbt_sentence,
 };
+use crate::word::begins;
 use psbt_codec::PsbtFault;
 use tx_codec::TxFault;
 

@@ -4,8 +4,8 @@ ghost use Rattle.std.specs.Prelude.{◌≡◌, option_copied};
 ghost use Rattle.fault_lines.specs.Lines.{check_line};
 
 use crate::coin::no_coin;
+use crate::report_sentences::check_sentence;
 use crate::word::begins;
-use fault_sentences::check_sentence;
 use log_checker::LogFault;
 use psbt_codec::PsbtFault;
 use report_check::CheckFault;

@@ -3,12 +3,12 @@
 ghost use Rattle.std.specs.Prelude.{◌≡◌, option_copied};
 ghost use Rattle.fault_lines.specs.Lines.{request_line, request_rest};
 
-use crate::transaction::address_line;
-use crate::word::{after_word, begins, behind, word};
-use fault_sentences::{
+use crate::request_sentences::{
     rate_range_sentence, request_kind_sentence, request_member_sentence, request_missing_sentence,
     request_sentence,
 };
+use crate::transaction::address_line;
+use crate::word::{after_word, begins, behind, word};
 use request_text::RequestFault;
 
 /// The sentence of one of the other faults of a request file. None where it has none.

@@ -3,8 +3,9 @@
 ghost use Rattle.std.specs.Prelude.{◌≡◌, option_copied};
 ghost use Rattle.fault_lines.specs.Lines.{address_line, tx_line};
 
+use crate::address_sentences::address_sentence;
+use crate::transaction_sentences::tx_sentence;
 use crate::word::begins;
-use fault_sentences::{address_sentence, tx_sentence};
 use segwit_addr::AddrFault;
 use tx_codec::TxFault;
 

@@ -4,11 +4,11 @@ ghost use Rattle.std.specs.Prelude.{◌≡◌, option_copied};
 ghost use Rattle.fault_lines.specs.Lines.{wallet_line};
 
 use crate::transaction::tx_line;
-use crate::word::{after_word, begins, behind, word};
-use fault_sentences::{
+use crate::wallet_sentences::{
     wallet_kind_sentence, wallet_member_sentence, wallet_missing_sentence, wallet_repeat_sentence,
     wallet_sentence,
 };
+use crate::word::{after_word, begins, behind, word};
 use wallet_text::WalletFault;
 
 /// The sentence of a wallet file's fault, by its words. None where it has none.

@@ -24,7 +24,7 @@ use Rattle.command_fund.specs.Due.{by_answer, plan_of}
 use Rattle.command_fund.specs.Inputs.{AreInputs}
 use Rattle.command_fund.specs.Names.{Payment}
 use Rattle.wallet_text.specs.WalletRules.{AreDistinctEarlier}
-use Rattle.workload.specs.Load.{earlier_of, request_of}
+use Rattle.command_work.specs.Load.{earlier_of, request_of}
 use Rattle.command_resume.proofs.OneLaws as jobs_of
 use Rattle.command_resume.specs.Due as resumes
 use Rattle.command_work.proofs.DueLaws as loads

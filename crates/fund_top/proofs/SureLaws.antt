@@ -15,7 +15,7 @@ use Rattle.command_end.specs.Names.{Sources}
 use Rattle.command_fund.specs.Names.{Payment}
 use Rattle.command_end.specs.declared.status.Status.TheVariants as statuses
 use Rattle.desk_machine.specs.State.{PlainDesk}
-use Rattle.desk_script.specs.Script.{lines_of}
+use Rattle.command_desk.specs.Script.{lines_of}
 use Rattle.command_desk.specs.Course.{Course}
 use Rattle.command_desk.specs.Statuses as desks
 use Rattle.command_resume.specs.Statuses as resumes

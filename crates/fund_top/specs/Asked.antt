@@ -7,7 +7,7 @@ use Rattle.fund_steps.specs.Plan.{PlainPlan}
 use Rattle.command_check.specs.Asked as checks
 use Rattle.command_check.specs.Evidence.{HasLoggedReport, HavePlan}
 use Rattle.command_fund.specs.Inputs.{AsksInOrder, AsksTwice, NoneBehind}
-use Rattle.desk_script.specs.Script.{lines_of}
+use Rattle.command_desk.specs.Script.{lines_of}
 use Rattle.command_desk.specs.Asked as desks
 use Rattle.fund_top.specs.Words.{Command, Coins, Fund, Resume, Check, Work, Desk}
 

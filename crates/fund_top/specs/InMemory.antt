@@ -17,7 +17,7 @@ use Rattle.command_work.specs.Statuses.{IsSummary}
 use Rattle.block_feed.specs.Block.{ChainBlock}
 use Rattle.wallet_text.specs.PlainWallet.{PlainWallet}
 use Rattle.desk_machine.specs.State.{PlainDesk, new_desk}
-use Rattle.desk_script.specs.Script.{lines_of}
+use Rattle.command_desk.specs.Script.{lines_of}
 use Rattle.command_desk.specs.Course.{Course}
 use Rattle.command_desk.specs.Starts.{AreInputs}
 use Rattle.fund_top.specs.Words.{Command, Coins, Fund, Resume, Check, Work, Desk}

@@ -22,8 +22,8 @@ ghost use Rattle.command_fund.specs.Due.{log_text_at, none_report_at, open_repor
 ghost use Rattle.command_fund.specs.Inputs.{AreInputs};
 ghost use Rattle.command_fund.specs.Names.{Payment};
 ghost use Rattle.wallet_text.specs.WalletRules.{AreDistinctEarlier};
-ghost use Rattle.workload.specs.Load.{earlier_of, request_of, wallet_of};
-ghost use Rattle.workload.specs.Summary.{summary_text};
+ghost use Rattle.command_work.specs.Load.{earlier_of, request_of, wallet_of};
+ghost use Rattle.command_work.specs.Summary.{summary_text};
 ghost use Rattle.fund_outside.specs.Kept.{KeptJob};
 ghost use Rattle.kept_job.specs.declared.fault.KeptFault.{KeptFault};
 ghost use Rattle.command_end.specs.declared.status.Status.TheVariants as statuses;

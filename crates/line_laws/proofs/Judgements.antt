@@ -4,7 +4,7 @@ use Rattle.command_check.specs.Words.{check_fault_words}
 use Rattle.command_end.specs.Lines.{fault_line}
 use Rattle.command_resume.specs.Words.{kept_words}
 use Rattle.fault_lines.specs.Lines.{check_line, kept_line, limit_line, line_sentence, words_sentence}
-use Rattle.fault_sentences.specs.Sentences.{check_sentence, kept_sentence}
+use Rattle.fault_lines.specs.Sentences.{check_sentence, kept_sentence}
 use Rattle.kept_job.specs.declared.fault.KeptFault.{KeptFault}
 use Rattle.kept_job.specs.declared.fault.KeptFault.TheVariants as jobs
 use Rattle.report_check.specs.declared.fault.CheckFault.{CheckFault}

@@ -10,7 +10,7 @@ use Rattle.command_fund.specs.declared.refusal.Refusal as payments
 use Rattle.command_fund.specs.declared.refusal.Refusal.TheVariants as unpaid
 use Rattle.fault_lines.specs.Lines.{input_line, limit_line, line_sentence, psbt_line, psbt_rest, words_sentence}
 use Rattle.fault_lines.proofs.LineLaws.{blocks_told, bump_told, plan_told, psbt_told, request_told, wallet_told}
-use Rattle.fault_sentences.specs.Sentences.{psbt_sentence}
+use Rattle.fault_lines.specs.Sentences.{psbt_sentence}
 use Rattle.fund_files.specs.declared.refusal.File.TheVariants as files
 use Rattle.fund_files.specs.declared.refusal.FileRefusal.{FileRefusal}
 use Rattle.fund_files.specs.declared.refusal.FileRefusal.TheVariants as refused

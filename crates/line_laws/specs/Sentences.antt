@@ -7,8 +7,8 @@ use Rattle.command_complete.specs.declared.stop.Refusal.TheVariants as incomplet
 use Rattle.command_fund.specs.declared.refusal.Refusal as payments
 use Rattle.command_fund.specs.declared.refusal.Refusal.TheVariants as unpaid
 use Rattle.fault_laws.specs.Numbers.{HasRequestNumbers, HasWalletNumbers}
-use Rattle.fault_sentences.specs.Sentences.{blocks_sentence, bump_sentence, missing_sentence, other_output_sentence, other_pairs_sentence, plan_sentence, psbt_sentence, request_sentence, stop_sentence, wallet_sentence}
-use Rattle.fault_sentences.specs.declared.stop.Stop.TheVariants as stops
+use Rattle.fault_lines.specs.Sentences.{blocks_sentence, bump_sentence, missing_sentence, other_output_sentence, other_pairs_sentence, plan_sentence, psbt_sentence, request_sentence, stop_sentence, wallet_sentence}
+use Rattle.fault_lines.specs.declared.stop.Stop.TheVariants as stops
 use Rattle.fund_files.specs.declared.refusal.File.{File}
 use Rattle.fund_files.specs.declared.refusal.File.TheVariants as files
 use Rattle.fund_files.specs.declared.refusal.FileRefusal.{FileRefusal}

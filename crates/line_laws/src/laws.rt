@@ -10,10 +10,10 @@ ghost use Rattle.command_end.specs.Lines.{fault_line, file_refusal_words, file_w
 ghost use Rattle.command_fund.specs.Words as funding;
 ghost use Rattle.command_fund.specs.declared.refusal.Refusal as payments;
 ghost use Rattle.command_resume.specs.Words.{kept_words};
-ghost use Rattle.desk_script.specs.Line as lines;
+ghost use Rattle.command_desk.specs.Line as lines;
 ghost use Rattle.fault_lines.specs.Lines.{line_sentence};
-ghost use Rattle.fault_sentences.specs.Sentences.{check_sentence, kept_sentence, none_sentence, stop_sentence, unfinished_sentence};
-ghost use Rattle.fault_sentences.specs.declared.stop.Stop.TheVariants as stops;
+ghost use Rattle.fault_lines.specs.Sentences.{check_sentence, kept_sentence, none_sentence, stop_sentence, unfinished_sentence};
+ghost use Rattle.fault_lines.specs.declared.stop.Stop.TheVariants as stops;
 ghost use Rattle.fund_files.specs.declared.refusal.File.{File};
 ghost use Rattle.fund_files.specs.declared.refusal.FileRefusal.{FileRefusal};
 ghost use Rattle.fund_report.specs.ReportText.{none_text, unfinished_text};

@@ -1,11 +1,11 @@
 //! What is shown as JSON: one object on one line.
 
 use closing_log::Worded;
+use command_pay::mark_sentence;
 use fault_text::coin_text;
 use fund_base::Memory;
 use fund_report::{FundedReport, InLine};
 use pay_words::Asked;
-use payment_table::mark_sentence;
 use request_making::{Payee, Payment};
 use serde_json::{Value, json};
 use std::alloc::Global;

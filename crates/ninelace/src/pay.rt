@@ -3,15 +3,14 @@
 use crate::json::{payment_value, print, refusal_value};
 use crate::plain::{files_told, is_given, show, tell};
 use command_end::Status;
-use command_pay::{Ending, NewFile};
+use command_pay::{
+    Ending, NewFile, NewFileShelf, change_warning, high_fee_text, is_change_listed, table_text,
+    unread_warning, unwritten_text,
+};
 use fault_lines::line_sentence;
 use fund_base::{FileShelf, Shelf, read_whole};
 use fund_report::FundedReport;
 use pay_words::{Asked, WordFault, flag_about, flag_word, word_place, word_sentence};
-use payment_table::{
-    change_warning, high_fee_text, is_change_listed, table_text, unread_warning, unwritten_text,
-};
-use request_shelf::NewFileShelf;
 use std::alloc::Global;
 use std::io;
 use std::random::RandomSource;

@@ -3,11 +3,11 @@
 use crate::json::{print, said_value};
 use command_complete::complete as complete_psbt;
 use command_end::{Sources, Status};
+use command_pay::ProgressShelf;
 use fault_lines::line_sentence;
 use fund_base::{FileShelf, Memory, SureSink};
 use fund_outside::SureKeeper;
 use fund_top::run;
-use request_shelf::ProgressShelf;
 use std::io;
 use std::io::{ErrorKind, IsTerminal};
 

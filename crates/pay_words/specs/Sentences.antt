@@ -1,7 +1,7 @@
 -- The sentence of each fault of the words of a payment: what is wrong, and what to do.
 use Rattle.std.specs.Prelude.{ℕ, List, codes, Option, Some, None}
-use Rattle.amount_text.specs.declared.fault.SpellingFault.{SpellingFault}
-use Rattle.amount_text.specs.declared.fault.SpellingFault.TheVariants as spellings
+use Rattle.request_making.specs.declared.fault.SpellingFault.{SpellingFault}
+use Rattle.request_making.specs.declared.fault.SpellingFault.TheVariants as spellings
 use Rattle.pay_words.specs.declared.fault.WordFault.{WordFault}
 use Rattle.pay_words.specs.declared.fault.WordFault.TheVariants as faults
 use Rattle.pay_words.specs.declared.flag.Flag.{Flag}

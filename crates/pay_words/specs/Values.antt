@@ -4,8 +4,8 @@ use Rattle.std.specs.Option.{ok_or, option_map_or}
 use Rattle.std.specs.Result.{result_ok}
 use Rattle.std.specs.declared.alloc.Global.{Global}
 use Rattle.hex.specs.Hex.{decode_sized}
-use Rattle.amount_text.specs.Spelled.{spelled}
-use Rattle.amount_text.specs.declared.unit.Kind.TheVariants as kinds
+use Rattle.request_making.specs.Spelled.{spelled}
+use Rattle.request_making.specs.declared.unit.Kind.TheVariants as kinds
 use Rattle.fund_base.specs.Decimal.{number_of}
 use Rattle.fund_base.specs.Parsing.{fault_as}
 use Rattle.request_text.specs.RequestText.{method_in}

@@ -4,8 +4,8 @@ ghost use Rattle.std.specs.Prelude.{◌≡◌};
 ghost use Rattle.pay_words.specs.declared.fault.WordFault.TheVariants.{Memory as OutOfMemory};
 
 use crate::flag::Flag;
-use amount_text::SpellingFault;
 use fund_base::Memory;
+use request_making::SpellingFault;
 use std::alloc::{AllocError, AllocFailed};
 
 /// Why the words of `pay` ask for no payment. A place counts the words behind `pay` from 0. The first three are told in

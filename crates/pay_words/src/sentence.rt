@@ -5,7 +5,7 @@ ghost use Rattle.pay_words.specs.Sentences.{amount_sentence, flag_about, rate_se
 
 use crate::fault::WordFault;
 use crate::flag::Flag;
-use amount_text::SpellingFault;
+use request_making::SpellingFault;
 
 /// What to do about a text that is no amount.
 #[tactic(auto, unfolding(crate::specs::Sentences::amount_sentence))]

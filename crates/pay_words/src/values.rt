@@ -6,8 +6,8 @@ ghost use Rattle.pay_words.specs.Values.{amount_at, has, method_at, number_at, r
 use crate::fault::WordFault;
 use crate::flag::Flag;
 use crate::given::{Given, place_of};
-use amount_text::{read_amount, read_rate};
 use fund_base::read_decimal;
+use request_making::{read_amount, read_rate};
 use request_text::Method;
 
 /// The word at this place; the empty one where there is none.

@@ -1,5 +1,11 @@
+pub mod Cuts
 pub mod Depths
+pub mod DigitLaws
 pub mod Entries
 pub mod Lists
 pub mod MadeRequests
+pub mod Padded
+pub mod PrintedLaws
+pub mod Scaled
 pub mod Whole
+pub mod Words

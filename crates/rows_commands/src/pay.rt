@@ -2,12 +2,11 @@
 //! the report and the log of a payment, or why there is none, and what to do. New files go into this folder too.
 
 use crate::columns::words_of;
-use command_pay::{Ending, NewFile, pay};
+use command_pay::{Ending, NewFile, NewFileShelf, pay};
 use fault_lines::line_sentence;
 use fund_base::{FileShelf, Memory, Shelf};
 use fund_report::{FundedReport, Report, write_report};
 use pay_words::{Asked, WordFault, word_sentence};
-use request_shelf::NewFileShelf;
 use std::alloc::Global;
 use std::{fs, io};
 

@@ -9,11 +9,11 @@
 //! - `unwritten NAME`, `unwritten NAME log`: what is said of a new file that was not written, in the second where the log was
 
 use crate::columns::words_of;
+use command_pay::{fee_ceiling, high_fee_text, is_fee_taken, table_text, unwritten_text};
 use fault_lines::line_sentence;
 use fund_base::{Memory, read_decimal};
 use fund_report::{Report, read_report};
 use pay_words::{Asked, WordFault, flag_about, flag_word, read_pay, word_place, word_sentence};
-use payment_table::{fee_ceiling, high_fee_text, is_fee_taken, table_text, unwritten_text};
 use std::alloc::Global;
 use std::io;
 

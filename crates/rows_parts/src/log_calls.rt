@@ -73,17 +73,32 @@ fn places(alloc: Global, bytes: &[u8]) -> Result<String, Memory> {
     })
 }
 
+/// Adds a line, if there was memory for it.
+fn add(text: &mut String, line: Result<String, Memory>) -> Result<(), Memory> {
+    let line = line?;
+    text.push_str(line.as_str())?;
+    Ok(())
+}
+
+/// Adds what they answer.
+fn add_all(alloc: Global, text: &mut String) -> Result<(), Memory> {
+    for bytes in [b"tries 17\n", b"tried 17\n"] {
+        add(text, word(alloc, bytes))?;
+    }
+    add(text, choice(alloc, b"lean-small x"))?;
+    add(text, choice(alloc, b"lean-bag"))?;
+    for bytes in [b"255\nx", b"256\nx"] {
+        add(text, number(alloc, bytes))?;
+    }
+    add(text, digest(alloc, &[b'A'; 66]))?;
+    add(text, digest(alloc, &[b'A'; 60]))?;
+    add(text, places(alloc, b"0 1 4294967295\nx"))?;
+    add(text, places(alloc, b"0 1 \n"))
+}
+
 /// What they answer.
 pub(crate) fn lines(alloc: Global) -> Result<String, Memory> {
-    let mut text = word(alloc, b"tries 17\n")?;
-    text.push_str(word(alloc, b"tried 17\n")?.as_str())?;
-    text.push_str(choice(alloc, b"lean-small x")?.as_str())?;
-    text.push_str(choice(alloc, b"lean-bag")?.as_str())?;
-    text.push_str(number(alloc, b"255\nx")?.as_str())?;
-    text.push_str(number(alloc, b"256\nx")?.as_str())?;
-    text.push_str(digest(alloc, &[b'A'; 66])?.as_str())?;
-    text.push_str(digest(alloc, &[b'A'; 60])?.as_str())?;
-    text.push_str(places(alloc, b"0 1 4294967295\nx")?.as_str())?;
-    text.push_str(places(alloc, b"0 1 \n")?.as_str())?;
+    let mut text = String::new(alloc);
+    add_all(alloc, &mut text)?;
     Ok(text)
 }

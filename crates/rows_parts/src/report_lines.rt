@@ -23,14 +23,10 @@ fn funded_text(alloc: Global, report: &FundedReport) -> Result<String, Memory> {
     let (fee, waste) = (report.fee, report.waste);
     let change = change_text(alloc, report.change)?;
     let long = report.text.len();
-    let mut out = format!(in alloc; "funded {mark}, row {row}, stage {stage}, tries {tries}, ")?;
-    let sizes = format!(in alloc; "inputs {inputs}, weight {weight}, vsize {vsize}, ")?;
-    let amounts = format!(in alloc; "fee {fee}, waste {waste}, change {change}, ")?;
-    let text = format!(in alloc; "text of {long} bytes")?;
-    out.push_str(sizes.as_str())?;
-    out.push_str(amounts.as_str())?;
-    out.push_str(text.as_str())?;
-    Ok(out)
+    let found = format!(in alloc; "funded {mark}, row {row}, stage {stage}, tries {tries}")?;
+    let sizes = format!(in alloc; "inputs {inputs}, weight {weight}, vsize {vsize}")?;
+    let amounts = format!(in alloc; "fee {fee}, waste {waste}, change {change}")?;
+    Ok(format!(in alloc; "{found}, {sizes}, {amounts}, text of {long} bytes")?)
 }
 
 /// What is reported.

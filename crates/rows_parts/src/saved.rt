@@ -9,24 +9,33 @@ use crate::saved_lines::{fault_text, saved_text};
 use crate::saved_resumed;
 use fund_base::Memory;
 use row_bytes::{escaped, unescaped};
-use search_keep::{read_saved, write_saved};
+use search_keep::{Saved, read_saved, write_saved};
 use std::alloc::Global;
+
+/// What is written of a saved position, where that is another text than these bytes.
+fn written_again(alloc: Global, bytes: &[u8], saved: &Saved) -> Result<String, Memory> {
+    let written = write_saved(alloc, saved)?;
+    if written.as_slice() == bytes {
+        return Ok(String::new(alloc));
+    }
+    let text = escaped(alloc, written.as_slice())?;
+    Ok(format!(in alloc; "\nwritten {text}")?)
+}
+
+/// A saved position that is read in these bytes.
+fn read_told(alloc: Global, bytes: &[u8], saved: &Saved) -> Result<String, Memory> {
+    let text = saved_text(alloc, saved)?;
+    let again = written_again(alloc, bytes, saved)?;
+    Ok(format!(in alloc; "ok\t{text}{again}")?)
+}
 
 /// What a text comes to.
 fn told(alloc: Global, column: &str) -> Result<String, Memory> {
     let bytes = unescaped(alloc, column.as_bytes())?;
-    let saved = match read_saved(alloc, bytes.as_slice()) {
-        Ok(saved) => saved,
-        Err(fault) => return fault_text(alloc, fault),
-    };
-    let mut out = String::from_str(alloc, "ok\t")?;
-    out.push_str(saved_text(alloc, &saved)?.as_str())?;
-    let written = write_saved(alloc, &saved)?;
-    if written.as_slice() != bytes.as_slice() {
-        out.push_str("\nwritten ")?;
-        out.push_str(escaped(alloc, written.as_slice())?.as_str())?;
+    match read_saved(alloc, bytes.as_slice()) {
+        Ok(saved) => read_told(alloc, bytes.as_slice(), &saved),
+        Err(fault) => fault_text(alloc, fault),
     }
-    Ok(out)
 }
 
 /// What the columns of a row come to.

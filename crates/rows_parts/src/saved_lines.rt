@@ -25,10 +25,9 @@ pub(crate) fn saved_text(alloc: Global, saved: &Saved) -> Result<String, Memory>
     };
     let (tries, row) = (saved.tries, saved.row);
     let (next, parts) = (saved.next, saved.parts);
-    let mut out = format!(in alloc; "job {job}, tries {tries}, row {row}, stage {stage}, ")?;
-    let rest = format!(in alloc; "chosen {chosen}, next {next}, best {best}, parts {parts}")?;
-    out.push_str(rest.as_str())?;
-    Ok(out)
+    Ok(format!(in alloc;
+        "job {job}, tries {tries}, row {row}, stage {stage}, chosen {chosen}, next {next}, best {best}, parts {parts}"
+    )?)
 }
 
 /// A fault by its name, with its place or its digests.

@@ -5,11 +5,11 @@
 //! - `summary NUMBER COUNT TEXT`: the summary of a run that came to the report whose text these hex digits spell
 
 use crate::work_lines::load_text;
+use command_work::{Workload, write_summary};
 use fund_base::Memory;
 use fund_report::read_report;
 use std::alloc::Global;
 use wallet_text::WalletFault;
-use workload::{Workload, write_summary};
 
 /// What a number and a count make.
 fn load_told(alloc: Global, number: u64, count: u32) -> Result<String, Memory> {

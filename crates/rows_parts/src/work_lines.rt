@@ -1,12 +1,12 @@
 //! Workloads as lines.
 
+use command_work::Workload;
 use fund_base::Memory;
 use request_text::Request;
 use sha2::{Digest, Sha256};
 use std::alloc::Global;
 use tx_codec::{TxOut, write_tx};
 use wallet_text::{Earlier, Wallet, Watch};
-use workload::Workload;
 
 /// A script in hex, and the weight of an input that spends it.
 fn watch_text(alloc: Global, watch: &Watch) -> Result<String, Memory> {

@@ -9,6 +9,12 @@ use search_keep::Walk;
 use search_run::{Found, Step, choose, open_section, section};
 use std::alloc::Global;
 
+/// Adds a text.
+fn add(out: &mut String, text: Result<String, Memory>) -> Result<(), Memory> {
+    out.push_str(text?.as_str())?;
+    Ok(())
+}
+
 /// Letters as text.
 fn letters_text(alloc: Global, letters: &[u8]) -> Result<String, Memory> {
     let mut text = String::new(alloc);
@@ -62,26 +68,41 @@ fn found_in(alloc: Global, step: &Step, column: &str) -> Result<Option<Found>, M
     Ok(Some(found))
 }
 
-/// Which of these selections is taken, and which of them beat the first.
-pub(crate) fn chosen_text(alloc: Global, step: &Step, columns: &[&str]) -> Result<String, Memory> {
+/// These selections as results of a step; `None` where one isn't admissible.
+fn all_found(alloc: Global, step: &Step, columns: &[&str]) -> Result<Option<Vec<Found>>, Memory> {
     let mut found = Vec::new(alloc);
     for column in columns {
-        let Some(result) = found_in(alloc, step, column)? else {
-            return Ok(String::from_str(alloc, "not admissible")?);
-        };
-        found.push(result)?;
+        match found_in(alloc, step, column)? {
+            Some(result) => found.push(result)?,
+            None => return Ok(None),
+        }
     }
-    let Some(taken) = choose(found.as_slice()) else {
-        return Ok(String::from_str(alloc, "taken none")?);
-    };
-    let taken = taken.copy(alloc)?;
+    Ok(Some(found))
+}
+
+/// The selection that is taken, and those of them that it beats.
+fn taken_text(alloc: Global, taken: &Found, found: &[Found]) -> Result<String, Memory> {
     let mut out = String::from_str(alloc, "taken ")?;
-    out.push_str(found_text(alloc, &taken)?.as_str())?;
-    for result in found.iter() {
+    add(&mut out, found_text(alloc, taken))?;
+    for result in found {
         if taken.beats(result) {
             out.push_str("; beats ")?;
-            out.push_str(places_text(alloc, result.places.as_slice())?.as_str())?;
+            add(&mut out, places_text(alloc, result.places.as_slice()))?;
         }
     }
     Ok(out)
+}
+
+/// Which of these selections is taken, and which of them it beats.
+pub(crate) fn chosen_text(alloc: Global, step: &Step, columns: &[&str]) -> Result<String, Memory> {
+    let Some(found) = all_found(alloc, step, columns)? else {
+        return Ok(String::from_str(alloc, "not admissible")?);
+    };
+    match choose(found.as_slice()) {
+        Some(taken) => {
+            let taken = taken.copy(alloc)?;
+            taken_text(alloc, &taken, found.as_slice())
+        }
+        None => Ok(String::from_str(alloc, "taken none")?),
+    }
 }

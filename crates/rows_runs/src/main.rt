@@ -1,7 +1,8 @@
-//! Reads rows, each a run over steps, and prints what the calls of the row come to, a line each. What it must print was
-//! worked out apart from this program.
+//! Reads rows, each a run over steps, and prints what the calls of the row come to, a line each. A row that begins with the word
+//! `walk`, `tails` or `restore` is about a walk by itself: `searches` says what these are. What it must print was worked out
+//! apart from this program.
 //!
-//! The columns of a row, with tabs between them, are the seed in hex, the steps with `|` between them, `-` for none, and
+//! The columns of a run, with tabs between them, are the seed in hex, the steps with `|` between them, `-` for none, and
 //! the calls. The words of a step have `;` between them: `ROW;STAGE;ENDING;last` or `more;KIND;LO;HI;WEIGHT;ITEMS;SIZES`.
 //! The words of a call have `=` between them; in a text `/` stands for a line feed.
 //!
@@ -18,9 +19,13 @@
 
 mod calls;
 mod hand;
+mod searches;
 mod shown;
 mod steps;
+mod tails;
 mod texts;
+mod walk;
+mod walks;
 
 use fund_base::Memory;
 use hex::FromHex;
@@ -29,13 +34,9 @@ use std::alloc::Global;
 use std::io;
 use std::io::{BufRead, BufReader};
 
-/// What a line comes to.
-fn answer(alloc: Global, line: &str) -> Result<String, Memory> {
-    let columns: Vec<&str> = line.split('\t').collect(alloc)?;
-    let [seed, steps, calls @ ..] = columns.as_slice() else {
-        return Ok(String::from_str(alloc, "no such row")?);
-    };
-    let Ok(seed) = <[u8; 32]>::from_hex(*seed) else {
+/// What the calls of a run come to.
+fn run_text(alloc: Global, seed: &str, steps: &str, calls: &[&str]) -> Result<String, Memory> {
+    let Ok(seed) = <[u8; 32]>::from_hex(seed) else {
         return Ok(String::from_str(alloc, "no seed")?);
     };
     let Some(steps) = steps::steps_in(alloc, steps)? else {
@@ -43,6 +44,23 @@ fn answer(alloc: Global, line: &str) -> Result<String, Memory> {
     };
     let mut run = SearchRun::new(alloc, seed, steps);
     calls::told(alloc, &mut run, calls)
+}
+
+/// What the columns of a row come to.
+fn columns_text(alloc: Global, columns: &[&str]) -> Result<String, Memory> {
+    match columns {
+        ["walk", problem @ .., tries] => searches::walk_of(alloc, problem, tries),
+        ["tails", problem @ ..] => searches::tails_of(alloc, problem),
+        ["restore", columns @ ..] => searches::restored(alloc, columns),
+        [seed, steps, calls @ ..] => run_text(alloc, seed, steps, calls),
+        _ => Ok(String::from_str(alloc, "no such row")?),
+    }
+}
+
+/// What a line comes to.
+fn answer(alloc: Global, line: &str) -> Result<String, Memory> {
+    let columns: Vec<&str> = line.split('\t').collect(alloc)?;
+    columns_text(alloc, &columns)
 }
 
 fn main(rt: HostRuntime) -> io::Result<()> {

@@ -1,7 +1,7 @@
 //! Listings of payments and coins.
 
 use crate::names::FIRST;
-use coin_listing::listing;
+use command_coins::listing;
 use fund_base::{Candidate, Memory, OutPoint, Script, Txid};
 use payment_states::{Payment, State};
 use std::alloc::Global;

@@ -121,7 +121,7 @@ fn sure(rt: &HostRuntime) -> io::Result<()> {
 /// A file of the system, which is removed in the end.
 fn system(rt: &HostRuntime) -> io::Result<()> {
     println!(rt; "# a file of the system")?;
-    let name = "rows_base.tmp";
+    let name = "rows_texts.tmp";
     let mut shelf = FileShelf::new(rt);
     show_write(rt, &mut shelf, name, b"some bytes")?;
     show_whole(rt, &mut shelf, name, 10)?;

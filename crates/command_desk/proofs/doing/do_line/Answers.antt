@@ -1,4 +1,4 @@
-use Rattle.desk_script.specs.Lent.{plain_line}
+use Rattle.command_desk.specs.Lent.{plain_line}
 use Rattle.command_desk.proofs.ArmLaws.{line_done, line_halted}
 use Rattle.command_desk.proofs.doing.do_line.Goals as goal
 

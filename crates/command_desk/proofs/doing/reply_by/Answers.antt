@@ -1,7 +1,7 @@
 use Rattle.std.proofs.Common.{refl, Some, None, string_bytes}
 use Rattle.desk_machine.specs.Commands.{plain_command}
-use Rattle.desk_script.specs.Lent.{plain_line}
-use Rattle.desk_script.specs.ReplyText.{other_line}
+use Rattle.command_desk.specs.Lent.{plain_line}
+use Rattle.command_desk.specs.ReplyText.{other_line}
 use Rattle.command_desk.proofs.ArmLaws.{put_halted, put_replied}
 use Rattle.command_desk.proofs.doing.reply_by.Goals as goal
 

@@ -1,5 +1,5 @@
 use Rattle.std.proofs.Common.{refl}
-use Rattle.desk_script.specs.Line.{Blocks}
+use Rattle.command_desk.specs.Line.{Blocks}
 use Rattle.command_desk.proofs.LineLaws.{read_halts}
 use Rattle.command_desk.proofs.reading.adding.Goals as goal
 

@@ -1,5 +1,5 @@
 use Rattle.std.proofs.Common.{refl}
-use Rattle.desk_script.specs.Line.{Open}
+use Rattle.command_desk.specs.Line.{Open}
 use Rattle.command_desk.proofs.LineLaws.{read_halts}
 use Rattle.command_desk.proofs.reading.opening.Goals as goal
 

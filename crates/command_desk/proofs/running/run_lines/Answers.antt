@@ -1,9 +1,9 @@
 use Rattle.std.proofs.Common.{◌∙◌, rules, subst, sym}
 use Rattle.fund_base.specs.Causes.{Asks}
 use Rattle.fund_files.proofs.FrameLaws.{only_reads_on}
-use Rattle.desk_script.proofs.LineLaws.{says_of}
-use Rattle.desk_script.specs.Lent.{plain_line}
-use Rattle.desk_script.specs.Line.{Line, Says, wanted}
+use Rattle.command_desk.proofs.SaidLaws.{says_of}
+use Rattle.command_desk.specs.Lent.{plain_line}
+use Rattle.command_desk.specs.Line.{Line, Says, wanted}
 use Rattle.command_desk.specs.Asked.{file_in}
 use Rattle.command_desk.specs.Halts.{EndsAt, HaltsLine, IsDoneLine}
 use Rattle.command_desk.specs.declared.halt.Halt.TheVariants as halts

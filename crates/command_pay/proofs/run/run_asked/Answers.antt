@@ -6,7 +6,7 @@ use Rattle.fund_outside.specs.Kept.{KeeperView}
 use Rattle.fund_outside.specs.SureKeeper.{view_of as keeper_view}
 use Rattle.command_end.specs.declared.status.Status.TheVariants as statuses
 use Rattle.fund_top.specs.Words.{Command, command_of, names_stand}
-use Rattle.request_shelf.specs.Held.{held_view}
+use Rattle.command_pay.specs.Held.{held_view}
 use Rattle.pay_words.specs.declared.asked.Asked.{Asked}
 use Rattle.command_pay.specs.Run.{held_names, sources_of}
 use Rattle.command_pay.specs.Written.{KeepsFiles}

@@ -1,5 +1,5 @@
 use Rattle.std.proofs.Common.{refl}
-use Rattle.fault_sentences.specs.Sentences.{missing_sentence, other_output_sentence, other_pairs_sentence}
+use Rattle.fault_lines.specs.Sentences.{missing_sentence, other_output_sentence, other_pairs_sentence}
 use Rattle.fault_lines.specs.Lines.{input_line, line_sentence, psbt_line, psbt_rest, words_sentence}
 use Rattle.fault_lines.proofs.laws.inputs_have_their_sentence.Goals as goal
 

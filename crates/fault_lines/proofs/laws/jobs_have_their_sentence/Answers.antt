@@ -1,5 +1,5 @@
 use Rattle.std.proofs.Common.{refl}
-use Rattle.fault_sentences.specs.Sentences.{kept_sentence}
+use Rattle.fault_lines.specs.Sentences.{kept_sentence}
 use Rattle.fault_lines.specs.Lines.{kept_line, limit_line, line_sentence, words_sentence}
 use Rattle.fault_lines.proofs.laws.jobs_have_their_sentence.Goals as goal
 

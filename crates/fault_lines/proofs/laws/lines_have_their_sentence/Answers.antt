@@ -1,7 +1,7 @@
 use Rattle.std.proofs.Common.{◌≡◌, ◌∙◌, refl, ap, Bool, false, List, ℕ, Option, Some, None, bytes_eq, codes, if◌then◌else◌}
 use Rattle.std.proofs.lemmas.Bool.{false_from_ne_true}
 use Rattle.std.proofs.lemmas.Slice.Eq.{bytes_eq-Decides}
-use Rattle.fault_sentences.specs.Sentences.{none_sentence, unfinished_sentence}
+use Rattle.fault_lines.specs.Sentences.{none_sentence, unfinished_sentence}
 use Rattle.fault_lines.specs.Word.{told, word}
 use Rattle.fault_lines.specs.Lines.{input_line, limit_line, line_sentence, plan_line, unpaid_line, words_sentence}
 use Rattle.fault_lines.proofs.LineLaws.{blocks_told, bump_told, plan_told, psbt_told, request_told, wallet_told}

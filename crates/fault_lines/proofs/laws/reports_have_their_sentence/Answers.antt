@@ -1,5 +1,5 @@
 use Rattle.std.proofs.Common.{refl}
-use Rattle.fault_sentences.specs.Sentences.{check_sentence}
+use Rattle.fault_lines.specs.Sentences.{check_sentence}
 use Rattle.fault_lines.specs.Lines.{check_line, line_sentence, words_sentence}
 use Rattle.fault_lines.proofs.laws.reports_have_their_sentence.Goals as goal
 

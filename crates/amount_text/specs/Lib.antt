@@ -1,4 +1,0 @@
-pub mod Printed
-pub mod Spelled
-pub mod Spelling
-pub mod Units

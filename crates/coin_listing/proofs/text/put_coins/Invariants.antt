@@ -1,7 +1,0 @@
-use Rattle.std.proofs.Common.{◌≡◌, ◌++◌, map, take, string_bytes}
-use Rattle.fault_text.specs.Lines.{lines_text}
-use Rattle.coin_listing.specs.Listing.{coin_line}
-use Rattle.coin_listing.proofs.text.put_coins.Given as goal
-
-abbrev pub invariant-loop-candidate : goal.invariant-loop-candidate
-invariant-loop-candidate l = string_bytes l.text ≡ string_bytes l.initial.text ++ lines_text (map coin_line (take l.candidate-index l.candidates))

@@ -1,0 +1,65 @@
+//! The table as one text.
+
+ghost use Rattle.std.specs.Prelude.{◌≡◌, ◌++◌, IfOk, OnOk, string_bytes};
+ghost use Rattle.std.specs.List.{flat_map};
+ghost use Rattle.command_pay.specs.Table.{figures_text, pays_line, spends_line, table_text};
+
+use crate::lines::{change_line, fee_line, mark_line};
+use crate::parties::{pays_line, spends_line};
+use fund_base::Memory;
+use fund_report::{FundedReport, InLine};
+use request_making::Payment;
+use std::alloc::Global;
+
+/// Puts the lines of the recipients after the text.
+fn put_payments(alloc: Global, text: &mut String, payments: &[Payment]) -> Result<(), Memory>
+    ensures { OnOk result (string_bytes text.new ≡ string_bytes text.old ++ flat_map pays_line payments.now) }
+{
+    for payment in payments {
+        let line = pays_line(alloc, payment)?;
+        text.push_str(line.as_str())?;
+    }
+    Ok(())
+}
+
+/// Puts the lines of the coins after the text.
+fn put_coins(alloc: Global, text: &mut String, coins: &[InLine]) -> Result<(), Memory>
+    ensures { OnOk result (string_bytes text.new ≡ string_bytes text.old ++ flat_map spends_line coins.now) }
+{
+    for coin in coins {
+        let line = spends_line(alloc, coin)?;
+        text.push_str(line.as_str())?;
+    }
+    Ok(())
+}
+
+/// The lines of what the payment comes to.
+#[tactic(auto, unfolding(crate::specs::Table::figures_text))]
+fn figures_text(alloc: Global, report: &FundedReport) -> Result<String, Memory>
+    ensures { IfOk result (λ text. string_bytes text ≡ figures_text report.now) }
+{
+    let fee = fee_line(alloc, report.fee, report.vsize)?;
+    let change = change_line(alloc, report.change)?;
+    let mark = mark_line(alloc, report.mark)?;
+    Ok(format!(in alloc; "{}{}{}", fee, change, mark)?)
+}
+
+/// A payment as a table: a line `pays` for each recipient in order, with the amount in bitcoin and in satoshi, and the
+/// address as it was given or the script in hex; a line `spends` for each coin in the order of the inputs; a line `fee`,
+/// with what it comes to a virtual byte, rounded down; a line `change`; and a line `choice` that says what the mark of the
+/// report promises. It refuses only when out of memory.
+#[tactic(auto, unfolding(crate::specs::Table::table_text))]
+pub fn table_text(
+    alloc: Global,
+    payments: &[Payment],
+    report: &FundedReport,
+) -> Result<String, Memory>
+    ensures { IfOk result (λ text. string_bytes text ≡ table_text payments.now report.now) }
+{
+    let mut text = String::new(alloc);
+    put_payments(alloc, &mut text, payments)?;
+    put_coins(alloc, &mut text, &report.coins)?;
+    let figures = figures_text(alloc, report)?;
+    text.push_str(figures.as_str())?;
+    Ok(text)
+}

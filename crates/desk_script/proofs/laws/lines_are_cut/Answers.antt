@@ -1,8 +1,0 @@
-use Rattle.desk_script.proofs.ScriptLaws.{are_lines, only_lines}
-use Rattle.desk_script.proofs.laws.lines_are_cut.Goals as goal
-
-pub returns-clause-are : goal.returns-clause-are
-returns-clause-are c = are_lines
-
-pub returns-clause-only : goal.returns-clause-only
-returns-clause-only c = only_lines

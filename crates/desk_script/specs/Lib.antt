@@ -1,4 +1,0 @@
-pub mod Lent
-pub mod Line
-pub mod ReplyText
-pub mod Script

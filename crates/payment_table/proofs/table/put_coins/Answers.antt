@@ -1,8 +1,0 @@
-use Rattle.std.proofs.Common.{◌∙◌, string_bytes}
-use Rattle.payment_table.specs.Table.{spends_line}
-use Rattle.payment_table.proofs.Pieces.{one_piece_more}
-use Rattle.payment_table.proofs.table.put_coins.Goals as goal
-
-pub loop-coin-preserved : goal.loop-coin-preserved
-loop-coin-preserved c =
-    one_piece_more spends_line c.args.coins.now c.loop-coin.coin-index c.coin-item.result (string_bytes c.args.text.now) (string_bytes c.loop-coin.text) _ _ c.loop-coin-test.true c.coin-item.is c.loop-coin.invariant c.in_ok-push_str.ensures.bytes (c.as_str.ensures.value ∙ c.in_ok-line.ensures)

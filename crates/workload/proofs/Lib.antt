@@ -1,9 +1,0 @@
-pub mod CoinLaws
-pub mod KeptLaws
-pub mod KindLaws
-pub mod LeftOutLaws
-pub mod LineLaws
-pub mod MakerLaws
-pub mod RuleLaws
-pub mod SummaryLaws
-pub mod TextLaws
