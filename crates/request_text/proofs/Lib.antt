@@ -1,6 +1,7 @@
 pub mod Alone
 pub mod EntryLaws
 pub mod MethodLaws
+pub mod PartLaws
 pub mod RangeLaws
 pub mod RecipientLaws
 pub mod RecipientLists

@@ -1,4 +1,5 @@
 pub mod Entries
+pub mod Parts
 pub mod PlainRequest
 pub mod Rules
 pub mod RequestText

@@ -48,7 +48,7 @@ pub enum RequestFault {
 }
 
 /// The same faults, of which those that any JSON file may have are reported as by the crate that reads them.
-#[derive(Debug, Drop)]
+#[derive(Drop)]
 pub enum Refusal {
     Field(FieldFault),
     Address(u32, AddrFault),

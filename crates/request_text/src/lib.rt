@@ -10,6 +10,7 @@ mod member;
 mod reading;
 mod recipients;
 mod request;
+mod settings;
 
 pub use fault::RequestFault;
 pub use laws::{

@@ -7,19 +7,17 @@ ghost use Rattle.serde_json.specs.View.{view};
 ghost use Rattle.fund_base.specs.Parsing.{YieldsAll};
 ghost use Rattle.json_fields.specs.Fields.{object_at, parsed, texts};
 ghost use Rattle.json_fields.specs.declared.fault.FieldFault.TheVariants.{Memory as NoMemory};
+ghost use Rattle.request_text.specs.Parts.{parts_at};
 ghost use Rattle.request_text.specs.PlainRequest.{IsRequest, draws};
-ghost use Rattle.request_text.specs.RequestText.{known_in, needs_seed, request_at, request_of, required_in};
+ghost use Rattle.request_text.specs.RequestText.{known_in, needs_seed, request_of, required_in};
 ghost use Rattle.request_text.specs.Told.{Gives, HasCause, Reads, plain_fault};
 
 use crate::coins::coins_or_none;
 use crate::fault::{Refusal, RequestFault, told};
-use crate::member::{
-    bump_or_none, flag_or, method_in, method_or_auto, number_or, rate_of, rate_or, seed_or_zeros,
-    take_or_true, tries_or,
-};
+use crate::member::method_in;
 use crate::recipients::recipients_of;
 use crate::request::{Method, Request};
-use fund_base::MAX_MONEY;
+use crate::settings::{policy_of, rates_of, search_of, terms_of};
 use json_fields::{FieldFault, member_of, object_of, parse};
 use serde_json::Value;
 use std::alloc::Global;
@@ -97,46 +95,36 @@ fn whole_of(alloc: Global, value: &Value) -> Result<(), FieldFault>
 }
 
 /// The request that the value is.
-#[tactic(auto, unfolding(crate::specs::RequestText::request_at))]
+#[tactic(auto, unfolding(crate::specs::Parts::parts_at))]
 fn request_in(alloc: Global, value: &Value) -> Result<Request, Refusal>
-    ensures gives { Gives (λ r. r) result (request_at (view value.now)) }
+    ensures gives { Gives (λ r. r) result (parts_at (view value.now)) }
     ensures seed { IfOk result (λ r. draws r.method ≡ true → is_some (get (codes "seed") (view value.now)) ≡ true) }
     ensures cause { IfErr result HasCause }
 {
     whole_of(alloc, value)?;
     let recipients = recipients_of(alloc, member_of(alloc, value, "recipients")?)?;
-    let rate = rate_of(alloc, member_of(alloc, value, "rate")?, "rate")?;
-    let long_term = rate_or(alloc, value, "long_term", 10_000)?;
-    let discard = rate_or(alloc, value, "discard", 10_000)?;
-    let change_target = number_or(alloc, value, "change_target", MAX_MONEY, 50_000)?;
-    let method = method_or_auto(alloc, value)?;
-    let seed = seed_or_zeros(alloc, value)?;
-    let tries = tries_or(alloc, value, 100_000)?;
-    let take = take_or_true(alloc, value)?;
-    let zero_conf = flag_or(alloc, value, "zero_conf", true)?;
-    let include_unsafe = flag_or(alloc, value, "include_unsafe", false)?;
-    let group = flag_or(alloc, value, "group", false)?;
+    let rates = rates_of(alloc, value)?;
+    let search = search_of(alloc, value)?;
+    let policy = policy_of(alloc, value)?;
     let coins = coins_or_none(alloc, value)?;
-    let bump = bump_or_none(alloc, value)?;
-    let replaceable = flag_or(alloc, value, "replaceable", true)?;
-    let locktime = number_or(alloc, value, "locktime", u32::MAX as u64, 0)? as u32;
+    let terms = terms_of(alloc, value)?;
     Ok(Request {
         recipients,
-        rate,
-        long_term,
-        discard,
-        change_target,
-        method,
-        seed,
-        tries,
-        take,
-        zero_conf,
-        include_unsafe,
-        group,
+        rate: rates.rate,
+        long_term: rates.long_term,
+        discard: rates.discard,
+        change_target: rates.change_target,
+        method: search.method,
+        seed: search.seed,
+        tries: search.tries,
+        take: search.take,
+        zero_conf: policy.zero_conf,
+        include_unsafe: policy.include_unsafe,
+        group: policy.group,
         coins,
-        bump,
-        replaceable,
-        locktime,
+        bump: terms.bump,
+        replaceable: terms.replaceable,
+        locktime: terms.locktime,
     })
 }
 

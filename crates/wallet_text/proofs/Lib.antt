@@ -3,6 +3,7 @@ pub mod EntryLaws
 pub mod ListLaws
 pub mod NestedFaults
 pub mod Orders
+pub mod PartLaws
 pub mod Rules
 pub mod Strings
 pub mod TableLaws

@@ -1,8 +1,8 @@
 -- The rules over whole lists, as loops test them.
-use Rattle.std.proofs.Common.{◌≡◌, ℕ, suc, ◌+◌, ◌<◌, ◌≤◌, Bool, true, false, cond, ◌||◌, List, [], ◌∷◌, ◌++◌, length, get_or, take, drop, bytes_eq, Option, Some, None, refl, sym, ap, ◌∙◌, arith, add-one, drop-cons, not}
+use Rattle.std.proofs.Common.{◌≡◌, ℕ, suc, ◌+◌, ◌<◌, ◌≤◌, Bool, true, false, cond, ◌||◌, List, [], ◌∷◌, ◌++◌, length, get_or, map, take, drop, bytes_eq, Option, Some, None, refl, sym, ap, ◌∙◌, arith, add-one, drop-cons, not}
 use Rattle.std.proofs.Math.ListN.{drop_of_length-le}
 use Rattle.std.proofs.Math.Seq.{take-suc, drop-length}
-use Rattle.std.proofs.lemmas.List.{length-take-le}
+use Rattle.std.proofs.lemmas.List.{length-take-le, map_more}
 use Rattle.std.proofs.lemmas.List.Folds.{list_any-append}
 use Rattle.std.proofs.lemmas.Slice.Eq.{bytes_eq-Decides}
 use Rattle.std.specs.List.{list_any}
@@ -107,3 +107,7 @@ first_more ts i d later behind now lt same found e =
     let test : spends_one_of later (get_or ts i d) ≡ spends_one_of (txids_of (get_or ts i d ∷ drop (suc i) ts)) (get_or ts i d) =
     same_inputs later (txids_of (drop i ts)) same (get_or ts i d).inputs ∙ ap (λ r. spends_one_of (txids_of r) (get_or ts i d)) rest in
     e ∙ ap (λ b. cond b (Some i) behind) test ∙ ap (λ o. cond (spends_one_of (txids_of (get_or ts i d ∷ drop (suc i) ts)) (get_or ts i d)) (Some i) o) found ∙ sym (ap (later_from i) rest)
+
+-- the image of one item more
+pub image_more : {X : Type 0} (f : X → List ℕ) (xs : List X) (i : ℕ) (x : X) (y : List ℕ) (images : List (List ℕ)) → i < length xs → x ≡ get_or xs i x → y ≡ f x → images ≡ map f (take i xs) → images ++ y ∷ [] ≡ map f (take (i + 1) xs)
+image_more f xs i x y images lt is reads so_far = ap (λ l. l ++ y ∷ []) so_far ∙ ap (λ z. map f (take i xs) ++ z ∷ []) (reads ∙ ap f is) ∙ sym (map_more f xs i x lt)

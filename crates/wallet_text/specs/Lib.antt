@@ -1,3 +1,4 @@
+pub mod Parts
 pub mod PlainWallet
 pub mod Repeats
 pub mod ScriptEntries

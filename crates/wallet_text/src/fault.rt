@@ -38,7 +38,7 @@ pub enum WalletFault {
 }
 
 /// The same, as the reader holds it: a fault of the form, or a rule that is broken.
-#[derive(Debug, Drop)]
+#[derive(Drop)]
 pub enum Refusal {
     Field(FieldFault),
     Script(u32),

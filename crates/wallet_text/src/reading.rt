@@ -1,14 +1,15 @@
 //! Reading a wallet file.
 
-ghost use Rattle.std.specs.Prelude.{◌≡◌, [], codes, IfOk, IfErr};
+ghost use Rattle.std.specs.Prelude.{◌≡◌, ◌≤◌, [], codes, IfOk, IfErr};
 ghost use Rattle.fund_base.specs.Parsing.{YieldsAll};
-ghost use Rattle.json_fields.specs.Fields.{optional};
+ghost use Rattle.json_fields.specs.Fields.{IsHash, object_at, optional};
 ghost use Rattle.json_fields.specs.declared.fault.FieldFault.TheVariants.{Memory};
 ghost use Rattle.serde_json.specs.Find.{get};
 ghost use Rattle.serde_json.specs.View.{view};
+ghost use Rattle.wallet_text.specs.Parts.{head_at, listed_at, parts_at, watched_at};
 ghost use Rattle.wallet_text.specs.Told.{Gives, HasReason, Reads};
 ghost use Rattle.wallet_text.specs.WalletRules.{IsWallet};
-ghost use Rattle.wallet_text.specs.WalletText.{scripts_at, earlier_list_at, pending_list_at, abandoned_list_at, locked_list_at, wallet_at, wallet_of};
+ghost use Rattle.wallet_text.specs.WalletText.{known_names, required_names, scripts_at, earlier_list_at, pending_list_at, abandoned_list_at, locked_list_at, wallet_of};
 
 use crate::entries::{
     abandoned_from, change_of, earlier_from, locked_from, pending_from, scripts_from,
@@ -72,9 +73,9 @@ fn locked_of(alloc: Global, value: &Value) -> Result<Vec<OutPoint>, FieldFault>
     }
 }
 
-#[tactic(auto, unfolding(crate::specs::WalletText::wallet_at))]
-fn wallet_of(alloc: Global, value: &Value) -> Result<Wallet, Refusal>
-    ensures { Gives (λ w. w) result (wallet_at (view value.now)) }
+/// That the value is an object with known members and the required ones.
+fn whole_of(alloc: Global, value: &Value) -> Result<(), FieldFault>
+    ensures { YieldsAll Memory (λ _. tt) result (object_at (codes "root") known_names required_names (view value.now)) }
 {
     let required = ["height", "hash", "scripts", "change"];
     let known = [
@@ -87,21 +88,72 @@ fn wallet_of(alloc: Global, value: &Value) -> Result<Wallet, Refusal>
         "abandoned",
         "locked",
     ];
-    object_of(alloc, value, "root", &known, &required)?;
-    let height = number_of(
-        alloc,
-        member_of(alloc, value, "height")?,
-        "height",
-        MOST_HEIGHT,
-    )? as u32;
+    object_of(alloc, value, "root", &known, &required)
+}
+
+/// The height and the hash.
+#[tactic(auto, unfolding(crate::specs::Parts::head_at))]
+fn head_of(alloc: Global, value: &Value) -> Result<(u32, [u8; 32]), FieldFault>
+    ensures gives { YieldsAll Memory (λ h. h) result (head_at (view value.now)) }
+    ensures height { IfOk result (λ h. h.0 ≤ MOST_HEIGHT) }
+    ensures hash { IfOk result (λ h. IsHash h.1) }
+{
+    let height = member_of(alloc, value, "height")?;
+    let height = number_of(alloc, height, "height", MOST_HEIGHT)? as u32;
     let hash = hash_of(alloc, member_of(alloc, value, "hash")?, "hash")?;
+    Ok((height, hash))
+}
+
+/// The scripts, and the change entry.
+#[tactic(auto, unfolding(crate::specs::Parts::watched_at))]
+fn watched_of(alloc: Global, value: &Value) -> Result<(Vec<Watch>, Watch), Refusal>
+    ensures { Gives (λ w. (w.0.items, w.1)) result (watched_at (view value.now)) }
+{
     let scripts = scripts_of(alloc, member_of(alloc, value, "scripts")?)?;
     let change = change_of(alloc, scripts.len(), member_of(alloc, value, "change")?)?;
+    Ok((scripts, change))
+}
+
+/// The lists that may be left out.
+#[derive(Drop)]
+struct Lists {
+    earlier: Vec<Earlier>,
+    pending: Vec<Tx>,
+    abandoned: Vec<Txid>,
+    locked: Vec<OutPoint>,
+}
+
+/// These lists of a wallet at this height, which keep the rules over whole lists.
+#[tactic(auto, unfolding(crate::specs::Parts::listed_at))]
+fn lists_of(alloc: Global, height: u32, value: &Value) -> Result<Lists, Refusal>
+    ensures { Gives (λ l. record { earlier = l.earlier.items; pending = l.pending.items; abandoned = l.abandoned.items; locked = l.locked.items }) result (listed_at height (view value.now)) }
+{
     let earlier = earlier_of(alloc, height, value)?;
     let pending = pending_of(alloc, value)?;
     let abandoned = abandoned_of(alloc, value)?;
     let locked = locked_of(alloc, value)?;
     judge_lists(alloc, &earlier, &pending)?;
+    Ok(Lists {
+        earlier,
+        pending,
+        abandoned,
+        locked,
+    })
+}
+
+#[tactic(auto, unfolding(crate::specs::Parts::parts_at))]
+fn wallet_of(alloc: Global, value: &Value) -> Result<Wallet, Refusal>
+    ensures { Gives (λ w. w) result (parts_at (view value.now)) }
+{
+    whole_of(alloc, value)?;
+    let (height, hash) = head_of(alloc, value)?;
+    let (scripts, change) = watched_of(alloc, value)?;
+    let Lists {
+        earlier,
+        pending,
+        abandoned,
+        locked,
+    } = lists_of(alloc, height, value)?;
     Ok(Wallet {
         height,
         hash,

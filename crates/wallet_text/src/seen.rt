@@ -9,9 +9,14 @@ use std::alloc::Global;
 use std::marker::Model;
 
 /// Byte strings, each once, in the order in which they came.
-#[derive(Drop)]
 pub struct Seen {
     strings: IndexSet<Vec<u8>>,
+}
+
+impl Drop for Seen {
+    fn drop(self) {
+        let Seen { strings: _ } = self;
+    }
 }
 
 impl Model for Seen {
