@@ -9,6 +9,7 @@ pub mod OwnFaults
 pub mod Refusals
 pub mod Refused
 pub mod PartLaws
+pub mod FrameLaws
 pub mod RecordLaws
 pub mod NextLaws
 pub mod DigestLaws

@@ -1,14 +1,18 @@
 -- The next block of bytes, by the record that stands there.
-use Rattle.std.proofs.Common.{◌≡◌, ◌≢◌, ℕ, ◌+◌, ◌<◌, Bool, List, ◌++◌, length, take, drop, Result, Ok, Err, Some, None, refl, sym, ◌∙◌, ap, subst}
+use Rattle.std.proofs.Common.{◌≡◌, ◌≢◌, ◌≤◌, ℕ, ◌+◌, ◌-◌, ◌<◌, Bool, List, ◌++◌, length, take, drop, Option, Result, Ok, Err, Some, None, refl, sym, ◌∙◌, ap, subst}
+use Rattle.std.specs.Prelude.{IfOk, IfSome}
 use Rattle.std.specs.Result.{IsErrAnd}
 use Rattle.std.proofs.lemmas.List.Elements.{All-append}
 use Rattle.fund_base.specs.Cursor.{IsBytes}
 use Rattle.fund_base.specs.Parsing.{YieldsAll}
+use Rattle.fund_base.specs.Writer.{Feeds}
 use Rattle.fund_base.specs.declared.shelf.Fault.{Fault}
 use Rattle.fund_base.specs.declared.shelf.Fault.TheVariants as shelf
 use Rattle.fund_base.proofs.Laws.{bind_is}
-use Rattle.block_feed.specs.Block.{ChainBlock, height_after}
-use Rattle.block_feed.specs.Feed.{next_in, Finds}
+use Rattle.block_feed.specs.Block.{ChainBlock, IsLinked, height_after}
+use Rattle.block_feed.specs.Digest.{HasTaken}
+use Rattle.block_feed.specs.Feed.{FeedState, next_in, Finds}
+use Rattle.block_feed.specs.Parts.{IsPast}
 use Rattle.block_feed.specs.Reading.{record_at, block_at, read_fault}
 use Rattle.block_feed.specs.declared.fault.FeedFault.{FeedFault}
 use Rattle.block_feed.specs.declared.fault.FeedFault.TheVariants.{Read, Memory}
@@ -64,3 +68,25 @@ record_fits rest head body n parts is first second =
 -- what is told of the bytes of a block
 pub block_there : (hash : List ℕ) (told height : ℕ) (seen body : List ℕ) → told ≡ height → seen ≡ body → block_at hash told (start seen) ≡ block_at hash height (start body)
 block_there hash told height seen body same bytes = ap (λ (n : ℕ). block_at hash n (start seen)) same ∙ ap (λ (l : List ℕ). block_at hash height (start l)) bytes
+
+-- ---- what is said of a block that is given
+
+pub past_linked : (told : Type 0) (rest : List ℕ) (old new : FeedState) (r : Result (Option ChainBlock) FeedFault) → IfOk r (λ o. IfSome o (IsPast told rest old new)) → IfOk r (λ o. IfSome o (λ block. IsLinked old.hash (height_after old.height) block))
+past_linked told rest old new (Ok (Some block)) past = past.linked
+past_linked told rest old new (Ok None) past = tt
+past_linked told rest old new (Err e) past = tt
+
+pub past_within : (told : Type 0) (rest : List ℕ) (old new : FeedState) (r : Result (Option ChainBlock) FeedFault) → IfOk r (λ o. IfSome o (IsPast told rest old new)) → IfOk r (λ o. IfSome o (λ _. (old.place < new.place) × (new.place ≤ 1_073_741_824)))
+past_within told rest old new (Ok (Some block)) past = (past.up, past.within)
+past_within told rest old new (Ok None) past = tt
+past_within told rest old new (Err e) past = tt
+
+pub past_bytes : (told : Type 0) (rest : List ℕ) (old new : FeedState) (r : Result (Option ChainBlock) FeedFault) → IfOk r (λ o. IfSome o (IsPast told rest old new)) → told → IfOk r (λ o. IfSome o (λ _. IsBytes (take (new.place - old.place) rest)))
+past_bytes told rest old new (Ok (Some block)) past tells = past.bytes tells
+past_bytes told rest old new (Ok None) past tells = tt
+past_bytes told rest old new (Err e) past tells = tt
+
+pub past_taken : (told : Type 0) (rest : List ℕ) (old new : FeedState) (r : Result (Option ChainBlock) FeedFault) → IfOk r (λ o. IfSome o (IsPast told rest old new)) → told → IfOk r (λ o. IfSome o (λ _. Feeds HasTaken old.hasher new.hasher (take (new.place - old.place) rest)))
+past_taken told rest old new (Ok (Some block)) past tells = past.taken tells
+past_taken told rest old new (Ok None) past tells = tt
+past_taken told rest old new (Err e) past tells = tt

@@ -1,15 +1,12 @@
 -- Parts of a file that is read piece by piece.
-use Rattle.std.proofs.Common.{◌≡◌, ◌≢◌, ◌≤◌, ◌<◌, ℕ, ◌+◌, ◌-◌, min, Bool, true, false, ltb, List, [], ◌++◌, length, take, drop, Result, Ok, Err, refl, sym, ◌∙◌, ap, subst, arith, inl, inr}
-use Rattle.std.specs.Prelude.{◌==◌, ◌&&◌, IfOk, IsErrOf}
+use Rattle.std.proofs.Common.{◌≡◌, ◌≤◌, ◌<◌, ℕ, ◌+◌, ◌-◌, min, Bool, true, false, ltb, List, [], ◌++◌, length, take, drop, Result, Ok, Err, refl, sym, ◌∙◌, ap, subst, arith, inl, inr}
+use Rattle.std.specs.Prelude.{◌==◌, ◌&&◌, IfOk}
 use Rattle.std.specs.List.{list_all}
-use Rattle.std.specs.Result.{IsErrAnd}
 use Rattle.std.proofs.Math.Seq.{take-add}
 use Rattle.std.proofs.lemmas.Bool.{cases_lt, eqb-true, lt-ltb, le-ltb}
 use Rattle.std.proofs.lemmas.List.{take-append-drop, take_all, take-take, drop-drop, drop-take, length-take, length-take-le, length-drop}
 use Rattle.std.proofs.lemmas.List.Folds.{list_all-append}
-use Rattle.fund_base.specs.Causes.{IsRead, NeverFall, Rose}
-use Rattle.fund_base.specs.declared.shelf.Fault.{Fault}
-use Rattle.fund_base.specs.declared.shelf.Fault.TheVariants as shelf
+use Rattle.fund_base.specs.Causes.{IsRead, NeverFall}
 use Rattle.block_feed.specs.Parts.{IsFirstPart}
 
 -- ---- what is read
@@ -202,16 +199,3 @@ never_then before middle now is never = subst (λ (f : List ℕ → ℕ). NeverF
 -- before the first piece there is nothing
 pub part_none : (part file : List ℕ) (n at : ℕ) → part ≡ [] → n ≡ 0 → part ≡ take n (drop at file)
 part_none part file n at none zero = none ∙ sym (ap (λ (k : ℕ). take k (drop at file)) zero)
-
--- a fault that is passed on says of the count what it said
-pub rises : {X Y : Type 0} (fault : Fault) (r : Result X Fault) (before middle now : List ℕ → ℕ) (name : List ℕ) → IsErrAnd r (λ e. e ≡ fault) → middle ≡ before → (IsErrOf {T = Y} (Err fault) shelf.Failed → Rose (middle name) (now name)) → IsErrOf r shelf.Failed → Rose (before name) (now name)
-rises fault (Ok x) before middle now name out same cause failed = absurd out
-rises fault (Err e) before middle now name out same cause failed =
-    let is : e ≡ shelf.Failed = cc in
-    subst (λ (f : List ℕ → ℕ). Rose (f name) (now name)) same (cause (ap (λ (d : Fault). Err d) (sym out ∙ is)))
-
--- and where it is no failed read, the counts are as before
-pub stays : {X Y : Type 0} (fault : Fault) (r : Result X Fault) (before middle now : List ℕ → ℕ) → IsErrAnd r (λ e. e ≡ fault) → middle ≡ before → (IsErrOf {T = Y} (Err fault) shelf.Memory → now ≡ middle) → r ≢ Err shelf.Failed → now ≡ before
-stays fault (Ok x) before middle now out same short apart = absurd out
-stays shelf.Failed (Err e) before middle now out same short apart = absurd (apart (ap (λ (d : Fault). Err d) out))
-stays shelf.Memory (Err e) before middle now out same short apart = short refl ∙ same

@@ -1,6 +1,11 @@
 -- Parts of a file that is read piece by piece.
-use Rattle.std.specs.Prelude.{ℕ, ◌≡◌, ◌+◌, ◌<◌, List, length, take}
-use Rattle.block_feed.specs.Block.{ChainBlock}
+use Rattle.std.specs.Prelude.{ℕ, ◌≡◌, ◌+◌, ◌-◌, ◌≤◌, ◌<◌, [], ◌∷◌, ◌++◌, List, length, take, vec_len}
+use Rattle.fund_base.specs.Causes.{Asks, NeverFall, Rose, ShelfView}
+use Rattle.fund_base.specs.Cursor.{IsBytes}
+use Rattle.fund_base.specs.Writer.{Feeds}
+use Rattle.block_feed.specs.Block.{ChainBlock, IsLinked, height_after}
+use Rattle.block_feed.specs.Digest.{HasTaken}
+use Rattle.block_feed.specs.Feed.{FeedState}
 use Rattle.block_feed.specs.declared.records.Record.{Record}
 
 -- the first bytes of these, one at least where there are any
@@ -8,6 +13,39 @@ pub record IsFirstPart (bytes piece : List ℕ) : Type 0 where
   pub count : ℕ
   pub some : 0 < count
   pub is : piece ≡ take count bytes
+
+-- What a call that reads the file of this name alone leaves of a shelf. Where it failed that name's count of failed
+-- reads rose, and otherwise no count changed.
+pub record ReadsOne (told failed : Type 0) (name : List ℕ) (before now : ShelfView) : Type 0 where
+  pub same : told → now.files ≡ before.files
+  pub reads : NeverFall before.reads now.reads
+  pub writes : now.writes ≡ before.writes
+  pub cause : failed → Rose (before.reads name) (now.reads name)
+  pub unfailed : (failed → ⊥) → now.reads ≡ before.reads
+  pub asked : told → Asks (name ∷ []) before.asked now.asked
+
+-- A record that stands at this place of a file: its bytes are the next ones there, where these are told, and it lies
+-- within what is read of a file.
+pub record StandsAt (told : Type 0) (rest : List ℕ) (place : ℕ) (found : Record) : Type 0 where
+  pub bytes : told → found.head.items ++ found.body.items ≡ take (8 + length found.body.items) rest
+  pub fits : IsBytes found.head.items
+  pub least : 81 ≤ vec_len found.body
+  pub within : place + 8 + vec_len found.body ≤ 1_073_741_824
+
+-- A block of a record that stands at this place, behind a block of this hash and height.
+pub record IsNextAt (told : Type 0) (rest hash : List ℕ) (height place : ℕ) (block : ChainBlock) (found : Record) : Type 0 where
+  pub stands : StandsAt told rest place found
+  pub fits : IsBytes found.body.items
+  pub height_is : block.height ≡ height_after height
+  pub linked : IsLinked hash (height_after height) block
+
+-- The feed has moved past a block, which is linked to the one before, and has taken the bytes between its places.
+pub record IsPast (told : Type 0) (rest : List ℕ) (old new : FeedState) (block : ChainBlock) : Type 0 where
+  pub linked : IsLinked old.hash (height_after old.height) block
+  pub up : old.place < new.place
+  pub within : new.place ≤ 1_073_741_824
+  pub bytes : told → IsBytes (take (new.place - old.place) rest)
+  pub taken : told → Feeds HasTaken old.hasher new.hasher (take (new.place - old.place) rest)
 
 -- the bytes of a record's block
 abbrev pub body_in : Record → List ℕ

@@ -1,14 +1,13 @@
 //! The feed of linked blocks.
 
-ghost use Rattle.std.specs.Prelude.{ℕ, ◌≡◌, ◌≢◌, ◌+◌, ◌-◌, ◌≤◌, ◌<◌, [], ◌∷◌, ◌++◌, length, drop, take, nat_lt, vec_len, option_map, List, Some, None, Ok, Err, IfOk, OnOk, IfErr, IfSome, IfNone, is_some, IsSome, IsErrOf, MatchOption, MatchResult};
+ghost use Rattle.std.specs.Prelude.{ℕ, ◌≡◌, ◌≢◌, ◌+◌, ◌-◌, ◌≤◌, ◌<◌, [], ◌∷◌, ◌++◌, length, drop, take, nat_lt, option_map, List, Some, None, Ok, Err, IfOk, IfErr, IfSome, IfNone, is_some, IsSome, IsErrOf, MatchOption, MatchResult};
 ghost use Rattle.fund_base.specs.Causes.{Asks, Rose, NeverFall};
-ghost use Rattle.fund_base.specs.Cursor.{IsBytes};
 ghost use Rattle.fund_base.specs.Writer.{Feeds};
 ghost use Rattle.block_feed.specs.Block.{ChainBlock, IsLinked, Begins, height_after};
 ghost use Rattle.block_feed.specs.BlockFile.{IsBlockFile};
 ghost use Rattle.block_feed.specs.Digest.{HasTaken, IsDigest};
 ghost use Rattle.block_feed.specs.Feed.{IsOutside, IsEnd, StandsBefore, IsFirst, next_in, next_of, seen_from, Finds, Gives, Moves, Digests};
-ghost use Rattle.block_feed.specs.Parts.{behind_record};
+ghost use Rattle.block_feed.specs.Parts.{IsNextAt, IsPast, ReadsOne, behind_record};
 ghost use Rattle.block_feed.specs.declared.fault.FeedFault.TheVariants.{Tx, Read, Limit, Memory};
 ghost use Rattle.tx_codec.specs.declared.fault.TxFault.TheVariants.{Memory as NoMemory};
 
@@ -59,9 +58,23 @@ fn height_after(height: u32) -> u32
     height.saturating_add(1).min(MAX_HEIGHT)
 }
 
+/// What stays of a fault: the fault itself, unless it is want of memory or a failed read.
+fn lasting(fault: FeedFault) -> Option<FeedFault>
+    ensures kept { fault ≢ Memory → fault ≢ Read → result ≡ Some fault }
+    ensures memory { fault ≡ Memory → result ≡ None }
+    ensures read { fault ≡ Read → result ≡ None }
+    ensures never_short { result ≢ Some Memory }
+    ensures never_read { result ≢ Some Read }
+    ensures never_memory { (at : ℕ) → fault ≢ Tx at NoMemory → result ≢ Some (Tx at NoMemory) }
+{
+    match fault {
+        FeedFault::Memory | FeedFault::Read => None,
+        other => Some(other),
+    }
+}
+
 /// The block of the record of the file `name` at this place, behind a block of this hash and height, and
 /// the record. None at the file's end; `hasher` then takes what is left.
-#[tactic(auto, unfolding(crate::specs::Feed::next_in), using(fund_base::proofs::Asking::asks_again))]
 fn next_block<H: Shelf>(
     alloc: Global,
     shelf: &mut H,
@@ -73,14 +86,9 @@ fn next_block<H: Shelf>(
 ) -> Result<Option<(Block, Record)>, FeedFault>
     requires { place ≤ 1073741824 }
     ensures gives { H.tells → let file = (H.view shelf.old).files name.now in Finds (λ o. option_map (behind_record place) o) result (next_in (nat_lt 1073741824 (length file)) (take 1073741824 file) hash.now height place) }
-    ensures height { IfOk result (λ o. IfSome o (λ found. found.0.height ≡ height_after height)) }
-    ensures linked { IfOk result (λ o. IfSome o (λ found. IsLinked hash.now (height_after height) found.0)) }
 
-    // The bytes of the record, where the shelf tells them, and its length.
-    ensures bytes { H.tells → IfOk result (λ o. IfSome o (λ found. found.1.head.items ++ found.1.body.items ≡ take (8 + length found.1.body.items) (seen_from ((H.view shelf.old).files name.now) place))) }
-    ensures head_fits { IfOk result (λ o. IfSome o (λ found. IsBytes found.1.head.items)) }
-    ensures body_fits { IfOk result (λ o. IfSome o (λ found. IsBytes found.1.body.items)) }
-    ensures within { IfOk result (λ o. IfSome o (λ found. place + 8 + vec_len found.1.body ≤ 1073741824)) }
+    // The block and the bytes of its record, where the shelf tells them.
+    ensures found { IfOk result (λ o. IfSome o (λ found. IsNextAt H.tells (seen_from ((H.view shelf.old).files name.now) place) hash.now height place found.0 found.1)) }
 
     // What the digest takes.
     ensures taken { H.tells → IfOk result (λ o. IfNone o (Feeds HasTaken hasher.old hasher.new (seen_from ((H.view shelf.old).files name.now) place))) }
@@ -88,12 +96,7 @@ fn next_block<H: Shelf>(
 
     // A fault of a transaction is one of its text; and what the call leaves of the shelf.
     ensures never_memory { (at : ℕ) → result ≢ Err (Tx at NoMemory) }
-    ensures same { H.tells → (H.view shelf.new).files ≡ (H.view shelf.old).files }
-    ensures reads { NeverFall (H.view shelf.old).reads (H.view shelf.new).reads }
-    ensures writes { (H.view shelf.new).writes ≡ (H.view shelf.old).writes }
-    ensures cause { IsErrOf result FeedFault.Read → Rose ((H.view shelf.old).reads name.now) ((H.view shelf.new).reads name.now) }
-    ensures unfailed { result ≢ Err Read → (H.view shelf.new).reads ≡ (H.view shelf.old).reads }
-    ensures asked { H.tells → Asks (name.now ∷ []) (H.view shelf.old).asked (H.view shelf.new).asked }
+    ensures frame { ReadsOne H.tells (IsErrOf result FeedFault.Read) name.now (H.view shelf.old) (H.view shelf.new) }
 {
     let Some(found) = record_from(alloc, shelf, name, place, hasher)? else {
         return Ok(None);
@@ -152,25 +155,17 @@ impl Feed {
         name: &str,
     ) -> Result<Option<Block>, FeedFault>
         ensures exact { H.tells → self.old.fault ≡ None → Gives self.old self.new result (next_of ((H.view shelf.old).files name.now) self.old) }
-        ensures bytes { H.tells → self.old.fault ≡ None → IfOk result (λ o. IfSome o (λ _. IsBytes (take (self.new.place - self.old.place) (seen_from ((H.view shelf.old).files name.now) self.old.place)))) }
-        ensures block_digest { H.tells → self.old.fault ≡ None → IfOk result (λ o. IfSome o (λ _. Feeds HasTaken self.old.hasher self.new.hasher (take (self.new.place - self.old.place) (seen_from ((H.view shelf.old).files name.now) self.old.place)))) }
         ensures end_digest { H.tells → self.old.fault ≡ None → IfOk result (λ o. IfNone o ((bytes : List ℕ) → HasTaken self.old.hasher bytes → IsDigest self.old.hasher (bytes ++ seen_from ((H.view shelf.old).files name.now) self.old.place) self.new.digest)) }
         ensures asked_for { is_some self.new.hasher ≡ is_some self.old.hasher }
         ensures moves { Moves self.old self.new result }
-        ensures linked { IfOk result (λ o. IfSome o (λ block. IsLinked self.old.hash (height_after self.old.height) block)) }
+        ensures past { IfOk result (λ o. IfSome o (IsPast H.tells (seen_from ((H.view shelf.old).files name.now) self.old.place) self.old self.new)) }
         ensures again { IfSome self.old.fault (λ fault. (result ≡ Err fault) × (self.new ≡ self.old)) }
         ensures fine { IfOk result (λ _. self.new.fault ≡ None) }
         ensures kept { IfErr result (λ e. e ≢ Memory → e ≢ Read → self.new.fault ≡ Some e) }
         ensures memory { IsErrOf result FeedFault.Memory → self.new ≡ self.old }
         ensures read { IsErrOf result FeedFault.Read → self.new ≡ self.old }
-        ensures within { IfOk result (λ o. IfSome o (λ _. (self.old.place < self.new.place) × (self.new.place ≤ 1073741824))) }
         ensures never_memory { (at : ℕ) → result ≢ Err (Tx at NoMemory) }
-        ensures same { H.tells → (H.view shelf.new).files ≡ (H.view shelf.old).files }
-        ensures reads { NeverFall (H.view shelf.old).reads (H.view shelf.new).reads }
-        ensures writes { (H.view shelf.new).writes ≡ (H.view shelf.old).writes }
-        ensures cause { IsErrOf result FeedFault.Read → Rose ((H.view shelf.old).reads name.now) ((H.view shelf.new).reads name.now) }
-        ensures unfailed { result ≢ Err Read → (H.view shelf.new).reads ≡ (H.view shelf.old).reads }
-        ensures asked { H.tells → Asks (name.now ∷ []) (H.view shelf.old).asked (H.view shelf.new).asked }
+        ensures frame { ReadsOne H.tells (IsErrOf result FeedFault.Read) name.now (H.view shelf.old) (H.view shelf.new) }
     {
         if let Some(fault) = self.fault {
             return Err(fault);
@@ -192,10 +187,8 @@ impl Feed {
                 self.digest = digest_of(tail);
                 Ok(None)
             }
-            Err(FeedFault::Memory) => Err(FeedFault::Memory),
-            Err(FeedFault::Read) => Err(FeedFault::Read),
             Err(fault) => {
-                self.fault = Some(fault);
+                self.fault = lasting(fault);
                 Err(fault)
             }
         }

@@ -1,11 +1,10 @@
 //! Parts of a block file, read from its place on.
 
-ghost use Rattle.std.specs.Prelude.{◌≡◌, ◌≢◌, ◌+◌, ◌≤◌, ◌<◌, ◌==◌, [], ◌∷◌, List, ℕ, length, take, drop, nat_lt, vec_len, IfOk, IfSome, IsErrOf, Ok, Err};
+ghost use Rattle.std.specs.Prelude.{◌≡◌, ◌+◌, ◌≤◌, ◌<◌, ◌==◌, length, take, drop, nat_lt, vec_len, IfOk, IsErrOf};
 ghost use Rattle.std.specs.List.{list_all};
-ghost use Rattle.fund_base.specs.Causes.{Asks, Rose, NeverFall};
 ghost use Rattle.fund_base.specs.Cursor.{IsBytes};
 ghost use Rattle.block_feed.specs.Feed.{seen_from};
-ghost use Rattle.block_feed.specs.Parts.{IsFirstPart};
+ghost use Rattle.block_feed.specs.Parts.{IsFirstPart, ReadsOne};
 
 use fund_base::{Fault, Shelf};
 use std::alloc::{AllocError, Global};
@@ -36,12 +35,7 @@ fn read_pieces<H: Shelf>(
     requires room { 0 < length piece.old }
     ensures part { H.tells → IfOk result (λ part. part.items ≡ take count (drop at ((H.view shelf.old).files name.now))) }
     ensures bound { IfOk result (λ part. vec_len part ≤ count) }
-    ensures same { H.tells → (H.view shelf.new).files ≡ (H.view shelf.old).files }
-    ensures reads { NeverFall (H.view shelf.old).reads (H.view shelf.new).reads }
-    ensures writes { (H.view shelf.new).writes ≡ (H.view shelf.old).writes }
-    ensures cause { IsErrOf result Fault.Failed → Rose ((H.view shelf.old).reads name.now) ((H.view shelf.new).reads name.now) }
-    ensures unfailed { result ≢ Err Fault.Failed → (H.view shelf.new).reads ≡ (H.view shelf.old).reads }
-    ensures asked { H.tells → Asks (name.now ∷ []) (H.view shelf.old).asked (H.view shelf.new).asked }
+    ensures frame { ReadsOne H.tells (IsErrOf result Fault.Failed) name.now (H.view shelf.old) (H.view shelf.new) }
 {
     let mut part = Vec::with_capacity(alloc, count)?;
     'reading: while part.len() < count {
@@ -69,12 +63,7 @@ pub fn part_of<H: Shelf>(
     ensures part { H.tells → IfOk result (λ part. part.items ≡ take count (seen_from ((H.view shelf.old).files name.now) at)) }
     ensures bound { IfOk result (λ part. vec_len part ≤ count) }
     ensures within { IfOk result (λ part. at + vec_len part ≤ 1073741824) }
-    ensures same { H.tells → (H.view shelf.new).files ≡ (H.view shelf.old).files }
-    ensures reads { NeverFall (H.view shelf.old).reads (H.view shelf.new).reads }
-    ensures writes { (H.view shelf.new).writes ≡ (H.view shelf.old).writes }
-    ensures cause { IsErrOf result Fault.Failed → Rose ((H.view shelf.old).reads name.now) ((H.view shelf.new).reads name.now) }
-    ensures unfailed { result ≢ Err Fault.Failed → (H.view shelf.new).reads ≡ (H.view shelf.old).reads }
-    ensures asked { H.tells → Asks (name.now ∷ []) (H.view shelf.old).asked (H.view shelf.new).asked }
+    ensures frame { ReadsOne H.tells (IsErrOf result Fault.Failed) name.now (H.view shelf.old) (H.view shelf.new) }
 {
     let within = count.min(MOST - at as usize);
     let mut piece = room(alloc, within.min(PIECE))?;
@@ -91,12 +80,7 @@ pub fn piece_at<H: Shelf>(
     requires { at ≤ 1073741824 }
     ensures piece { H.tells → IfOk result (λ piece. IsFirstPart (seen_from ((H.view shelf.old).files name.now) at) piece.items) }
     ensures within { IfOk result (λ piece. at + vec_len piece ≤ 1073741824) }
-    ensures same { H.tells → (H.view shelf.new).files ≡ (H.view shelf.old).files }
-    ensures reads { NeverFall (H.view shelf.old).reads (H.view shelf.new).reads }
-    ensures writes { (H.view shelf.new).writes ≡ (H.view shelf.old).writes }
-    ensures cause { IsErrOf result Fault.Failed → Rose ((H.view shelf.old).reads name.now) ((H.view shelf.new).reads name.now) }
-    ensures unfailed { result ≢ Err Fault.Failed → (H.view shelf.new).reads ≡ (H.view shelf.old).reads }
-    ensures asked { H.tells → Asks (name.now ∷ []) (H.view shelf.old).asked (H.view shelf.new).asked }
+    ensures frame { ReadsOne H.tells (IsErrOf result Fault.Failed) name.now (H.view shelf.old) (H.view shelf.new) }
 {
     part_of(alloc, shelf, name, at, PIECE)
 }
@@ -104,12 +88,7 @@ pub fn piece_at<H: Shelf>(
 /// Whether the file `name` has more than 1,073,741,824 bytes.
 pub fn is_longer<H: Shelf>(shelf: &mut H, name: &str) -> Result<bool, Fault>
     ensures longer { H.tells → IfOk result (λ longer. longer ≡ nat_lt 1073741824 (length ((H.view shelf.old).files name.now))) }
-    ensures same { H.tells → (H.view shelf.new).files ≡ (H.view shelf.old).files }
-    ensures reads { NeverFall (H.view shelf.old).reads (H.view shelf.new).reads }
-    ensures writes { (H.view shelf.new).writes ≡ (H.view shelf.old).writes }
-    ensures cause { IsErrOf result Fault.Failed → Rose ((H.view shelf.old).reads name.now) ((H.view shelf.new).reads name.now) }
-    ensures unfailed { result ≢ Err Fault.Failed → (H.view shelf.new).reads ≡ (H.view shelf.old).reads }
-    ensures asked { H.tells → Asks (name.now ∷ []) (H.view shelf.old).asked (H.view shelf.new).asked }
+    ensures frame { ReadsOne H.tells (IsErrOf result Fault.Failed) name.now (H.view shelf.old) (H.view shelf.new) }
 {
     let mut byte = [0u8; 1];
     let count = shelf.read_at(name, MOST as u64, &mut byte)?;

@@ -1,14 +1,13 @@
 //! The records of a block file.
 
-ghost use Rattle.std.specs.Prelude.{◌≡◌, ◌≢◌, ◌+◌, ◌≤◌, ◌<◌, ◌^◌, ◌++◌, [], ◌∷◌, ℕ, List, length, take, nat_lt, vec_len, option_map, IfOk, IfSome, IfNone, is_some, IsErrOf, Err};
+ghost use Rattle.std.specs.Prelude.{◌≡◌, ◌≢◌, ◌+◌, ◌≤◌, ◌<◌, [], ◌∷◌, ℕ, length, take, nat_lt, option_map, IfOk, IfSome, IfNone, is_some, IsErrOf, Err};
 ghost use Rattle.std.specs.Int.{w32, from_le_bytes};
 ghost use Rattle.fund_base.specs.Causes.{Asks, Rose, NeverFall};
-ghost use Rattle.fund_base.specs.Cursor.{IsBytes};
 ghost use Rattle.fund_base.specs.Parsing.{YieldsAll};
 ghost use Rattle.fund_base.specs.Writer.{Feeds};
 ghost use Rattle.block_feed.specs.Digest.{HasTaken};
 ghost use Rattle.block_feed.specs.Feed.{Finds, seen_from};
-ghost use Rattle.block_feed.specs.Parts.{body_in};
+ghost use Rattle.block_feed.specs.Parts.{ReadsOne, StandsAt, body_in};
 ghost use Rattle.block_feed.specs.Reading.{cut_off, magic_at, size_at, record_at};
 ghost use Rattle.block_feed.specs.declared.fault.FeedFault.TheVariants.{Tx, Read, Memory};
 ghost use Rattle.tx_codec.specs.declared.fault.TxFault.TheVariants.{Memory as NoMemory};
@@ -105,12 +104,7 @@ fn size_from<H: Shelf>(shelf: &mut H, name: &str, place: u64, head: &[u8]) -> Re
     ensures most { IfOk result (λ size. size ≤ 4_000_000) }
     ensures short { result ≡ Err Memory → length head.now < 8 }
     ensures never_memory { (at : ℕ) → result ≢ Err (Tx at NoMemory) }
-    ensures same { H.tells → (H.view shelf.new).files ≡ (H.view shelf.old).files }
-    ensures reads { NeverFall (H.view shelf.old).reads (H.view shelf.new).reads }
-    ensures writes { (H.view shelf.new).writes ≡ (H.view shelf.old).writes }
-    ensures cause { IsErrOf result FeedFault.Read → Rose ((H.view shelf.old).reads name.now) ((H.view shelf.new).reads name.now) }
-    ensures unfailed { result ≢ Err Read → (H.view shelf.new).reads ≡ (H.view shelf.old).reads }
-    ensures asked { H.tells → Asks (name.now ∷ []) (H.view shelf.old).asked (H.view shelf.new).asked }
+    ensures frame { ReadsOne H.tells (IsErrOf result FeedFault.Read) name.now (H.view shelf.old) (H.view shelf.new) }
 {
     if head.len() < 8 {
         let longer = is_longer(shelf, name)?;
@@ -138,7 +132,6 @@ fn missing<H: Shelf>(shelf: &mut H, name: &str, place: u64) -> FeedFault
 
 /// The record of the file `name` at this place. None where nothing or zero bytes alone follow; `hasher` then takes
 /// these.
-#[tactic(auto, using(fund_base::proofs::Asking::asks_none, fund_base::proofs::Asking::asks_again))]
 pub fn record_from<H: Shelf>(
     alloc: Global,
     shelf: &mut H,
@@ -150,10 +143,7 @@ pub fn record_from<H: Shelf>(
     ensures gives { H.tells → let file = (H.view shelf.old).files name.now in Finds (λ o. option_map body_in o) result (record_at (nat_lt 1073741824 (length file)) place (seen_from file place)) }
 
     // The bytes of a record, where the shelf tells them, and its length.
-    ensures bytes { H.tells → IfOk result (λ o. IfSome o (λ found. found.head.items ++ found.body.items ≡ take (8 + length found.body.items) (seen_from ((H.view shelf.old).files name.now) place))) }
-    ensures fits { IfOk result (λ o. IfSome o (λ found. IsBytes found.head.items)) }
-    ensures least { IfOk result (λ o. IfSome o (λ found. 81 ≤ vec_len found.body)) }
-    ensures within { IfOk result (λ o. IfSome o (λ found. place + 8 + vec_len found.body ≤ 1073741824)) }
+    ensures stands { IfOk result (λ o. IfSome o (StandsAt H.tells (seen_from ((H.view shelf.old).files name.now) place) place)) }
 
     // What the digest takes.
     ensures taken { H.tells → IfOk result (λ o. IfNone o (Feeds HasTaken hasher.old hasher.new (seen_from ((H.view shelf.old).files name.now) place))) }
@@ -161,12 +151,7 @@ pub fn record_from<H: Shelf>(
 
     // What the call leaves of the shelf.
     ensures never_memory { (at : ℕ) → result ≢ Err (Tx at NoMemory) }
-    ensures same { H.tells → (H.view shelf.new).files ≡ (H.view shelf.old).files }
-    ensures reads { NeverFall (H.view shelf.old).reads (H.view shelf.new).reads }
-    ensures writes { (H.view shelf.new).writes ≡ (H.view shelf.old).writes }
-    ensures cause { IsErrOf result FeedFault.Read → Rose ((H.view shelf.old).reads name.now) ((H.view shelf.new).reads name.now) }
-    ensures unfailed { result ≢ Err Read → (H.view shelf.new).reads ≡ (H.view shelf.old).reads }
-    ensures asked { H.tells → Asks (name.now ∷ []) (H.view shelf.old).asked (H.view shelf.new).asked }
+    ensures frame { ReadsOne H.tells (IsErrOf result FeedFault.Read) name.now (H.view shelf.old) (H.view shelf.new) }
 {
     let head = part_of(alloc, shelf, name, place, 8)?;
     if is_zero(&head) {

@@ -1,13 +1,13 @@
 //! The end of a block file: nothing, or zero bytes alone.
 
-ghost use Rattle.std.specs.Prelude.{◌≡◌, ◌≢◌, ◌≤◌, ◌==◌, [], ◌∷◌, ℕ, List, length, nat_lt, None, IfOk, is_some, IsTrue, OnOk, IsErrOf, Err};
+ghost use Rattle.std.specs.Prelude.{◌≡◌, ◌≢◌, ◌≤◌, ◌==◌, ℕ, length, nat_lt, None, IfOk, is_some, IsTrue, OnOk, IsErrOf, Err};
 ghost use Rattle.std.specs.List.{list_all};
-ghost use Rattle.fund_base.specs.Causes.{Asks, Rose, NeverFall};
 ghost use Rattle.fund_base.specs.Writer.{Feeds};
 ghost use Rattle.block_feed.specs.Digest.{HasTaken};
 ghost use Rattle.block_feed.specs.Feed.{Finds, seen_from};
+ghost use Rattle.block_feed.specs.Parts.{ReadsOne};
 ghost use Rattle.block_feed.specs.Reading.{ended_at};
-ghost use Rattle.block_feed.specs.declared.fault.FeedFault.TheVariants.{Tx, Read};
+ghost use Rattle.block_feed.specs.declared.fault.FeedFault.TheVariants.{Tx};
 ghost use Rattle.tx_codec.specs.declared.fault.TxFault.TheVariants.{Memory as NoMemory};
 
 use crate::digest::take_in;
@@ -19,7 +19,6 @@ use std::alloc::Global;
 
 /// Whether nothing or zero bytes alone stand in the file `name` from this place on within the limit. Where they do,
 /// `hasher` takes them.
-#[tactic(auto, using(fund_base::proofs::Asking::asks_none, fund_base::proofs::Asking::asks_again))]
 fn is_tail<H: Shelf>(
     alloc: Global,
     shelf: &mut H,
@@ -31,12 +30,7 @@ fn is_tail<H: Shelf>(
     ensures tail { H.tells → IfOk result (λ zeros. zeros ≡ list_all (λ b. b == 0) (seen_from ((H.view shelf.old).files name.now) place)) }
     ensures taken { H.tells → IfOk result (λ zeros. IsTrue zeros → Feeds HasTaken hasher.old hasher.new (seen_from ((H.view shelf.old).files name.now) place)) }
     ensures asked_for { is_some hasher.new ≡ is_some hasher.old }
-    ensures same { H.tells → (H.view shelf.new).files ≡ (H.view shelf.old).files }
-    ensures reads { NeverFall (H.view shelf.old).reads (H.view shelf.new).reads }
-    ensures writes { (H.view shelf.new).writes ≡ (H.view shelf.old).writes }
-    ensures cause { IsErrOf result Fault.Failed → Rose ((H.view shelf.old).reads name.now) ((H.view shelf.new).reads name.now) }
-    ensures unfailed { result ≢ Err Fault.Failed → (H.view shelf.new).reads ≡ (H.view shelf.old).reads }
-    ensures asked { H.tells → Asks (name.now ∷ []) (H.view shelf.old).asked (H.view shelf.new).asked }
+    ensures frame { ReadsOne H.tells (IsErrOf result Fault.Failed) name.now (H.view shelf.old) (H.view shelf.new) }
 {
     let mut at = place;
     'scanning: loop {
@@ -54,7 +48,6 @@ fn is_tail<H: Shelf>(
 
 /// Ok where the file `name` ends at this place, or has zero bytes alone from there on; `hasher` then takes these. Its
 /// first eight bytes there, or all that there are, are zero.
-#[tactic(auto, using(fund_base::proofs::Asking::asks_none, fund_base::proofs::Asking::asks_again))]
 pub fn end_at<H: Shelf>(
     alloc: Global,
     shelf: &mut H,
@@ -67,12 +60,7 @@ pub fn end_at<H: Shelf>(
     ensures taken { H.tells → OnOk result (Feeds HasTaken hasher.old hasher.new (seen_from ((H.view shelf.old).files name.now) place)) }
     ensures asked_for { is_some hasher.new ≡ is_some hasher.old }
     ensures never_memory { (at : ℕ) → result ≢ Err (Tx at NoMemory) }
-    ensures same { H.tells → (H.view shelf.new).files ≡ (H.view shelf.old).files }
-    ensures reads { NeverFall (H.view shelf.old).reads (H.view shelf.new).reads }
-    ensures writes { (H.view shelf.new).writes ≡ (H.view shelf.old).writes }
-    ensures cause { IsErrOf result FeedFault.Read → Rose ((H.view shelf.old).reads name.now) ((H.view shelf.new).reads name.now) }
-    ensures unfailed { result ≢ Err Read → (H.view shelf.new).reads ≡ (H.view shelf.old).reads }
-    ensures asked { H.tells → Asks (name.now ∷ []) (H.view shelf.old).asked (H.view shelf.new).asked }
+    ensures frame { ReadsOne H.tells (IsErrOf result FeedFault.Read) name.now (H.view shelf.old) (H.view shelf.new) }
 {
     let zeros = is_tail(alloc, shelf, name, place, hasher)?;
     if !zeros {

@@ -162,10 +162,13 @@ pending_kept h g ws l ps es new txids listed count t more k fresh holds is withi
       sound = pending_sound h ws l ps txids count t more k is within;
     })
 
-pub one_waiting : (h : History) (t : Transaction) (old all new : List (Snapshot Transaction)) (s : Snapshot Transaction) → map (λ (s : Snapshot Transaction). s.value) old ≡ h.pending → s.value ≡ t → all ≡ old → new ≡ all ++ s ∷ []
+-- the transactions that wait, and one more
+pub waiting_more : (t : Transaction) (old all new : List (Snapshot Transaction)) (s : Snapshot Transaction) → s.value ≡ t → all ≡ old → new ≡ all ++ s ∷ [] → map (λ (s : Snapshot Transaction). s.value) new ≡ map (λ (s : Snapshot Transaction). s.value) old ++ t ∷ []
+waiting_more t old all new s is same put =
+    ap (map (λ (s : Snapshot Transaction). s.value)) (put ∙ ap (λ (l : List (Snapshot Transaction)). l ++ s ∷ []) same)
+    ∙ map-append (λ (s : Snapshot Transaction). s.value) old (s ∷ [])
+    ∙ (λ k. map (λ (s : Snapshot Transaction). s.value) old ++ is k ∷ [])
+
+pub one_waiting : (h : History) (t : Transaction) (old new : List (Snapshot Transaction)) → map (λ (s : Snapshot Transaction). s.value) old ≡ h.pending → map (λ (s : Snapshot Transaction). s.value) new ≡ map (λ (s : Snapshot Transaction). s.value) old ++ t ∷ []
     → with_pending h t ≡ record { scripts = h.scripts; confirmed = h.confirmed; pending = map (λ (s : Snapshot Transaction). s.value) new }
-one_waiting h t old all new s was is same put =
-    let tail : map (λ (s : Snapshot Transaction). s.value) new ≡ h.pending ++ t ∷ [] =
-    ap (map (λ (s : Snapshot Transaction). s.value)) (put ∙ ap (λ (l : List (Snapshot Transaction)). l ++ s ∷ []) same) ∙ map-append (λ (s : Snapshot Transaction). s.value) old (s ∷ []) ∙ (λ k. was k ++ is k ∷ [])
-    in
-    λ k. record { scripts = h.scripts; confirmed = h.confirmed; pending = sym tail k }
+one_waiting h t old new was more = λ k. record { scripts = h.scripts; confirmed = h.confirmed; pending = sym (more ∙ (λ j. was j ++ t ∷ [])) k }

@@ -24,7 +24,7 @@ use crate::fault::BookFault;
 use crate::held::Held;
 use crate::ledger::{Ledger, Weights};
 use crate::moving::{left_of, settle};
-use crate::waiting::{check_fits, coins_beside, count_beside, fits};
+use crate::waiting::{check_fits, coins_beside, count_beside, fits, keep_waiting};
 use block_feed::Block;
 use fund_base::{OutPoint, Txid};
 use indexmap::{IndexMap, IndexSet};
@@ -183,12 +183,14 @@ impl Book {
             Ok(coins) => coins,
             Err(fault) => return Err(fault),
         };
-        self.waiting.reserve(1)?;
-        self.txids.reserve(1)?;
-        self.pending.append(&mut coins)?;
-        // there is room for these two
-        let _ = self.waiting.push(Snapshot::of(tx));
-        let _ = self.txids.insert(id);
+        keep_waiting(
+            &mut self.waiting,
+            &mut self.txids,
+            &mut self.pending,
+            &mut coins,
+            tx,
+            id,
+        )?;
         Ok(())
     }
 

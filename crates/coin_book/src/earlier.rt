@@ -20,13 +20,22 @@ pub fn weights_of(alloc: Global, scripts: &[Watch]) -> Result<Weights, Memory>
     ensures { IfOk result (λ m. weigher m.entries ≡ weight_for scripts.now) }
 {
     let mut weights = IndexMap::new(alloc);
+    add_weights(alloc, &mut weights, scripts)?;
+    Ok(weights)
+}
+
+/// Adds the listed scripts with their weights to none.
+fn add_weights(alloc: Global, weights: &mut Weights, scripts: &[Watch]) -> Result<(), Memory>
+    requires { weights.old.entries ≡ [] }
+    ensures { OnOk result (weigher weights.new.entries ≡ weight_for scripts.now) }
+{
     for watch in scripts {
         if !weights.contains_key(watch.script.bytes()) {
             let script = watch.script.bytes().to_vec(alloc)?;
             weights.insert(script, watch.weight)?;
         }
     }
-    Ok(weights)
+    Ok(())
 }
 
 /// Adds the earlier transactions to a ledger of none. RepeatCoin or Full comes exactly where an outpoint would be a coin

@@ -73,11 +73,21 @@ impl Ledger {
         ensures spends { IfOk result (λ l. l.spends.entries ≡ []) }
         ensures heights { IfOk result (λ l. l.heights.entries ≡ []) }
     {
-        Ok(Ledger {
-            coins: IndexMap::with_capacity(alloc, count)?,
-            spends: IndexMap::with_capacity(alloc, count)?,
-            heights: IndexMap::with_capacity(alloc, count)?,
-        })
+        let mut ledger = Ledger::new(alloc);
+        ledger.make_room(count)?;
+        Ok(ledger)
+    }
+
+    /// Makes room for so many coins, outpoints that are spent and heights more.
+    fn make_room(&mut self, count: usize) -> Result<(), Memory>
+        ensures coins { self.new.coins.entries ≡ self.old.coins.entries }
+        ensures spends { self.new.spends.entries ≡ self.old.spends.entries }
+        ensures heights { self.new.heights.entries ≡ self.old.heights.entries }
+    {
+        self.coins.reserve(count)?;
+        self.spends.reserve(count)?;
+        self.heights.reserve(count)?;
+        Ok(())
     }
 }
 

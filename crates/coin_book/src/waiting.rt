@@ -1,7 +1,12 @@
 //! The coins of transactions that wait for a block.
 
-ghost use Rattle.std.specs.Prelude.{ℕ, ◌≡◌, ◌+◌, ◌<◌, [], Err, IfErr, IfOk, None, OnOk, false, true, bytes_eq, is_some, length, nat_le, if◌then◌else◌};
+ghost use Rattle.std.specs.Prelude.{ℕ, ◌≡◌, ◌+◌, ◌<◌, ◌++◌, ◌∷◌, [], Err, IfErr, IfOk, None, OnErr, OnOk, false, true, bytes_eq, is_some, length, map, nat_le, if◌then◌else◌};
 ghost use Rattle.std.specs.Map.{keys_of, lookup};
+ghost use Rattle.std.specs.declared.snapshot.Snapshot.{Snapshot};
+ghost use Rattle.indexmap.specs.IndexMap.{insert_all};
+ghost use Rattle.indexmap.specs.IndexSet.{insert_key};
+ghost use Rattle.fund_base.specs.Outpoints.{same_outpoint};
+ghost use Rattle.tx_codec.specs.Transaction.{Transaction};
 ghost use Rattle.tx_codec.specs.Txid.{txid_of};
 ghost use Rattle.coin_book.specs.Coins.{made_in};
 ghost use Rattle.coin_book.specs.Faults.{fault_behind, points};
@@ -13,9 +18,10 @@ use crate::fault::BookFault;
 use crate::held::Held;
 use crate::ledger::{MOST_COINS, Weights, add_coins};
 use crate::making::{count_in, held_in};
-use fund_base::{OutPoint, Txid};
-use indexmap::IndexMap;
+use fund_base::{Memory, OutPoint, Txid};
+use indexmap::{IndexMap, IndexSet};
 use std::alloc::Global;
+use std::snapshot::Snapshot;
 use tx_codec::Tx;
 
 /// Whether so many coins are within the most.
@@ -73,4 +79,29 @@ pub fn coins_beside(
         Ok(()) => Ok(coins),
         Err(fault) => Err(fault),
     }
+}
+
+/// Puts a transaction of this txid and its coins after those that wait. When out of memory, these stay as they were.
+pub fn keep_waiting(
+    waiting: &mut Vec<Snapshot<Tx>>,
+    txids: &mut IndexSet<Txid>,
+    pending: &mut IndexMap<OutPoint, Held>,
+    coins: &mut IndexMap<OutPoint, Held>,
+    tx: &Tx,
+    txid: Txid,
+) -> Result<(), Memory>
+    ensures waiting { OnOk result (map (λ (s : Snapshot Transaction). s.value) waiting.new.items ≡ map (λ (s : Snapshot Transaction). s.value) waiting.old.items ++ tx.now ∷ []) }
+    ensures txids { OnOk result (txids.new.keys ≡ insert_key bytes_eq txids.old.keys txid) }
+    ensures pending { OnOk result (pending.new.entries ≡ insert_all same_outpoint pending.old.entries coins.old.entries) }
+    ensures kept_waiting { OnErr result (waiting.new.items ≡ waiting.old.items) }
+    ensures kept_txids { OnErr result (txids.new.keys ≡ txids.old.keys) }
+    ensures kept_pending { OnErr result (pending.new.entries ≡ pending.old.entries) }
+{
+    waiting.reserve(1)?;
+    txids.reserve(1)?;
+    pending.append(coins)?;
+    // there is room for these two
+    let _ = waiting.push(Snapshot::of(tx));
+    let _ = txids.insert(txid);
+    Ok(())
 }

@@ -1,7 +1,8 @@
 use Rattle.std.proofs.Common.{ℕ, ◌+◌, List, [], ◌∷◌, vec_len, refl, ◌∙◌, ap, subst, arith}
 use Rattle.fund_base.specs.Causes.{IsRead}
 use Rattle.fund_base.proofs.Asking.{asks_none, asks_again}
-use Rattle.block_feed.proofs.PartLaws.{never_same, never_then, part_few, part_more, part_none, rises, stays}
+use Rattle.block_feed.proofs.FrameLaws.{frame_none, frame_read, frame_same, frame_then, memory_not, ok_not}
+use Rattle.block_feed.proofs.PartLaws.{part_few, part_more, part_none}
 use Rattle.block_feed.proofs.parts.read_pieces.Goals as goal
 
 pub reading-init : goal.reading-init
@@ -26,80 +27,30 @@ reading-preserved g c = record {
   asked = λ told. asks_again _ _ _ _ (c.reading.invariant.asked told) (c.in_ok-read.ensures.asked told);
 }
 
-pub returns-in_err-read-clause-asked : goal.returns-in_err-read-clause-asked
-returns-in_err-read-clause-asked g c = λ told. asks_again _ _ _ _ (c.reading.invariant.asked told) (c.in_err-read.ensures.asked told)
+pub returns-in_err-part-clause-frame : goal.returns-in_err-part-clause-frame
+returns-in_err-part-clause-frame g c = frame_none _ _ _ _ (memory_not c.from_residual.result c.from_residual.ensures.1)
 
-pub returns-then-read-eq0-clause-asked : goal.returns-then-read-eq0-clause-asked
-returns-then-read-eq0-clause-asked g c = λ told. asks_again _ _ _ _ (c.reading.invariant.asked told) (c.in_ok-read.ensures.asked told)
+pub returns-in_err-read-clause-frame : goal.returns-in_err-read-clause-frame
+returns-in_err-read-clause-frame g c =
+    frame_then _ ⊥ _ _ _ _ _ (λ failed. failed)
+    (frame_same _ ⊥ _ _ _ (λ failed. failed) c.reading.invariant.same c.reading.invariant.reads c.reading.invariant.writes c.reading.invariant.asked)
+    (frame_read _ _ _ _ c.in_err-read.field-0.0 c.from_residual-in_err-read.result c.from_residual-in_err-read.ensures.1 c.in_err-read.ensures.same c.in_err-read.ensures.reads c.in_err-read.ensures.writes c.in_err-read.ensures.cause c.in_err-read.ensures.short c.in_err-read.ensures.asked)
 
-pub returns-in_err-extend_from_slice-clause-asked : goal.returns-in_err-extend_from_slice-clause-asked
-returns-in_err-extend_from_slice-clause-asked g c = λ told. asks_again _ _ _ _ (c.reading.invariant.asked told) (c.in_ok-read.ensures.asked told)
+pub returns-then-read-eq0-clause-frame : goal.returns-then-read-eq0-clause-frame
+returns-then-read-eq0-clause-frame g c =
+    frame_same _ _ _ _ _ (ok_not _ _)
+    (λ told. c.in_ok-read.ensures.same told ∙ c.reading.invariant.same told)
+    (c.in_ok-read.ensures.unfailed ∙ c.reading.invariant.reads)
+    (c.in_ok-read.ensures.writes ∙ c.reading.invariant.writes)
+    (λ told. asks_again _ _ _ _ (c.reading.invariant.asked told) (c.in_ok-read.ensures.asked told))
 
-pub returns-in_err-part-clause-same : goal.returns-in_err-part-clause-same
-returns-in_err-part-clause-same g c = λ told. refl
+pub returns-in_err-extend_from_slice-clause-frame : goal.returns-in_err-extend_from_slice-clause-frame
+returns-in_err-extend_from_slice-clause-frame g c =
+    frame_same _ _ _ _ _ (memory_not c.from_residual-in_err-extend_from_slice.result c.from_residual-in_err-extend_from_slice.ensures.1)
+    (λ told. c.in_ok-read.ensures.same told ∙ c.reading.invariant.same told)
+    (c.in_ok-read.ensures.unfailed ∙ c.reading.invariant.reads)
+    (c.in_ok-read.ensures.writes ∙ c.reading.invariant.writes)
+    (λ told. asks_again _ _ _ _ (c.reading.invariant.asked told) (c.in_ok-read.ensures.asked told))
 
-pub returns-in_err-part-clause-reads : goal.returns-in_err-part-clause-reads
-returns-in_err-part-clause-reads g c = never_same _ _ refl
-
-pub returns-in_err-part-clause-writes : goal.returns-in_err-part-clause-writes
-returns-in_err-part-clause-writes g c = refl
-
-pub returns-in_err-part-clause-unfailed : goal.returns-in_err-part-clause-unfailed
-returns-in_err-part-clause-unfailed g c = λ _. refl
-
-pub returns-in_err-part-clause-asked : goal.returns-in_err-part-clause-asked
-returns-in_err-part-clause-asked g c = λ told. asks_none (c.args.name.now ∷ []) (g.H.Shelf.view c.args.shelf.now).asked
-
-pub returns-in_err-read-clause-same : goal.returns-in_err-read-clause-same
-returns-in_err-read-clause-same g c = λ told. c.in_err-read.ensures.same told ∙ c.reading.invariant.same told
-
-pub returns-in_err-read-clause-reads : goal.returns-in_err-read-clause-reads
-returns-in_err-read-clause-reads g c = never_then _ _ _ c.reading.invariant.reads c.in_err-read.ensures.reads
-
-pub returns-in_err-read-clause-writes : goal.returns-in_err-read-clause-writes
-returns-in_err-read-clause-writes g c = c.in_err-read.ensures.writes ∙ c.reading.invariant.writes
-
-pub returns-in_err-read-clause-cause : goal.returns-in_err-read-clause-cause
-returns-in_err-read-clause-cause g c = rises c.in_err-read.field-0.0 c.from_residual-in_err-read.result _ _ (g.H.Shelf.view c.read_at.new.self).reads c.args.name.now c.from_residual-in_err-read.ensures.1 c.reading.invariant.reads c.in_err-read.ensures.cause
-
-pub returns-in_err-read-clause-unfailed : goal.returns-in_err-read-clause-unfailed
-returns-in_err-read-clause-unfailed g c = stays c.in_err-read.field-0.0 c.from_residual-in_err-read.result _ _ _ c.from_residual-in_err-read.ensures.1 c.reading.invariant.reads c.in_err-read.ensures.short
-
-pub returns-then-read-eq0-clause-same : goal.returns-then-read-eq0-clause-same
-returns-then-read-eq0-clause-same g c = λ told. c.in_ok-read.ensures.same told ∙ c.reading.invariant.same told
-
-pub returns-then-read-eq0-clause-reads : goal.returns-then-read-eq0-clause-reads
-returns-then-read-eq0-clause-reads g c = never_same _ _ (c.in_ok-read.ensures.unfailed ∙ c.reading.invariant.reads)
-
-pub returns-then-read-eq0-clause-writes : goal.returns-then-read-eq0-clause-writes
-returns-then-read-eq0-clause-writes g c = c.in_ok-read.ensures.writes ∙ c.reading.invariant.writes
-
-pub returns-then-read-eq0-clause-unfailed : goal.returns-then-read-eq0-clause-unfailed
-returns-then-read-eq0-clause-unfailed g c = λ _. c.in_ok-read.ensures.unfailed ∙ c.reading.invariant.reads
-
-pub returns-in_err-extend_from_slice-clause-same : goal.returns-in_err-extend_from_slice-clause-same
-returns-in_err-extend_from_slice-clause-same g c = λ told. c.in_ok-read.ensures.same told ∙ c.reading.invariant.same told
-
-pub returns-in_err-extend_from_slice-clause-reads : goal.returns-in_err-extend_from_slice-clause-reads
-returns-in_err-extend_from_slice-clause-reads g c = never_same _ _ (c.in_ok-read.ensures.unfailed ∙ c.reading.invariant.reads)
-
-pub returns-in_err-extend_from_slice-clause-writes : goal.returns-in_err-extend_from_slice-clause-writes
-returns-in_err-extend_from_slice-clause-writes g c = c.in_ok-read.ensures.writes ∙ c.reading.invariant.writes
-
-pub returns-in_err-extend_from_slice-clause-unfailed : goal.returns-in_err-extend_from_slice-clause-unfailed
-returns-in_err-extend_from_slice-clause-unfailed g c = λ _. c.in_ok-read.ensures.unfailed ∙ c.reading.invariant.reads
-
-pub returns-clause-same : goal.returns-clause-same
-returns-clause-same g c = c.reading.invariant.same
-
-pub returns-clause-reads : goal.returns-clause-reads
-returns-clause-reads g c = never_same _ _ c.reading.invariant.reads
-
-pub returns-clause-writes : goal.returns-clause-writes
-returns-clause-writes g c = c.reading.invariant.writes
-
-pub returns-clause-unfailed : goal.returns-clause-unfailed
-returns-clause-unfailed g c = λ _. c.reading.invariant.reads
-
-pub returns-clause-asked : goal.returns-clause-asked
-returns-clause-asked g c = c.reading.invariant.asked
+pub returns-clause-frame : goal.returns-clause-frame
+returns-clause-frame g c = frame_same _ _ _ _ _ (ok_not _ _) c.reading.invariant.same c.reading.invariant.reads c.reading.invariant.writes c.reading.invariant.asked

@@ -1,5 +1,6 @@
 use Rattle.std.proofs.Common.{◌≤◌, ℕ, false, Bool, ltb, List, length, ap, arith}
 use Rattle.block_feed.specs.Reading.{size_at}
+use Rattle.block_feed.proofs.FrameLaws.{frame_fine, frame_none, frame_told, ok_not}
 use Rattle.block_feed.proofs.NextLaws.{outside_exit, yields_finds}
 use Rattle.block_feed.proofs.RecordLaws.{size_same}
 use Rattle.block_feed.proofs.records.size_from.Goals as goal
@@ -21,3 +22,12 @@ returns-clause-gives g c = λ told.
     let long : 8 ≤ length c.args.head.now = omega arith in
     yields_finds c.size_of-2.result (size_at false c.args.place c.args.head.now) (size_at (ltb 1073741824 (length file)) c.args.place c.args.head.now) (λ n. n)
     (size_same (ltb 1073741824 (length file)) c.args.place c.args.head.now long) c.size_of-2.ensures.gives
+
+pub returns-in_err-longer-clause-frame : goal.returns-in_err-longer-clause-frame
+returns-in_err-longer-clause-frame g c = frame_told _ _ _ _ c.in_err-longer.field-0.0 c.from_residual.result c.from_residual.ensures.1 c.in_err-longer.ensures.frame
+
+pub returns-then-head-lt8-clause-frame : goal.returns-then-head-lt8-clause-frame
+returns-then-head-lt8-clause-frame g c = frame_fine _ _ _ _ _ _ (ok_not _ _) c.size_of.ensures.never_read c.in_ok-longer.ensures.frame
+
+pub returns-clause-frame : goal.returns-clause-frame
+returns-clause-frame g c = frame_none _ _ _ _ c.size_of-2.ensures.never_read

@@ -1,4 +1,4 @@
-use Rattle.std.proofs.Common.{◌≢◌, ◌∙◌, ◌++◌, ◌∷◌, ◌+◌, [], Bool, cond, ap, refl, sym, subst, arith, All}
+use Rattle.std.proofs.Common.{◌≢◌, ◌∙◌, ◌+◌, ap, refl, sym, subst, All}
 use Rattle.std.specs.Prelude.{bytes_eq, nat_le}
 use Rattle.indexmap.specs.IndexSet.{insert_key}
 use Rattle.tx_codec.specs.Transaction.{Transaction}
@@ -6,7 +6,6 @@ use Rattle.tx_codec.specs.Txid.{txid_of}
 use Rattle.coin_book.specs.Faults.{fault_of}
 use Rattle.coin_book.specs.History.{History, with_pending}
 use Rattle.coin_book.specs.Invariant.{history_of}
-use Rattle.coin_book.proofs.MergeSteps.{told_ok}
 use Rattle.coin_book.proofs.PendingSteps.{one_waiting, pending_fault, pending_fits, pending_full, pending_kept}
 use Rattle.coin_book.proofs.book.Book.add_pending.Goals as goal
 
@@ -32,35 +31,27 @@ returns-in-Err-clause-short c = λ _.
     pending_fits _ _ c.self.inside.weights.entries c.self.inside.ledger c.self.inside.pending.entries c.self.inside.txids.keys c.self.inside.count c.args.tx.now c.count_beside-more.result _ _ _
     c.self.view_is c.self.invariant c.count_beside-more.ensures c.len.ensures.len c.len-2.ensures.len c.fits.ensures c.if-not-fits.false
 
-pub returns-in_err-reserve-clause-short : goal.returns-in_err-reserve-clause-short
-returns-in_err-reserve-clause-short c = λ _.
+pub returns-in_err-keep_waiting-clause-short : goal.returns-in_err-keep_waiting-clause-short
+returns-in_err-keep_waiting-clause-short c = λ _.
     pending_fits _ _ c.self.inside.weights.entries c.self.inside.ledger c.self.inside.pending.entries c.self.inside.txids.keys c.self.inside.count c.args.tx.now c.count_beside-more.result _ _ _
     c.self.view_is c.self.invariant c.count_beside-more.ensures c.len.ensures.len c.len-2.ensures.len c.fits.ensures c.if-not-fits.false
 
 pub invariant_of-self-2 : goal.invariant_of-self-2
 invariant_of-self-2 c =
     let fresh = subst (λ (h : History). All (λ (p : Transaction). txid_of p ≢ txid_of c.args.tx.now) h.pending) (sym c.self.view_is) c.requires.fresh in
-    let room = c.in_ok-reserve.ensures.ok in
-    let spare = c.in_ok-reserve-2.ensures.ok in
-    let pushed = c.push.ensures.items ∙ ap (λ (b : Bool). cond b (c.reserve.new.self.items ++ c.of.result ∷ []) c.reserve.new.self.items) (c.push.ensures.succeeds (omega arith)) in
-    pending_kept _ _ c.self.inside.weights.entries c.self.inside.ledger c.self.inside.pending.entries c.in-Ok.coins.entries c.append.new.self.entries c.self.inside.txids.keys c.insert.new.self.keys c.self.inside.count c.args.tx.now
+    pending_kept _ _ c.self.inside.weights.entries c.self.inside.ledger c.self.inside.pending.entries c.in-Ok.coins.entries c.keep_waiting.new.pending.entries c.self.inside.txids.keys c.keep_waiting.new.txids.keys c.self.inside.count c.args.tx.now
     c.count_beside-more.result c.self.invariant fresh c.in-Ok.ensures.made c.count_beside-more.ensures
     (sym (λ k. nat_le (c.len.ensures.len k + c.len-2.ensures.len k + c.count_beside-more.result) 100_000) ∙ sym c.fits.ensures ∙ c.if-not-fits.false)
-    c.in-Ok.ensures.exact c.in_ok-append.ensures.entries
-    (told_ok c.insert.result (c.insert.ensures.succeeds (omega arith)) c.insert.ensures.keys ∙ (λ k. insert_key bytes_eq (c.in_ok-reserve-2.ensures.keys k) (c.txid-id.ensures k)))
-    (one_waiting (history_of c.self.inside.wallet.value c.self.inside.blocks.items c.self.inside.waiting.items) c.args.tx.now c.self.inside.waiting.items c.reserve.new.self.items c.push.new.self.items c.of.result refl c.of.ensures c.in_ok-reserve.ensures.items pushed)
+    c.in-Ok.ensures.exact c.in_ok-keep_waiting.ensures.pending
+    (c.in_ok-keep_waiting.ensures.txids ∙ (λ k. insert_key bytes_eq c.self.inside.txids.keys (c.txid-id.ensures k)))
+    (one_waiting (history_of c.self.inside.wallet.value c.self.inside.blocks.items c.self.inside.waiting.items) c.args.tx.now c.self.inside.waiting.items c.keep_waiting.new.waiting.items refl c.in_ok-keep_waiting.ensures.waiting)
+
+pub returns-clause-added : goal.returns-clause-added
+returns-clause-added c =
+    sym (one_waiting (history_of c.self.inside.wallet.value c.self.inside.blocks.items c.self.inside.waiting.items) c.args.tx.now c.self.inside.waiting.items c.keep_waiting.new.waiting.items refl c.in_ok-keep_waiting.ensures.waiting)
+    ∙ ap (λ (h : History). with_pending h c.args.tx.now) c.self.view_is
 
 pub returns-clause-exact : goal.returns-clause-exact
 returns-clause-exact c =
-    pending_fits _ _ c.self.inside.weights.entries c.self.inside.ledger c.self.inside.pending.entries c.self.inside.txids.keys c.self.inside.count c.args.tx.now c.count_beside-more.result _ _ _
-    c.self.view_is c.self.invariant c.count_beside-more.ensures c.len.ensures.len c.len-2.ensures.len c.fits.ensures c.if-not-fits.false
-
-pub returns-in_err-reserve-2-clause-short : goal.returns-in_err-reserve-2-clause-short
-returns-in_err-reserve-2-clause-short c = λ _.
-    pending_fits _ _ c.self.inside.weights.entries c.self.inside.ledger c.self.inside.pending.entries c.self.inside.txids.keys c.self.inside.count c.args.tx.now c.count_beside-more.result _ _ _
-    c.self.view_is c.self.invariant c.count_beside-more.ensures c.len.ensures.len c.len-2.ensures.len c.fits.ensures c.if-not-fits.false
-
-pub returns-in_err-append-clause-short : goal.returns-in_err-append-clause-short
-returns-in_err-append-clause-short c = λ _.
     pending_fits _ _ c.self.inside.weights.entries c.self.inside.ledger c.self.inside.pending.entries c.self.inside.txids.keys c.self.inside.count c.args.tx.now c.count_beside-more.result _ _ _
     c.self.view_is c.self.invariant c.count_beside-more.ensures c.len.ensures.len c.len-2.ensures.len c.fits.ensures c.if-not-fits.false

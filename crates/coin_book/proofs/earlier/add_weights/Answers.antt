@@ -5,8 +5,8 @@ use Rattle.coin_book.specs.Coins.{weight_for}
 use Rattle.coin_book.specs.Invariant.{weigher}
 use Rattle.wallet_text.specs.declared.wallet.Watch.{Watch}
 use Rattle.coin_book.proofs.WeightSteps.{insert_absent, weighed_new, weighed_old}
-use Rattle.coin_book.proofs.earlier.weights_of.Goals as goal
-use Rattle.coin_book.proofs.earlier.weights_of.Goals.{then-not-contains_key+in_ok-script+in_ok-insert, else-not-contains_key}
+use Rattle.coin_book.proofs.earlier.add_weights.Goals as goal
+use Rattle.coin_book.proofs.earlier.add_weights.Goals.{then-not-contains_key+in_ok-script+in_ok-insert, else-not-contains_key}
 
 pub loop-watch-preserved : goal.loop-watch-preserved
 loop-watch-preserved c = λ script.
