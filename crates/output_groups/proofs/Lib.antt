@@ -4,6 +4,7 @@ pub mod FormedLaws
 pub mod GroupLaws
 pub mod HundredLaws
 pub mod ItemLaws
+pub mod KeptLaws
 pub mod LeastLaws
 pub mod MeetLaws
 pub mod MemberLaws

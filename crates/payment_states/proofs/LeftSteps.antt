@@ -95,15 +95,13 @@ confirmed_in h m there = Contains-append_left (confirmed_made h) (pending_made h
 
 -- ---- the rules of wallets and books
 
-module _ (gone : List (List ℕ)) where
-  abbrev keep : Transaction → Bool
-  keep t = not (is_listed gone (txid_of t))
+-- some of the transactions of a list
+module _ (keep : Transaction → Bool) where
+  pub apart_kept : (ts : List Transaction) → AreDistinct ts → AreDistinct (filter keep ts)
+  apart_kept ts h = AllPairs-filter (λ s t. txid_of s ≢ txid_of t) keep ts h
 
-  pub apart_left : (ts : List Transaction) → AreDistinct ts → AreDistinct (left_of gone ts)
-  apart_left ts h = AllPairs-filter (λ s t. txid_of s ≢ txid_of t) keep ts h
-
-  pub order_left : (ts : List Transaction) → ParentsComeFirst ts → ParentsComeFirst (left_of gone ts)
-  order_left ts h i j d le lt = by (cases_order i j)
+  pub order_kept : (ts : List Transaction) → ParentsComeFirst ts → ParentsComeFirst (filter keep ts)
+  order_kept ts h i j d le lt = by (cases_order i j)
     where
       pairs : AllPairs SpendsNone (filter keep ts)
       pairs = AllPairs-filter SpendsNone keep ts (λ a b e up within. h a b e (omega arith) within)
@@ -115,6 +113,16 @@ module _ (gone : List (List ℕ)) where
       by (inl e) = subst (λ k. SpendsNone (get_or (filter keep ts) k d) (get_or (filter keep ts) j d)) (sym e) (own j d lt)
       by (inr (inl up)) = pairs i j d up lt
       by (inr (inr down)) = absurd (omega arith)
+
+module _ (gone : List (List ℕ)) where
+  abbrev keep : Transaction → Bool
+  keep t = not (is_listed gone (txid_of t))
+
+  pub apart_left : (ts : List Transaction) → AreDistinct ts → AreDistinct (left_of gone ts)
+  apart_left ts h = apart_kept keep ts h
+
+  pub order_left : (ts : List Transaction) → ParentsComeFirst ts → ParentsComeFirst (left_of gone ts)
+  order_left ts h = order_kept keep ts h
 
   pub wallet_left : (w : PlainWallet) → IsWallet w → IsWallet (wallet_without gone w)
   wallet_left w h = record {

@@ -1,7 +1,7 @@
 //! Which pending transactions are confirmed, abandoned or still alive.
 
-ghost use Rattle.std.specs.Prelude.{◌≡◌, ◌&&◌, [], List, ℕ, not, false, None, IfOk, map, vec_len, length, is_none, is_some, bytes_eq, slice_index_or};
-ghost use Rattle.std.specs.List.{list_any};
+ghost use Rattle.std.specs.Prelude.{◌≡◌, ◌≢◌, ◌&&◌, [], List, ℕ, not, false, None, IfOk, map, vec_len, length, is_none, is_some, bytes_eq, slice_index_or};
+ghost use Rattle.std.specs.List.{AllPairs, list_any};
 ghost use Rattle.indexmap.specs.IndexSet.{contains};
 ghost use Rattle.coin_book.specs.Spends.{height_of};
 ghost use Rattle.payment_states.specs.Graph.{IsInOrder, below, kin};
@@ -26,9 +26,10 @@ pub fn heights_of(alloc: Global, book: &Book, txids: &[Txid]) -> Result<Vec<Opti
     Ok(heights)
 }
 
-/// A set of these txids.
+/// A set of these txids, in the same order where they are distinct.
 pub fn listed(alloc: Global, txids: &[Txid]) -> Result<IndexSet<Txid>, Memory>
-    ensures { (t : List ℕ) → IfOk result (λ s. contains bytes_eq s t ≡ is_listed txids.now t) }
+    ensures has { (t : List ℕ) → IfOk result (λ s. contains bytes_eq s t ≡ is_listed txids.now t) }
+    ensures keys { AllPairs (λ (s t : List ℕ). s ≢ t) txids.now → IfOk result (λ s. s.keys ≡ txids.now) }
 {
     let mut set = IndexSet::new(alloc);
     for txid in txids {

@@ -45,7 +45,7 @@ pub fn pending_of(alloc: Global, payments: &[Payment]) -> Result<Vec<bool>, Memo
 }
 
 /// A set of these outpoints.
-pub fn points_of(alloc: Global, points: &[OutPoint]) -> Result<IndexSet<OutPoint>, Memory>
+fn points_of(alloc: Global, points: &[OutPoint]) -> Result<IndexSet<OutPoint>, Memory>
     ensures { (o : OutPoint) → IfOk result (λ s. contains same_outpoint s o ≡ list_any (λ x. same_outpoint x o) points.now) }
 {
     let mut set = IndexSet::new(alloc);
@@ -87,7 +87,7 @@ fn add_pending(set: &mut IndexSet<OutPoint>, pending: bool, inputs: &[TxIn]) -> 
 }
 
 /// The outpoints that Pending transactions spend.
-pub fn claimed_of(alloc: Global, txs: &[Tx], pending: &[bool]) -> Result<IndexSet<OutPoint>, Memory>
+fn claimed_of(alloc: Global, txs: &[Tx], pending: &[bool]) -> Result<IndexSet<OutPoint>, Memory>
     requires { length pending.now ≡ length txs.now }
     ensures { (o : OutPoint) → IfOk result (λ s. contains same_outpoint s o ≡ list_any (λ i. slice_index_or pending.now i false && has_input o (slice_index_or txs.now i no_tx).inputs) (below (length txs.now))) }
 {
@@ -97,6 +97,40 @@ pub fn claimed_of(alloc: Global, txs: &[Tx], pending: &[bool]) -> Result<IndexSe
         add_pending(&mut set, pending[place], &tx.inputs)?;
     }
     Ok(set)
+}
+
+/// The outpoints that are spoken for.
+pub struct SpokenFor {
+    /// Those that Pending transactions spend.
+    pub claimed: IndexSet<OutPoint>,
+    /// Those that the wallet has locked.
+    pub locked: IndexSet<OutPoint>,
+}
+
+/// One call, wherever it is dropped.
+impl Drop for SpokenFor {
+    fn drop(self) {
+        let SpokenFor {
+            claimed: _,
+            locked: _,
+        } = self;
+    }
+}
+
+/// The outpoints that Pending transactions spend, and these that are locked.
+pub fn spoken_for(
+    alloc: Global,
+    txs: &[Tx],
+    pending: &[bool],
+    points: &[OutPoint],
+) -> Result<SpokenFor, Memory>
+    requires { length pending.now ≡ length txs.now }
+    ensures claimed { (o : OutPoint) → IfOk result (λ s. contains same_outpoint s.claimed o ≡ list_any (λ i. slice_index_or pending.now i false && has_input o (slice_index_or txs.now i no_tx).inputs) (below (length txs.now))) }
+    ensures locked { (o : OutPoint) → IfOk result (λ s. contains same_outpoint s.locked o ≡ list_any (λ x. same_outpoint x o) points.now) }
+{
+    let claimed = claimed_of(alloc, txs, pending)?;
+    let locked = points_of(alloc, points)?;
+    Ok(SpokenFor { claimed, locked })
 }
 
 /// Adds the txid that replaces a payment, where one does.
@@ -159,8 +193,8 @@ fn is_doubtful(mine: bool, replaces: bool) -> bool
 }
 
 /// Those of the places that are flagged.
-fn kept(alloc: Global, places: &[usize], flags: &[bool]) -> Result<Parents, Memory>
-    ensures { IfOk result (λ p. p ≡ filter (λ j. slice_index_or flags.now j false) places.now) }
+pub fn kept(alloc: Global, places: &[usize], flags: &[bool]) -> Result<Vec<usize>, Memory>
+    ensures { IfOk result (λ v. v.items ≡ filter (λ j. slice_index_or flags.now j false) places.now) }
 {
     let mut left = Vec::new(alloc);
     for place in places {
@@ -168,7 +202,7 @@ fn kept(alloc: Global, places: &[usize], flags: &[bool]) -> Result<Parents, Memo
             left.push(*place)?;
         }
     }
-    Ok(Parents::new(left))
+    Ok(left)
 }
 
 /// The graph without the parents that aren't flagged.
@@ -183,7 +217,8 @@ pub fn kept_graph(
     let mut graph = Vec::new(alloc);
     for place in 0..parents.len() {
         let here = &parents[place];
-        graph.push(kept(alloc, here.as_slice(), flags)?)?;
+        let left = kept(alloc, here.as_slice(), flags)?;
+        graph.push(Parents::new(left))?;
     }
     Ok(graph)
 }

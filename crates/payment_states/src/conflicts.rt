@@ -99,6 +99,25 @@ fn names_at(
     Ok(txids)
 }
 
+/// The txids for [`conflicts_of`]. Those of the first spends are noted on the way.
+fn noted_conflicts(
+    alloc: Global,
+    book: &Book,
+    names: &mut IndexMap<u64, Txid>,
+    parents: &[Parents],
+    pending: &[Tx],
+) -> Result<Vec<Option<Txid>>, Memory>
+    requires graph { parents.now ≡ graph (view_by book.now.confirmed pending.now []) }
+    requires order { IsInOrder parents.now }
+    ensures conflicts { IfOk result (λ v. v.items ≡ map (λ i. option_and_then (txid_in book.now.confirmed) (conflict (view_by book.now.confirmed pending.now []) i)) (below (length pending.now))) }
+    ensures len { IfOk result (λ v. vec_len v ≡ length pending.now) }
+{
+    let own = own_conflicts(alloc, book, names, pending)?;
+    let places = least_of_kin(alloc, parents, &own)?;
+    let txids = names_at(alloc, names, &places)?;
+    Ok(txids)
+}
+
 /// For each pending transaction the txid of the first confirmed one that spends an outpoint of it or of an ancestor.
 pub fn conflicts_of(
     alloc: Global,
@@ -112,8 +131,5 @@ pub fn conflicts_of(
     ensures len { IfOk result (λ v. vec_len v ≡ length pending.now) }
 {
     let mut names = IndexMap::new(alloc);
-    let own = own_conflicts(alloc, book, &mut names, pending)?;
-    let places = least_of_kin(alloc, parents, &own)?;
-    let txids = names_at(alloc, &names, &places)?;
-    Ok(txids)
+    noted_conflicts(alloc, book, &mut names, parents, pending)
 }

@@ -2,7 +2,6 @@
 
 ghost use Rattle.std.specs.Prelude.{◌≡◌, IfOk, map, vec_len, length};
 ghost use Rattle.tx_codec.specs.Txid.{txid_of};
-ghost use Rattle.wallet_text.specs.WalletRules.{AreDistinct};
 ghost use Rattle.payment_states.specs.ByPlace.{parents_by, place_by};
 ghost use Rattle.payment_states.specs.PendingView.{parents};
 
@@ -23,20 +22,6 @@ pub fn txids_of(alloc: Global, pending: &[Tx]) -> Result<Vec<Txid>, Memory>
         txids.push(txid(tx))?;
     }
     Ok(txids)
-}
-
-/// The set of the txids, in the same order. Those of the transactions are distinct.
-pub fn set_of(alloc: Global, pending: &[Tx], txids: &[Txid]) -> Result<IndexSet<Txid>, Memory>
-    requires same { txids.now ≡ map txid_of pending.now }
-    requires distinct { AreDistinct pending.now }
-    ensures { IfOk result (λ s. s.keys ≡ map txid_of pending.now) }
-{
-    let _ = pending;
-    let mut set = IndexSet::new(alloc);
-    for txid in txids {
-        set.insert(*txid)?;
-    }
-    Ok(set)
 }
 
 /// The place of a txid in the pending list. None exactly where it isn't there, or is confirmed.

@@ -1,7 +1,7 @@
 //! The coins that could be spent if some payments had never been written down.
 
 ghost use Rattle.std.specs.Prelude.{◌≡◌, ◌≢◌, ◌<◌, ◌&&◌, not, All, IfOk, OnErr, OnOk, None, bytes_eq, filter, is_none, option_and_then, slice_get};
-ghost use Rattle.std.specs.List.{filter_map, list_all};
+ghost use Rattle.std.specs.List.{filter_map, list_all, list_any};
 ghost use Rattle.indexmap.specs.IndexSet.{contains};
 ghost use Rattle.fund_base.specs.Candidates.{AreCandidates};
 ghost use Rattle.fund_base.specs.Outpoints.{same_outpoint};
@@ -21,7 +21,7 @@ ghost use Rattle.payment_states.specs.Makers.{HasMaker};
 ghost use Rattle.wallet_text.specs.WalletRules.{AreDistinct, ParentsComeFirst};
 
 use crate::abandoned::listed;
-use crate::claims::{claimed_of, pending_of, points_of};
+use crate::claims::{SpokenFor, pending_of, spoken_for};
 use crate::spendable::{is_deep, may_be_spent};
 use crate::states::states_of;
 use coin_book::{Book, Coin};
@@ -168,21 +168,42 @@ fn all_left(
     Ok(all)
 }
 
-/// The outpoints that the Pending ones of these transactions spend.
-fn claimed_by(
+/// The outpoints that the Pending ones of these transactions spend, and these that are locked.
+fn spoken_by(
     alloc: Global,
     book: &Book,
     txs: &[Tx],
     abandoned: &[Txid],
-) -> Result<IndexSet<OutPoint>, Memory>
+    points: &[OutPoint],
+) -> Result<SpokenFor, Memory>
     requires distinct { AreDistinct txs.now }
     requires parents { ParentsComeFirst txs.now }
-    ensures { (o : OutPoint) → IfOk result (λ s. contains same_outpoint s o ≡ is_claimed (view_by book.now.confirmed txs.now abandoned.now) o) }
+    ensures claimed { (o : OutPoint) → IfOk result (λ s. contains same_outpoint s.claimed o ≡ is_claimed (view_by book.now.confirmed txs.now abandoned.now) o) }
+    ensures locked { (o : OutPoint) → IfOk result (λ s. contains same_outpoint s.locked o ≡ list_any (λ x. same_outpoint x o) points.now) }
 {
     let states = states_of(alloc, book, txs, abandoned)?;
     let pending = pending_of(alloc, states.payments())?;
-    let claimed = claimed_of(alloc, txs, &pending)?;
-    Ok(claimed)
+    let spoken = spoken_for(alloc, txs, &pending, points)?;
+    Ok(spoken)
+}
+
+/// The same of these transactions without those of the txids that are left out.
+fn spoken_without(
+    alloc: Global,
+    book: &Book,
+    txs: &[Tx],
+    abandoned: &[Txid],
+    points: &[OutPoint],
+    gone: &IndexSet<Txid>,
+) -> Result<SpokenFor, Memory>
+    requires distinct { AreDistinct txs.now }
+    requires parents { ParentsComeFirst txs.now }
+    ensures claimed { (o : OutPoint) → IfOk result (λ s. contains same_outpoint s.claimed o ≡ is_claimed (view_by book.now.confirmed (filter (λ (t : Transaction). not (contains bytes_eq gone.now (txid_of t))) txs.now) abandoned.now) o) }
+    ensures locked { (o : OutPoint) → IfOk result (λ s. contains same_outpoint s.locked o ≡ list_any (λ x. same_outpoint x o) points.now) }
+{
+    let left = left_of(alloc, txs, gone)?;
+    let spoken = spoken_by(alloc, book, &left, abandoned, points)?;
+    Ok(spoken)
 }
 
 /// The confirmed coins that could be spent if the pending list had been written without the transactions of these txids,
@@ -205,11 +226,13 @@ pub fn confirmed_without(
     ensures makers { IfOk result (λ v. All (HasMaker book.now) v.items) }
 {
     let out = listed(alloc, gone)?;
-    let claimed = {
-        let left = left_of(alloc, &wallet.pending, &out)?;
-        claimed_by(alloc, book, &left, &wallet.abandoned)?
-    };
-    let locked = points_of(alloc, &wallet.locked)?;
-    let all = all_left(alloc, book, &out, &claimed, &locked, tip)?;
-    Ok(all)
+    let spoken = spoken_without(
+        alloc,
+        book,
+        &wallet.pending,
+        &wallet.abandoned,
+        &wallet.locked,
+        &out,
+    )?;
+    all_left(alloc, book, &out, &spoken.claimed, &spoken.locked, tip)
 }

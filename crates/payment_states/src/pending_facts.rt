@@ -1,10 +1,11 @@
 //! What is known of the pending list, before its coins are looked at.
 
-ghost use Rattle.std.specs.Prelude.{◌≡◌, ◌<◌, ℕ, IfOk, true, false, length, map, vec_len, slice_index_or};
+ghost use Rattle.std.specs.Prelude.{◌≡◌, ◌<◌, ℕ, IfOk, true, false, not, length, map, vec_len, slice_index_or};
 ghost use Rattle.coin_book.specs.Coins.{coins_of};
 ghost use Rattle.payment_states.specs.BookOf.{IsBookOf};
-ghost use Rattle.payment_states.specs.Candidates.{ancestors, descendants, is_pending, is_safe};
-ghost use Rattle.payment_states.specs.Graph.{below};
+ghost use Rattle.payment_states.specs.Candidates.{ancestors, descendants, is_own, is_pending, is_safe};
+ghost use Rattle.payment_states.specs.Graph.{IsInOrder, below};
+ghost use Rattle.payment_states.specs.ByPlace.{place_if};
 ghost use Rattle.payment_states.specs.Payments.{payments_of};
 ghost use Rattle.payment_states.specs.PendingView.{graph, view_of};
 
@@ -44,6 +45,21 @@ impl Drop for Facts {
     }
 }
 
+/// A number at each place of the pending list whose transaction isn't mine, or replaces another.
+fn own_doubts(
+    alloc: Global,
+    book: &Book,
+    wallet: &Wallet,
+    states: &States,
+) -> Result<Vec<Option<u64>>, Memory>
+    requires states { states.now ≡ payments_of wallet.now book.now }
+    ensures doubts { IfOk result (λ v. v.items ≡ map (λ i. place_if (not (is_own (view_of wallet.now book.now) (coins_of book.now) i)) 0) (below (length wallet.now.pending))) }
+    ensures len { IfOk result (λ v. vec_len v ≡ length wallet.now.pending) }
+{
+    let replacers = replacers_of(alloc, states.payments())?;
+    doubts_of(alloc, book, &wallet.pending, states.payments(), &replacers)
+}
+
 /// Whether each transaction of the pending list is safe.
 fn safe_of(
     alloc: Global,
@@ -55,13 +71,15 @@ fn safe_of(
 ) -> Result<Vec<bool>, Memory>
     requires states { states.now ≡ payments_of wallet.now book.now }
     requires parents { parents.now ≡ graph (view_of wallet.now book.now) }
+    requires order { IsInOrder parents.now }
     requires pending { pending.now ≡ map (is_pending (view_of wallet.now book.now)) (below (length wallet.now.pending)) }
     ensures { IfOk result (λ v. v.items ≡ map (is_safe (view_of wallet.now book.now) (coins_of book.now)) (below (length wallet.now.pending))) }
 {
-    let replacers = replacers_of(alloc, states.payments())?;
-    let doubts = doubts_of(alloc, book, &wallet.pending, states.payments(), &replacers)?;
-    let graph = kept_graph(alloc, parents, pending)?;
-    let least = least_of_kin(alloc, &graph, &doubts)?;
+    let doubts = own_doubts(alloc, book, wallet, states)?;
+    let least = {
+        let graph = kept_graph(alloc, parents, pending)?;
+        least_of_kin(alloc, &graph, &doubts)?
+    };
     let safe = which_not(alloc, &least)?;
     Ok(safe)
 }

@@ -8,7 +8,7 @@ ghost use Rattle.payment_states.specs.Pendings.{pending_above, pending_below};
 ghost use Rattle.payment_states.specs.PendingView.{view_of};
 
 use crate::ancestry::Parents;
-use crate::claims::pending_of;
+use crate::claims::{kept, pending_of};
 use crate::counts::mark_kin;
 use crate::graph::graph_of;
 use crate::own_coins::flag_at;
@@ -72,19 +72,6 @@ fn places_below(alloc: Global, count: usize) -> Result<Vec<usize>, Memory>
         places.push(place)?;
     }
     Ok(places)
-}
-
-/// Those of the places that are marked.
-fn kept(alloc: Global, places: &[usize], marks: &[bool]) -> Result<Vec<usize>, Memory>
-    ensures { IfOk result (λ v. v.items ≡ filter (λ j. slice_index_or marks.now j false) places.now) }
-{
-    let mut left = Vec::new(alloc);
-    for place in places {
-        if flag_at(marks, Some(*place)) {
-            left.push(*place)?;
-        }
-    }
-    Ok(left)
 }
 
 /// The places below a number at which both flags are set, rising.

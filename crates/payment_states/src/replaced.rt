@@ -64,8 +64,8 @@ pub fn replacers(alloc: Global, pending: &[Tx], alive: &[bool]) -> Result<Vec<Op
     ensures replacers { IfOk result (λ v. v.items ≡ map (replacer_by pending.now alive.now) (below (length pending.now))) }
     ensures len { IfOk result (λ v. vec_len v ≡ length pending.now) }
 {
-    let mut nearest = IndexMap::new(alloc);
     let mut found = vec![in alloc; None; pending.len()]?;
+    let mut nearest = IndexMap::new(alloc);
     let mut place = pending.len();
     while place > 0 {
         place -= 1;

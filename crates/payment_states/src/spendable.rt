@@ -15,7 +15,7 @@ ghost use Rattle.payment_states.specs.Payments.{payments_of};
 ghost use Rattle.payment_states.specs.ByPlace.{chosen_at, place_among};
 
 use crate::candidate::{described, standing};
-use crate::claims::{claimed_of, is_among, points_of};
+use crate::claims::{is_among, spoken_for};
 use crate::own_coins::flag_at;
 use crate::pending_facts::{Facts, facts_of};
 use crate::states::States;
@@ -146,8 +146,15 @@ pub fn candidates(
     ensures fit { IfOk result (λ v. AreCandidates v.items) }
 {
     let facts = facts_of(alloc, book, wallet, states)?;
-    let claimed = claimed_of(alloc, &wallet.pending, &facts.pending)?;
-    let locked = points_of(alloc, &wallet.locked)?;
-    let all = all_chosen(alloc, book, states, &facts, &claimed, &locked, tip)?;
+    let spoken = spoken_for(alloc, &wallet.pending, &facts.pending, &wallet.locked)?;
+    let all = all_chosen(
+        alloc,
+        book,
+        states,
+        &facts,
+        &spoken.claimed,
+        &spoken.locked,
+        tip,
+    )?;
     Ok(all)
 }

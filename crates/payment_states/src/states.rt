@@ -5,15 +5,16 @@ ghost use Rattle.tx_codec.specs.Txid.{txid_of};
 ghost use Rattle.wallet_text.specs.WalletRules.{AreDistinct, ParentsComeFirst};
 ghost use Rattle.payment_states.specs.BookOf.{IsBookOf};
 ghost use Rattle.payment_states.specs.Payments.{first_of, payments_in, payments_of, state_of};
-ghost use Rattle.payment_states.specs.Graph.{below};
+ghost use Rattle.payment_states.specs.Graph.{IsInOrder, below};
 ghost use Rattle.payment_states.specs.Least.{value_at};
 ghost use Rattle.payment_states.specs.ByPlace.{payment_by, place_among, view_by};
+ghost use Rattle.payment_states.specs.PendingView.{graph};
 ghost use Rattle.payment_states.specs.declared.state.Payment.{Payment};
 
-use crate::abandoned::{abandoned_of, alive_of, heights_of};
-use crate::ancestry::least_of_kin;
+use crate::abandoned::{abandoned_of, alive_of, heights_of, listed};
+use crate::ancestry::{Parents, least_of_kin};
 use crate::conflicts::conflicts_of;
-use crate::graph::{graph_of, set_of, txids_of};
+use crate::graph::{graph_of, txids_of};
 use crate::replaced::{places_with, replacers};
 use crate::state::{Payment, State};
 use coin_book::Book;
@@ -167,6 +168,42 @@ fn payments(
     Ok(payments)
 }
 
+/// These transactions, each with its state, by their parents.
+fn payments_by(
+    alloc: Global,
+    book: &Book,
+    parents: &[Parents],
+    pending: &[Tx],
+    abandoned: &[Txid],
+    txids: &[Txid],
+) -> Result<Vec<Payment>, Memory>
+    requires order { IsInOrder parents.now }
+    requires graph { parents.now ≡ graph (view_by book.now.confirmed pending.now abandoned.now) }
+    requires txids { txids.now ≡ map txid_of pending.now }
+    ensures { IfOk result (λ v. v.items ≡ payments_in (view_by book.now.confirmed pending.now abandoned.now)) }
+{
+    let heights = heights_of(alloc, book, txids)?;
+    let conflicted = conflicts_of(alloc, book, parents, pending)?;
+    let abandoned_at = abandoned_of(alloc, parents, txids, abandoned)?;
+    let found = {
+        let alive = alive_of(alloc, &heights, &conflicted, &abandoned_at)?;
+        replacers(alloc, pending, &alive)?
+    };
+    let firsts = {
+        let own = places_with(alloc, &found)?;
+        least_of_kin(alloc, parents, &own)?
+    };
+    payments(
+        alloc,
+        txids,
+        &heights,
+        &conflicted,
+        &abandoned_at,
+        &found,
+        &firsts,
+    )
+}
+
 /// These transactions, each with its state.
 fn payments_of(
     alloc: Global,
@@ -182,22 +219,7 @@ fn payments_of(
     ensures { IfOk result (λ v. v.items ≡ payments_in (view_by book.now.confirmed pending.now abandoned.now)) }
 {
     let parents = graph_of(alloc, book, set, pending)?;
-    let heights = heights_of(alloc, book, txids)?;
-    let conflicted = conflicts_of(alloc, book, &parents, pending)?;
-    let abandoned_at = abandoned_of(alloc, &parents, txids, abandoned)?;
-    let alive = alive_of(alloc, &heights, &conflicted, &abandoned_at)?;
-    let found = replacers(alloc, pending, &alive)?;
-    let own = places_with(alloc, &found)?;
-    let firsts = least_of_kin(alloc, &parents, &own)?;
-    let list = payments(
-        alloc,
-        txids,
-        &heights,
-        &conflicted,
-        &abandoned_at,
-        &found,
-        &firsts,
-    )?;
+    let list = payments_by(alloc, book, &parents, pending, abandoned, txids)?;
     Ok(list)
 }
 
@@ -213,7 +235,7 @@ pub(crate) fn states_of(
     ensures { IfOk result (λ s. s ≡ payments_in (view_by book.now.confirmed pending.now abandoned.now)) }
 {
     let names = txids_of(alloc, pending)?;
-    let txids = set_of(alloc, pending, &names)?;
+    let txids = listed(alloc, &names)?;
     let payments = payments_of(alloc, book, pending, abandoned, &txids, &names)?;
     Ok(States { payments, txids })
 }

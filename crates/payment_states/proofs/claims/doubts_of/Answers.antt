@@ -32,3 +32,12 @@ loop-place-preserved c =
     let here : c.place_if.result ≡ f i =
     c.place_if.ensures ∙ ap (λ b. place_if b 0) (c.is_doubtful.ensures ∙ (λ k. not (mine k && not ((c.is_replacer-replaces.ensures ∙ ap (contains bytes_eq c.args.replacers.now) name) k)))) in
     (c.in_ok-push.ensures.items ∙ (λ k. c.loop-place.invariant.0 k ++ here k ∷ []) ∙ sym (map_below_more f i), omega (arith, c.in_ok-push.ensures.len))
+
+pub returns-clause-doubts : goal.returns-clause-doubts
+returns-clause-doubts c =
+    let f : ℕ → Option ℕ = λ i. place_if (not (is_mine (coins_of c.args.book.now) (slice_index_or c.args.txs.now i no_tx) && not (contains bytes_eq c.args.replacers.now (slice_index_or (map (λ (p : Payment). p.txid) c.args.payments.now) i [])))) 0 in
+    let e : c.loop-place.place ≡ length c.args.txs.now = omega arith in
+    c.loop-place.invariant.0 ∙ ap (λ n. map f (below n)) e
+
+pub returns-clause-len : goal.returns-clause-len
+returns-clause-len c = omega (arith, c.loop-place.invariant.1)

@@ -1,8 +1,8 @@
-use Rattle.std.proofs.Common.{◌≡◌, ◌∙◌, ℕ, ◌++◌, Option, Vec, Global, sym, ap}
+use Rattle.std.proofs.Common.{◌≡◌, ◌∙◌, ℕ, ◌++◌, List, Option, Vec, Global, sym, ap}
 use Rattle.std.specs.Option.{option_to_list}
-use Rattle.std.proofs.lemmas.List.{append-nil}
+use Rattle.std.proofs.lemmas.List.{append-nil, take_all}
 use Rattle.tx_codec.specs.declared.tx.TxIn.{TxIn}
-use Rattle.payment_states.specs.ByPlace.{place_by}
+use Rattle.payment_states.specs.ByPlace.{parents_by, place_by}
 use Rattle.payment_states.proofs.GraphSteps.{filter_map_more}
 use Rattle.payment_states.proofs.graph.parents_of.Goals as goal
 use Rattle.payment_states.proofs.graph.parents_of.Goals.{in-Some+in_ok-push-in-Some, in-None}
@@ -21,3 +21,8 @@ loop-input-preserved c =
     more
     ∙ (λ k. c.loop-input.invariant k ++ option_to_list ((c.open_place.ensures ∙ ap place c.input-item.is) k))
     ∙ sym (filter_map_more place c.args.inputs.now c.loop-input.input-index c.input-item.result c.loop-input-test.true)
+
+pub returns : goal.returns
+returns c =
+    c.new.ensures ∙ c.loop-input.invariant
+    ∙ ap (λ (is : List TxIn). parents_by c.args.book.now.confirmed c.args.txids.now.keys is) (take_all c.loop-input.input-index c.args.inputs.now c.loop-input-test.false)

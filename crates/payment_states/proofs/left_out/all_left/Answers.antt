@@ -1,7 +1,8 @@
-use Rattle.std.proofs.Common.{◌≡◌, ◌∙◌, ◌++◌, ◌<◌, Option, Vec, Global, length, sym, ap, arith}
+use Rattle.std.proofs.Common.{◌≡◌, ◌∙◌, ◌++◌, ◌<◌, List, Option, Vec, Global, length, sym, ap, arith}
 use Rattle.std.specs.Prelude.{bytes_eq}
+use Rattle.std.specs.List.{filter_map}
 use Rattle.std.specs.Option.{option_to_list}
-use Rattle.std.proofs.lemmas.List.{append-nil}
+use Rattle.std.proofs.lemmas.List.{append-nil, take_all}
 use Rattle.indexmap.specs.IndexSet.{contains}
 use Rattle.fund_base.specs.Outpoints.{same_outpoint}
 use Rattle.fund_base.specs.declared.candidate.Candidate.{Candidate}
@@ -28,3 +29,9 @@ loop-number-preserved c =
     more
     ∙ (λ k. c.loop-number.invariant k ++ option_to_list (c.in_ok-candidate.ensures.exact k))
     ∙ sym (filter_map_get f coins c.loop-number.number lt)
+
+pub returns-clause-left : goal.returns-clause-left
+returns-clause-left c =
+    let f : Coin → Option Candidate = λ x. left_by c.args.book.now (contains bytes_eq c.args.gone.now) c.args.tip (contains same_outpoint c.args.claimed.now x.coin) (contains same_outpoint c.args.locked.now x.coin) x in
+    let coins = coins_of c.args.book.now in
+    c.loop-number.invariant ∙ ap (λ (cs : List Coin). filter_map f cs) (take_all c.loop-number.number coins (omega (arith, c.len-number-end.ensures.count)))

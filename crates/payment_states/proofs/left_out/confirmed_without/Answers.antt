@@ -1,6 +1,7 @@
-use Rattle.std.proofs.Common.{◌≡◌, ◌∙◌, ◌&&◌, not, Bool, false, List, ℕ, length, map, filter, sym, ap, subst, All}
-use Rattle.std.specs.Prelude.{bytes_eq, slice_index_or}
+use Rattle.std.proofs.Common.{◌≡◌, ◌∙◌, not, Bool, List, ℕ, filter, Vec, Global, None, Result, Ok, Err, sym, ap, subst, All}
+use Rattle.std.specs.Prelude.{bytes_eq}
 use Rattle.std.specs.List.{filter_map, list_any}
+use Rattle.std.specs.Result.{IfOk, OnOk}
 use Rattle.indexmap.specs.IndexSet.{contains}
 use Rattle.fund_base.specs.Candidates.{AreCandidates}
 use Rattle.fund_base.specs.Outpoints.{same_outpoint}
@@ -11,20 +12,20 @@ use Rattle.tx_codec.specs.Txid.{txid_of}
 use Rattle.wallet_text.specs.PlainWallet.{PlainWallet}
 use Rattle.wallet_text.specs.WalletRules.{AreDistinct, IsWallet, ParentsComeFirst}
 use Rattle.coin_book.specs.Coins.{coins_of}
-use Rattle.coin_book.specs.Spends.{has_input}
+use Rattle.coin_book.specs.Faults.{fault_of}
 use Rattle.coin_book.specs.declared.coin.Coin.{Coin}
-use Rattle.payment_states.specs.Candidates.{is_claimed, is_locked, is_pending, is_pending_state}
-use Rattle.payment_states.specs.Graph.{below}
-use Rattle.payment_states.specs.LeftOut.{history_without, left_by, left_of, wallet_without}
+use Rattle.payment_states.specs.Candidates.{is_claimed, is_locked}
+use Rattle.payment_states.specs.LeftOut.{confirmed_without_of, history_without, left_by, left_of, wallet_without}
 use Rattle.payment_states.specs.Makers.{HasMaker}
-use Rattle.payment_states.specs.Payments.{payments_in}
 use Rattle.payment_states.specs.ByPlace.{view_by}
-use Rattle.payment_states.specs.PendingView.{is_listed, no_tx, view_of}
-use Rattle.payment_states.specs.declared.state.Payment.{Payment}
-use Rattle.payment_states.proofs.ChoiceSteps.{claimed_are}
-use Rattle.payment_states.proofs.FactSteps.{payments_count, pending_are}
-use Rattle.payment_states.proofs.LeftSteps.{all_are, apart_left, left_fit, makers_left, order_left}
+use Rattle.payment_states.specs.PendingView.{is_listed, view_of}
+use Rattle.payment_states.proofs.LeftSteps.{all_are, left_fit, makers_left}
 use Rattle.payment_states.proofs.left_out.confirmed_without.Goals as goal
+
+-- what two clauses say of the same value
+both : {X E : Type 0} (r : Result X E) (P : Type 0) (Q R : X → Type 0) → ((x : X) → P → Q x → R x) → OnOk r P → IfOk r Q → IfOk r R
+both (Ok x) P Q R f p q = f x p q
+both (Err e) P Q R f p q = tt
 
 -- a test that says the same of each is the same
 same_test : (p : List ℕ → Bool) (gone : List (List ℕ)) → ((t : List ℕ) → p t ≡ is_listed gone t) → p ≡ is_listed gone
@@ -33,15 +34,11 @@ same_test p gone is = λ k. λ t. is t k
 left_is : (p : List ℕ → Bool) (gone : List (List ℕ)) (ts us : List Transaction) → ((t : List ℕ) → p t ≡ is_listed gone t) → ts ≡ us → filter (λ (t : Transaction). not (p (txid_of t))) ts ≡ left_of gone us
 left_is p gone ts us is same = λ k. filter (λ (t : Transaction). not (is (txid_of t) k)) (same k)
 
-pub claimed_by-requires-clause-distinct : goal.claimed_by-requires-clause-distinct
-claimed_by-requires-clause-distinct c =
-    let left = left_is (contains bytes_eq c.in_ok-out.out) c.args.gone.now c.deref.result.now c.wallet.inside.pending.items c.in_ok-out.ensures c.deref.ensures.value in
-    subst AreDistinct (sym (c.deref-2.ensures.value ∙ c.in_ok-left.ensures ∙ left)) (apart_left c.args.gone.now c.wallet.inside.pending.items c.wallet.invariant.pending_distinct)
+pub spoken_without-requires-clause-distinct : goal.spoken_without-requires-clause-distinct
+spoken_without-requires-clause-distinct c = subst AreDistinct (sym c.deref.ensures.value) c.wallet.invariant.pending_distinct
 
-pub claimed_by-requires-clause-parents : goal.claimed_by-requires-clause-parents
-claimed_by-requires-clause-parents c =
-    let left = left_is (contains bytes_eq c.in_ok-out.out) c.args.gone.now c.deref.result.now c.wallet.inside.pending.items c.in_ok-out.ensures c.deref.ensures.value in
-    subst ParentsComeFirst (sym (c.deref-2.ensures.value ∙ c.in_ok-left.ensures ∙ left)) (order_left c.args.gone.now c.wallet.inside.pending.items c.wallet.invariant.parents)
+pub spoken_without-requires-clause-parents : goal.spoken_without-requires-clause-parents
+spoken_without-requires-clause-parents c = subst ParentsComeFirst (sym c.deref.ensures.value) c.wallet.invariant.parents
 
 pub returns-clause-exact : goal.returns-clause-exact
 returns-clause-exact c =
@@ -49,24 +46,34 @@ returns-clause-exact c =
     let h = c.args.book.now in
     let gone = c.args.gone.now in
     let w = view_of (wallet_without gone wallet) (history_without gone h) in
-    let own : c.wallet.inside.pending.items ≡ wallet.pending = ap (λ (w : PlainWallet). w.pending) c.wallet.view_is in
-    let left : c.in_ok-left.left.items ≡ left_of gone wallet.pending = c.in_ok-left.ensures ∙ left_is (contains bytes_eq c.in_ok-out.out) gone c.deref.result.now wallet.pending c.in_ok-out.ensures (c.deref.ensures.value ∙ own) in
-    let claimed : (o : OutPoint) → contains same_outpoint c.in_ok-claimed.claimed o ≡ is_claimed w o =
-    λ o. c.in_ok-claimed.ensures o
-    ∙ (λ k. is_claimed (view_by h.confirmed ((c.deref-2.ensures.value ∙ left) k) ((c.deref-3.ensures.value ∙ ap (λ (w : PlainWallet). w.abandoned) c.wallet.view_is) k)) o) in
-    let locked : (o : OutPoint) → contains same_outpoint c.in_ok-locked.locked o ≡ is_locked wallet o =
-    λ o. c.in_ok-locked.ensures o ∙ ap (λ (os : List OutPoint). list_any (λ x. same_outpoint x o) os) (c.deref-4.ensures.value ∙ ap (λ (w : PlainWallet). w.locked) c.wallet.view_is) in
+    let pending : c.deref.result.now ≡ wallet.pending = c.deref.ensures.value ∙ ap (λ (w : PlainWallet). w.pending) c.wallet.view_is in
+    let left = left_is (contains bytes_eq c.in_ok-out.out) gone c.deref.result.now wallet.pending c.in_ok-out.ensures.has pending in
+    let claimed : (o : OutPoint) → contains same_outpoint c.in_ok-spoken.spoken.claimed o ≡ is_claimed w o =
+    λ o. c.in_ok-spoken.ensures.claimed o
+    ∙ (λ k. is_claimed (view_by h.confirmed (left k) ((c.deref-2.ensures.value ∙ ap (λ (w : PlainWallet). w.abandoned) c.wallet.view_is) k)) o) in
+    let locked : (o : OutPoint) → contains same_outpoint c.in_ok-spoken.spoken.locked o ≡ is_locked wallet o =
+    λ o. c.in_ok-spoken.ensures.locked o ∙ ap (λ (os : List OutPoint). list_any (λ x. same_outpoint x o) os) (c.deref-3.ensures.value ∙ ap (λ (w : PlainWallet). w.locked) c.wallet.view_is) in
     let rules : IsWallet wallet = subst IsWallet c.wallet.view_is c.wallet.invariant in
-    c.in_ok-all.ensures.left
-    ∙ ap (λ (p : List ℕ → Bool). filter_map (λ (x : Coin). left_by h p c.args.tip (contains same_outpoint c.in_ok-claimed.claimed x.coin) (contains same_outpoint c.in_ok-locked.locked x.coin) x) (coins_of h)) (same_test (contains bytes_eq c.in_ok-out.out) gone c.in_ok-out.ensures)
-    ∙ all_are gone wallet h rules c.requires.book c.in_ok-all.ensures.sound c.args.tip (contains same_outpoint c.in_ok-claimed.claimed) (contains same_outpoint c.in_ok-locked.locked) claimed locked
+    let given : List Candidate = filter_map (λ (x : Coin). left_by h (contains bytes_eq c.in_ok-out.out) c.args.tip (contains same_outpoint c.in_ok-spoken.spoken.claimed x.coin) (contains same_outpoint c.in_ok-spoken.spoken.locked x.coin) x) (coins_of h) in
+    let same : fault_of h ≡ None → given ≡ confirmed_without_of wallet h c.args.tip gone =
+    λ sound.
+    ap (λ (p : List ℕ → Bool). filter_map (λ (x : Coin). left_by h p c.args.tip (contains same_outpoint c.in_ok-spoken.spoken.claimed x.coin) (contains same_outpoint c.in_ok-spoken.spoken.locked x.coin) x) (coins_of h)) (same_test (contains bytes_eq c.in_ok-out.out) gone c.in_ok-out.ensures.has)
+    ∙ all_are gone wallet h rules c.requires.book sound c.args.tip (contains same_outpoint c.in_ok-spoken.spoken.claimed) (contains same_outpoint c.in_ok-spoken.spoken.locked) claimed locked in
+    both c.all_left.result (fault_of h ≡ None) (λ (v : Vec Candidate Global). v.items ≡ given) (λ (v : Vec Candidate Global). v.items ≡ confirmed_without_of wallet h c.args.tip gone)
+    (λ v sound is. is ∙ same sound) c.all_left.ensures.sound c.all_left.ensures.left
 
 pub returns-clause-fit : goal.returns-clause-fit
 returns-clause-fit c =
-    subst AreCandidates (sym (returns-clause-exact c))
-    (left_fit c.args.wallet.now c.args.book.now c.args.gone.now c.args.tip (subst IsWallet c.wallet.view_is c.wallet.invariant) c.requires.book c.in_ok-all.ensures.sound)
+    let wallet = c.args.wallet.now in
+    let h = c.args.book.now in
+    let gone = c.args.gone.now in
+    both c.all_left.result (fault_of h ≡ None) (λ (v : Vec Candidate Global). v.items ≡ confirmed_without_of wallet h c.args.tip gone) (λ (v : Vec Candidate Global). AreCandidates v.items)
+    (λ v sound is. subst AreCandidates (sym is) (left_fit wallet h gone c.args.tip (subst IsWallet c.wallet.view_is c.wallet.invariant) c.requires.book sound)) c.all_left.ensures.sound (returns-clause-exact c)
 
 pub returns-clause-makers : goal.returns-clause-makers
 returns-clause-makers c =
-    subst (λ (l : List Candidate). All (HasMaker c.args.book.now) l) (sym (returns-clause-exact c))
-    (makers_left c.args.gone.now c.args.wallet.now c.args.book.now (subst IsWallet c.wallet.view_is c.wallet.invariant) c.requires.book c.in_ok-all.ensures.sound c.args.tip)
+    let wallet = c.args.wallet.now in
+    let h = c.args.book.now in
+    let gone = c.args.gone.now in
+    both c.all_left.result (fault_of h ≡ None) (λ (v : Vec Candidate Global). v.items ≡ confirmed_without_of wallet h c.args.tip gone) (λ (v : Vec Candidate Global). All (HasMaker h) v.items)
+    (λ v sound is. subst (λ (l : List Candidate). All (HasMaker h) l) (sym is) (makers_left gone wallet h (subst IsWallet c.wallet.view_is c.wallet.invariant) c.requires.book sound c.args.tip)) c.all_left.ensures.sound (returns-clause-exact c)

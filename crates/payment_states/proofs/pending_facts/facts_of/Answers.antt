@@ -23,6 +23,11 @@ safe_of-requires-clause-pending c =
     ∙ ap (map (λ (p : Payment). is_pending_state p.state)) (c.payments.ensures ∙ opened c.args.wallet.now c.args.book.now c.args.states.now c.requires.states)
     ∙ pending_are (view_of c.args.wallet.now c.args.book.now)
 
+pub safe_of-requires-clause-order : goal.safe_of-requires-clause-order
+safe_of-requires-clause-order c =
+    let chain = c.args.book.now.confirmed in
+    subst IsInOrder (sym (c.deref-2.ensures.value ∙ c.in_ok-parents.ensures.graph ∙ ap (λ (ts : List Transaction). map (parents chain ts) ts) c.deref.ensures.value)) (order_from_rule chain c.wallet.inside.pending.items c.wallet.invariant.parents)
+
 pub numbers-requires-clause-order : goal.numbers-requires-clause-order
 numbers-requires-clause-order c =
     let chain = c.args.book.now.confirmed in

@@ -1,4 +1,4 @@
-use Rattle.std.proofs.Common.{◌≡◌, ◌∙◌, ℕ, ◌<◌, Bool, [], ◌∷◌, ◌++◌, length, sym, arith}
+use Rattle.std.proofs.Common.{◌≡◌, ◌∙◌, ℕ, ◌<◌, Bool, [], ◌∷◌, ◌++◌, length, map, sym, ap, arith}
 use Rattle.std.proofs.lemmas.List.{get_or_default}
 use Rattle.payment_states.specs.Graph.{below, within}
 use Rattle.payment_states.proofs.Below.{map_below_more}
@@ -19,3 +19,12 @@ loop-place-preserved c =
     c.is_reaching-mark.ensures
     ∙ reached g c.args.given i c.as_slice.result.now c.deref.result.now c.requires lt (c.as_slice.ensures ∙ c.index-parents-place.is ∙ get_or_default g i c.index-parents-place.result [] lt) (c.deref.ensures.value ∙ c.loop-place.invariant.0) in
     (c.in_ok-push.ensures.items ∙ (λ k. c.loop-place.invariant.0 k ++ here k ∷ []) ∙ sym (map_below_more f i), omega (arith, c.in_ok-push.ensures.len))
+
+pub returns-clause-marks : goal.returns-clause-marks
+returns-clause-marks c =
+    let g = c.args.parents.now in
+    let e : c.loop-place.place ≡ length g = omega arith in
+    c.loop-place.invariant.0 ∙ ap (λ n. map (λ j. within g (length g) j c.args.given) (below n)) e
+
+pub returns-clause-len : goal.returns-clause-len
+returns-clause-len c = omega (arith, c.loop-place.invariant.1)

@@ -1,6 +1,7 @@
-use Rattle.std.proofs.Common.{◌≡◌, ◌∙◌, ◌++◌, ◌<◌, Option, Vec, Global, length, sym, ap, arith}
+use Rattle.std.proofs.Common.{◌≡◌, ◌∙◌, ◌++◌, ◌<◌, List, Option, Vec, Global, length, sym, ap, arith}
+use Rattle.std.specs.List.{filter_map}
 use Rattle.std.specs.Option.{option_to_list}
-use Rattle.std.proofs.lemmas.List.{append-nil}
+use Rattle.std.proofs.lemmas.List.{append-nil, take_all}
 use Rattle.indexmap.specs.IndexSet.{contains}
 use Rattle.fund_base.specs.Outpoints.{same_outpoint}
 use Rattle.fund_base.specs.declared.candidate.Candidate.{Candidate}
@@ -27,3 +28,9 @@ loop-number-preserved c =
     more
     ∙ (λ k. c.loop-number.invariant k ++ option_to_list (c.in_ok-candidate.ensures k))
     ∙ sym (filter_map_get f coins c.loop-number.number lt)
+
+pub returns-clause-chosen : goal.returns-clause-chosen
+returns-clause-chosen c =
+    let f : Coin → Option Candidate = λ x. chosen_at c.args.book.now c.args.tip c.args.facts.now.pending.items c.args.facts.now.safe.items c.args.facts.now.ancestors.items c.args.facts.now.descendants.items (contains same_outpoint c.args.claimed.now x.coin) (contains same_outpoint c.args.locked.now x.coin) x (place_among c.args.states.now x.coin.txid) in
+    let coins = coins_of c.args.book.now in
+    c.loop-number.invariant ∙ ap (λ (cs : List Coin). filter_map f cs) (take_all c.loop-number.number coins (omega (arith, c.len-number-end.ensures.count)))

@@ -18,8 +18,8 @@ use Rattle.payment_states.proofs.FactSteps.{opened}
 use Rattle.payment_states.proofs.FitSteps.{fit}
 use Rattle.payment_states.proofs.spendable.candidates.Goals as goal
 
-pub claimed_of-requires : goal.claimed_of-requires
-claimed_of-requires c =
+pub spoken_for-requires : goal.spoken_for-requires
+spoken_for-requires c =
     ap (λ (l : List Bool). length l) (c.deref-2.ensures.value ∙ c.in_ok-facts.ensures.pending)
     ∙ length-map_below (is_pending (view_of c.args.wallet.now c.args.book.now)) (length c.args.wallet.now.pending)
     ∙ sym (ap (λ (ts : List Transaction). length ts) c.deref.ensures.value ∙ ap (λ (w : PlainWallet). length w.pending) c.wallet.view_is)
@@ -33,14 +33,14 @@ returns-clause-exact c =
     let known : Knows wallet h facts.pending.items facts.safe.items facts.ancestors.items facts.descendants.items =
     record { pending_is = c.in_ok-facts.ensures.pending; safe_is = c.in_ok-facts.ensures.safe; up_is = c.in_ok-facts.ensures.ancestors; down_is = c.in_ok-facts.ensures.descendants } in
     let txs : c.deref.result.now ≡ wallet.pending = c.deref.ensures.value ∙ ap (λ (w : PlainWallet). w.pending) c.wallet.view_is in
-    let claimed : (o : OutPoint) → contains same_outpoint c.in_ok-claimed.claimed o ≡ is_claimed w o =
-    λ o. c.in_ok-claimed.ensures o
+    let claimed : (o : OutPoint) → contains same_outpoint c.in_ok-spoken.spoken.claimed o ≡ is_claimed w o =
+    λ o. c.in_ok-spoken.ensures.claimed o
     ∙ (λ k. list_any (λ i. slice_index_or (c.deref-2.ensures.value k) i false && has_input o (slice_index_or (txs k) i no_tx).inputs) (below (length (txs k))))
     ∙ claimed_are w facts.pending.items o c.in_ok-facts.ensures.pending in
-    let locked : (o : OutPoint) → contains same_outpoint c.in_ok-locked.locked o ≡ is_locked wallet o =
-    λ o. c.in_ok-locked.ensures o ∙ ap (λ (os : List OutPoint). list_any (λ x. same_outpoint x o) os) (c.deref-3.ensures.value ∙ ap (λ (w : PlainWallet). w.locked) c.wallet.view_is) in
+    let locked : (o : OutPoint) → contains same_outpoint c.in_ok-spoken.spoken.locked o ≡ is_locked wallet o =
+    λ o. c.in_ok-spoken.ensures.locked o ∙ ap (λ (os : List OutPoint). list_any (λ x. same_outpoint x o) os) (c.deref-3.ensures.value ∙ ap (λ (w : PlainWallet). w.locked) c.wallet.view_is) in
     c.in_ok-all.ensures.chosen
-    ∙ all_are wallet h c.args.tip facts.pending.items facts.safe.items facts.ancestors.items facts.descendants.items known (contains same_outpoint c.in_ok-claimed.claimed) (contains same_outpoint c.in_ok-locked.locked) c.args.states.now
+    ∙ all_are wallet h c.args.tip facts.pending.items facts.safe.items facts.ancestors.items facts.descendants.items known (contains same_outpoint c.in_ok-spoken.spoken.claimed) (contains same_outpoint c.in_ok-spoken.spoken.locked) c.args.states.now
     (opened wallet h c.args.states.now c.requires.states) claimed locked
 
 pub returns-clause-fit : goal.returns-clause-fit
