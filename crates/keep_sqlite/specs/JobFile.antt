@@ -21,6 +21,12 @@ module _ {S : Type 0} (g : Ghosts S) where
   IsTaken (Some held) taken = taken ≡ held
   IsTaken None taken = IsNew taken × (HasCleanDisk (state g taken) → Opens (state g taken) × IsLive (state g taken))
 
+  -- an open gives nothing where a connection is held, and else a new one
+  abbrev pub IsOpened : Option (Held S) → Option (Held S) → Type 0
+  IsOpened (Some held) opened = opened ≡ None
+  IsOpened None None = ⊥
+  IsOpened None (Some made) = IsTaken None made
+
   -- what is found in the tables of the file, where the disk has returned what was written; a file that isn't open
   -- after a call couldn't be opened
   abbrev pub FindsIn : List ℕ → Row → Option (Held S) → Option (Held S) → Result (Option (Vec ℕ Global)) Error → Type 0

@@ -1,3 +1,4 @@
+pub mod Calls
 pub mod JobFile
 pub mod JobTables
 pub mod Saving

@@ -1,15 +1,16 @@
 //! Jobs kept in a file of the current folder.
 
-ghost use Rattle.std.specs.Prelude.{◌≡◌, ◌≤◌, [], ◌∷◌, pos, None, IfErr, IfSome, IsErrOf, IsSome, IsTrue, OnOk};
+ghost use Rattle.std.specs.Prelude.{◌≡◌, ◌≤◌, [], ◌∷◌, pos, None, IfErr, IfOk, IsErrOf, IsTrue, OnOk};
 ghost use Rattle.fund_base.specs.Causes.{Rose, one_more};
 ghost use Rattle.sqlite.specs.Files.{over_files};
 ghost use Rattle.sqlite.specs.Opening.{is_open_error};
 ghost use Rattle.sqlite.specs.declared.types.Value.TheVariants.{Int, Text};
-ghost use Rattle.keep_sqlite.specs.JobFile.{FindsIn, IsTaken};
+ghost use Rattle.keep_sqlite.specs.Calls.{AnswersIn};
+ghost use Rattle.keep_sqlite.specs.JobFile.{FindsIn, IsOpened};
 ghost use Rattle.keep_sqlite.specs.Tables.{bytes_text, saved_text};
 ghost use Rattle.keep_sqlite.specs.Told.{Tells};
 
-use crate::tables;
+use crate::tables::{self, Call};
 use crate::told::told;
 use fund_outside::{KeepFault, Keeper};
 use sqlite::{Connection, Error, ErrorCode, File, FileStore};
@@ -80,54 +81,34 @@ fn make_private(rt: &HostRuntime) -> Result<(), Error>
     }
 }
 
-/// Opens the file where it isn't open yet. A connection that is held stays; where the open fails, none is held.
-fn open(rt: &HostRuntime, connection: &mut Option<Connection<FileStore<File>>>) -> Result<(), Error>
-    ensures taken { OnOk result (IfSome connection.new (IsTaken over_files connection.old)) }
-    ensures held { OnOk result (IsSome connection.new) }
-    ensures unopened { IfErr result (λ error. IsTrue (is_open_error error) × (connection.old ≡ None) × (connection.new ≡ None)) }
+/// Opens the file where no connection is held.
+fn opened(
+    rt: &HostRuntime,
+    connection: &Option<Connection<FileStore<File>>>,
+) -> Result<Option<Connection<FileStore<File>>>, Error>
+    ensures opened { IfOk result (IsOpened over_files connection.now) }
+    ensures unopened { IfErr result (λ error. IsTrue (is_open_error error) × (connection.now ≡ None)) }
 {
     if connection.is_some() {
-        return Ok(());
+        return Ok(None);
     }
     make_private(rt)?;
     let made = Connection::open(rt, NAME)?;
-    *connection = Some(made);
-    Ok(())
+    Ok(Some(made))
 }
 
-fn load(
+/// What the file answers to a call. It is opened where it isn't open yet. A connection that is held stays; where the
+/// open fails, none is held. All calls are made here: what is proved of tables over any store is tied to the store of a
+/// file once.
+fn ask(
     rt: &HostRuntime,
     connection: &mut Option<Connection<FileStore<File>>>,
-    job: &str,
+    call: &Call<'_>,
 ) -> Result<Option<Vec<u8>>, Error>
-    ensures { FindsIn over_files saved_text (Text job.now ∷ []) connection.old connection.new result }
+    ensures { AnswersIn over_files call.now connection.old connection.new result }
 {
-    open(rt, connection)?;
-    tables::load(connection.as_mut().unwrap(), job)
-}
-
-fn part(
-    rt: &HostRuntime,
-    connection: &mut Option<Connection<FileStore<File>>>,
-    job: &str,
-    number: u32,
-) -> Result<Option<Vec<u8>>, Error>
-    ensures { FindsIn over_files bytes_text (Text job.now ∷ Int (pos number) ∷ []) connection.old connection.new result }
-{
-    open(rt, connection)?;
-    tables::part(connection.as_mut().unwrap(), job, number)
-}
-
-fn save(
-    rt: &HostRuntime,
-    connection: &mut Option<Connection<FileStore<File>>>,
-    job: &str,
-    first: u32,
-    part: &[u8],
-    saved: &[u8],
-) -> Result<(), Error> {
-    open(rt, connection)?;
-    tables::save(connection.as_mut().unwrap(), job, first, part, saved)
+    let opened = opened(rt, connection)?;
+    tables::ask_held(connection, opened, call)
 }
 
 impl<R: Deref<Target = HostRuntime> + Drop> Keeper for SqliteKeeper<R> {
@@ -149,7 +130,10 @@ impl<R: Deref<Target = HostRuntime> + Drop> Keeper for SqliteKeeper<R> {
         // What it tells is what the tables show, or why the file can't be opened.
         ensures told { Tells (FindsIn over_files saved_text (Text job.now ∷ []) self.old.connection self.new.connection) result }
     {
-        told(load(&self.rt, &mut self.connection, job), &mut self.faults)
+        told(
+            ask(&self.rt, &mut self.connection, &Call::Load { job }),
+            &mut self.faults,
+        )
     }
 
     fn part(&mut self, job: &str, number: u32) -> Result<Option<Vec<u8>>, KeepFault>
@@ -165,7 +149,7 @@ impl<R: Deref<Target = HostRuntime> + Drop> Keeper for SqliteKeeper<R> {
         ensures told { Tells (FindsIn over_files bytes_text (Text job.now ∷ Int (pos number) ∷ []) self.old.connection self.new.connection) result }
     {
         told(
-            part(&self.rt, &mut self.connection, job, number),
+            ask(&self.rt, &mut self.connection, &Call::Part { job, number }),
             &mut self.faults,
         )
     }
@@ -179,9 +163,15 @@ impl<R: Deref<Target = HostRuntime> + Drop> Keeper for SqliteKeeper<R> {
         // Whatever the database's error is, it is told once.
         ensures counted { IsErrOf result KeepFault.Failed → (view_of self.new).faults ≡ one_more (view_of self.old).faults }
     {
-        told(
-            save(&self.rt, &mut self.connection, job, first, part, saved),
-            &mut self.faults,
-        )
+        let call = Call::Save {
+            job,
+            first,
+            part,
+            saved,
+        };
+        match told(ask(&self.rt, &mut self.connection, &call), &mut self.faults) {
+            Ok(_) => Ok(()),
+            Err(fault) => Err(fault),
+        }
     }
 }

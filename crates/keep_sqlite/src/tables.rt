@@ -1,11 +1,13 @@
 //! Jobs as rows of two tables: one row a job, and one row a part.
 
-ghost use Rattle.std.specs.Prelude.{◌≡◌, ◌≤◌, [], ◌∷◌, pos, Err, IsTrue, OnErr};
+ghost use Rattle.std.specs.Prelude.{◌≡◌, ◌≤◌, [], ◌∷◌, pos, Err, IsSome, IsTrue, OnErr};
+ghost use Rattle.std.specs.Option.{option_or};
 ghost use Rattle.sqlite.specs.Held.{state};
 ghost use Rattle.sqlite.specs.State.{HasCleanDisk};
 ghost use Rattle.sqlite.specs.Values.{bound};
 ghost use Rattle.sqlite.specs.View.{doubt};
 ghost use Rattle.sqlite.specs.declared.types.Value.TheVariants.{Int, Text};
+ghost use Rattle.keep_sqlite.specs.Calls.{Answers, AnswersFrom};
 ghost use Rattle.keep_sqlite.specs.Saving.{IsAsBefore, StaysInside};
 ghost use Rattle.keep_sqlite.specs.Tables.{AreBytesOf, AreCounted, AreMadeBy, Finds, ShowsBytes, TellsTables, bytes_text, saved_text, tables_made};
 
@@ -37,6 +39,27 @@ const ADD_PART: &str =
 
 const KEEP_SAVED: &str =
     "INSERT INTO job (name, saved) VALUES (?1, ?2) ON CONFLICT (name) DO UPDATE SET saved = excluded.saved";
+
+/// What is asked of the tables, or what they are to keep.
+#[derive(Clone, Copy)]
+pub(crate) enum Call<'a> {
+    /// The saved text of a job.
+    Load {
+        job: &'a str,
+    },
+    /// The part of that number of a job.
+    Part {
+        job: &'a str,
+        number: u32,
+    },
+    /// A part of a job behind the first ones, at most so many, and its saved text.
+    Save {
+        job: &'a str,
+        first: u32,
+        part: &'a [u8],
+        saved: &'a [u8],
+    },
+}
 
 /// Whether the tables are there, by the counts of objects and of ours. A database with any other object in it, or with
 /// a table of another shape, isn't ours.
@@ -211,4 +234,36 @@ pub(crate) fn save<S: Alter>(
     let mut transaction = connection.transaction();
     write(&mut transaction, job, first, part, saved)?;
     transaction.commit()
+}
+
+/// What the tables answer to a call; a save that is done finds nothing.
+fn ask<S: Alter>(connection: &mut Connection<S>, call: &Call<'_>) -> Result<Option<Vec<u8>>, Error>
+    ensures { HasCleanDisk (state S.Store connection.new) → Answers S.Store call.now connection.old connection.new result }
+{
+    match *call {
+        Call::Load { job } => load(connection, job),
+        Call::Part { job, number } => part(connection, job, number),
+        Call::Save {
+            job,
+            first,
+            part,
+            saved,
+        } => {
+            save(connection, job, first, part, saved)?;
+            Ok(None)
+        }
+    }
+}
+
+/// The same of a database that has been opened for the call and is held from then on, or else of the one that is held.
+pub(crate) fn ask_held<S: Alter + Drop>(
+    held: &mut Option<Connection<S>>,
+    opened: Option<Connection<S>>,
+    call: &Call<'_>,
+) -> Result<Option<Vec<u8>>, Error>
+    requires { IsSome (option_or opened held.now) }
+    ensures { AnswersFrom S.Store call.now (option_or opened held.old) held.new result }
+{
+    *held = opened.or(held.take());
+    ask(held.as_mut().unwrap(), call)
 }

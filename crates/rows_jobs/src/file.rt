@@ -5,8 +5,8 @@ use crate::trouble::Trouble;
 use fund_outside::{KeepFault, Keeper, SureKeeper};
 use keep_sqlite::SqliteKeeper;
 use std::alloc::Global;
-use std::fs;
 use std::os::unix::fs::MetadataExt;
+use std::{fs, io};
 
 const NAME: &str = "fund-jobs.sqlite";
 
@@ -65,47 +65,87 @@ fn compare<K: Keeper>(
     Ok(())
 }
 
+/// Has a keeper and the one in memory do a save.
+fn keep_both<K: Keeper>(
+    alloc: Global,
+    keeper: &mut K,
+    sure: &mut SureKeeper,
+    save: &Save,
+) -> Result<(), KeepFault> {
+    keep(alloc, keeper, save)?;
+    keep(alloc, sure, save)
+}
+
+/// A keeper saves once.
+fn save_one<K: Keeper>(
+    rt: &HostRuntime,
+    keeper: &mut K,
+    sure: &mut SureKeeper,
+) -> Result<(), Trouble> {
+    compare(rt, keeper, sure)?;
+    keep_both(rt.alloc(), keeper, sure, &A0)?;
+    Ok(())
+}
+
+/// A keeper saves two more.
+fn save_two<K: Keeper>(
+    rt: &HostRuntime,
+    keeper: &mut K,
+    sure: &mut SureKeeper,
+) -> Result<(), Trouble> {
+    compare(rt, keeper, sure)?;
+    keep_both(rt.alloc(), keeper, sure, &B0)?;
+    keep_both(rt.alloc(), keeper, sure, &A1)?;
+    Ok(())
+}
+
 /// A keeper saves and is dropped; another one made anew finds that, saves once more, and a third finds both.
 fn anew(rt: &HostRuntime, sure: &mut SureKeeper) -> Result<(), Trouble> {
-    let alloc = rt.alloc();
-    let mut first = SqliteKeeper::new(rt);
     println!(rt; "a new file")?;
-    compare(rt, &mut first, sure)?;
-    keep(alloc, &mut first, &A0)?;
-    keep(alloc, sure, &A0)?;
-    drop(first);
+    save_one(rt, &mut SqliteKeeper::new(rt), sure)?;
     println!(rt; "a keeper made anew")?;
-    let mut second = SqliteKeeper::new(rt);
-    compare(rt, &mut second, sure)?;
-    keep(alloc, &mut second, &B0)?;
-    keep(alloc, sure, &B0)?;
-    keep(alloc, &mut second, &A1)?;
-    keep(alloc, sure, &A1)?;
-    drop(second);
-    let mut third = SqliteKeeper::new(rt);
-    compare(rt, &mut third, sure)
+    save_two(rt, &mut SqliteKeeper::new(rt), sure)?;
+    compare(rt, &mut SqliteKeeper::new(rt), sure)
+}
+
+/// Prints how a load ends.
+fn show_load<K: Keeper>(rt: &HostRuntime, keeper: &mut K, what: &str) -> io::Result<()> {
+    println!(rt; "  {}: {}", what, name_of(keeper.load("a")))
+}
+
+/// Prints how a save ends.
+fn show_save<K: Keeper>(
+    rt: &HostRuntime,
+    keeper: &mut K,
+    what: &str,
+    save: &Save,
+) -> io::Result<()> {
+    println!(rt; "  {}: {}", what, name_of(keep(rt.alloc(), keeper, save)))
+}
+
+/// Prints how calls of two keepers end while the first holds the file.
+fn show_both<K: Keeper>(rt: &HostRuntime, first: &mut K, second: &mut K) -> io::Result<()> {
+    show_load(rt, first, "the first loads")?;
+    show_load(rt, second, "the second loads")?;
+    show_save(rt, second, "the second saves", &B0)?;
+    show_save(rt, first, "the first saves", &A1)
 }
 
 /// Two keepers at once: the second is refused while the first holds the file, and nothing is lost.
 fn two(rt: &HostRuntime, sure: &mut SureKeeper) -> Result<(), Trouble> {
-    let alloc = rt.alloc();
     println!(rt; "two keepers")?;
-    let mut first = SqliteKeeper::new(rt);
     let mut second = SqliteKeeper::new(rt);
-    println!(rt; "  the first loads: {}", name_of(first.load("a")))?;
-    println!(rt; "  the second loads: {}", name_of(second.load("a")))?;
-    println!(rt;
-        "  the second saves: {}",
-        name_of(keep(alloc, &mut second, &B0))
-    )?;
-    println!(rt;
-        "  the first saves: {}",
-        name_of(keep(alloc, &mut first, &A1))
-    )?;
-    keep(alloc, sure, &A1)?;
-    drop(first);
-    println!(rt; "  then the second loads: {}", name_of(second.load("a")))?;
+    show_both(rt, &mut SqliteKeeper::new(rt), &mut second)?;
+    keep(rt.alloc(), sure, &A1)?;
+    show_load(rt, &mut second, "then the second loads")?;
     compare(rt, &mut second, sure)
+}
+
+/// Prints how each call ends.
+fn show_calls<K: Keeper>(rt: &HostRuntime, keeper: &mut K) -> io::Result<()> {
+    show_load(rt, keeper, "load")?;
+    println!(rt; "  part: {}", name_of(keeper.part("a", 0)))?;
+    show_save(rt, keeper, "save", &A0)
 }
 
 /// Prints how each call ends over a file that isn't a job file, and whether it is as before.
@@ -113,26 +153,25 @@ fn foreign(rt: &HostRuntime, what: &str, bytes: &[u8]) -> Result<(), Trouble> {
     clear(rt);
     fs::write(rt, NAME, bytes)?;
     println!(rt; "{}", what)?;
-    let mut keeper = SqliteKeeper::new(rt);
-    println!(rt; "  load: {}", name_of(keeper.load("a")))?;
-    println!(rt; "  part: {}", name_of(keeper.part("a", 0)))?;
-    println!(rt; "  save: {}", name_of(keep(rt.alloc(), &mut keeper, &A0)))?;
-    drop(keeper);
+    show_calls(rt, &mut SqliteKeeper::new(rt))?;
     let now = fs::read(rt, NAME)?;
     println!(rt; "  as before: {}", say(now.as_slice() == bytes))?;
     Ok(())
 }
 
+/// Whether a file is its owner's alone.
+fn is_private(rt: &HostRuntime, name: &str) -> io::Result<bool> {
+    let mode = fs::metadata(rt, name)?.mode() & 0o777;
+    Ok(mode == 0o600)
+}
+
 /// What the file alone holds, without the log that lay beside it. The file is its owner's alone.
 fn alone(rt: &HostRuntime, sure: &mut SureKeeper) -> Result<(), Trouble> {
     println!(rt; "the file alone")?;
-    let mode = fs::metadata(rt, NAME)?.mode() & 0o777;
-    println!(rt; "  its owner's alone: {}", say(mode == 0o600))?;
-    let mode = fs::metadata(rt, LOG)?.mode() & 0o777;
-    println!(rt; "  and its log: {}", say(mode == 0o600))?;
+    println!(rt; "  its owner's alone: {}", say(is_private(rt, NAME)?))?;
+    println!(rt; "  and its log: {}", say(is_private(rt, LOG)?))?;
     fs::remove_file(rt, LOG)?;
-    let mut keeper = SqliteKeeper::new(rt);
-    compare(rt, &mut keeper, sure)
+    compare(rt, &mut SqliteKeeper::new(rt), sure)
 }
 
 /// Files that aren't job files: one of text, one of other tables, one of tables of these names but another shape, and
@@ -151,20 +190,20 @@ fn foreign_files(rt: &HostRuntime) -> Result<(), Trouble> {
     )
 }
 
+/// Prints how calls end while a folder has the name of the job file, and then without it.
+fn show_unmade<K: Keeper>(rt: &HostRuntime, keeper: &mut K) -> io::Result<()> {
+    show_load(rt, keeper, "load")?;
+    show_save(rt, keeper, "save", &A0)?;
+    fs::remove_dir(rt, NAME)?;
+    show_save(rt, keeper, "then save", &A0)
+}
+
 /// The name of the job file is a folder's.
-fn no_file(rt: &HostRuntime) -> Result<(), Trouble> {
+fn no_file(rt: &HostRuntime) -> io::Result<()> {
     clear(rt);
     fs::create_dir(rt, NAME)?;
     println!(rt; "a file that can't be made")?;
-    let mut keeper = SqliteKeeper::new(rt);
-    println!(rt; "  load: {}", name_of(keeper.load("a")))?;
-    println!(rt; "  save: {}", name_of(keep(rt.alloc(), &mut keeper, &A0)))?;
-    fs::remove_dir(rt, NAME)?;
-    println!(rt;
-        "  then save: {}",
-        name_of(keep(rt.alloc(), &mut keeper, &A0))
-    )?;
-    Ok(())
+    show_unmade(rt, &mut SqliteKeeper::new(rt))
 }
 
 /// Prints what is found in the job file.
@@ -175,5 +214,6 @@ pub(crate) fn show(rt: &HostRuntime) -> Result<(), Trouble> {
     two(rt, &mut sure)?;
     alone(rt, &mut sure)?;
     foreign_files(rt)?;
-    no_file(rt)
+    no_file(rt)?;
+    Ok(())
 }

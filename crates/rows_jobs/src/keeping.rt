@@ -5,7 +5,7 @@ use crate::saves::{Save, keep};
 use crate::trouble::Trouble;
 use fund_outside::{KeepFault, Keeper};
 use keep_sqlite::JobTables;
-use sqlite::{Connection, FileStore, Files, Options};
+use sqlite::{Alter, Connection, FileStore, Files, Options};
 use sqlite_disk::Disk;
 use std::alloc::Global;
 
@@ -30,12 +30,12 @@ impl Step {
     }
 }
 
-/// A keeper over files; these again, where they are refused.
+/// A database over files; these again, where they are refused.
 fn opened<D: Disk + Drop>(
     alloc: Global,
     files: Files<D>,
     options: Options,
-) -> Result<JobTables<FileStore<D>>, Files<D>> {
+) -> Result<Connection<FileStore<D>>, Files<D>> {
     if !files.log.may_be_used() {
         return Err(files);
     }
@@ -43,21 +43,8 @@ fn opened<D: Disk + Drop>(
         return Err(files);
     }
     match Connection::open_files(alloc, files, options) {
-        Ok(connection) => Ok(JobTables::adopt(connection)),
+        Ok(connection) => Ok(connection),
         Err((_, left)) => Err(left.into_files()),
-    }
-}
-
-/// The files of a keeper as they lie.
-fn left<D: Disk + Drop>(keeper: JobTables<FileStore<D>>) -> Files<D> {
-    keeper.into_connection().into_store().close()
-}
-
-/// The files of a keeper that is closed.
-fn closed<D: Disk + Drop>(keeper: JobTables<FileStore<D>>) -> (Step, Files<D>) {
-    match keeper.into_connection().close_files() {
-        Ok(files) => (Step::Done, files),
-        Err((_, store)) => (Step::Close, store.close()),
     }
 }
 
@@ -75,21 +62,37 @@ pub(crate) fn keep_all<K: Keeper>(
     Ok(())
 }
 
-/// Has a keeper do saves, and closes it if that is asked for.
-fn ended<D: Disk + Drop>(
+/// Has a keeper over a database do saves. Gives the database back where it is to be closed, and else what it stands on.
+fn kept<S: Alter + Drop>(
     alloc: Global,
-    keeper: JobTables<FileStore<D>>,
+    connection: Connection<S>,
     saves: &[Save],
     is_closed: bool,
-) -> (Step, Files<D>) {
-    let mut keeper = keeper;
-    if keep_all(alloc, &mut keeper, saves).is_err() {
-        return (Step::Save, left(keeper));
+) -> Result<Connection<S>, (Step, S)> {
+    let mut keeper = JobTables::adopt(connection);
+    let are_done = keep_all(alloc, &mut keeper, saves).is_ok();
+    let connection = keeper.into_connection();
+    if !are_done {
+        return Err((Step::Save, connection.into_store()));
     }
     if is_closed {
-        closed(keeper)
+        Ok(connection)
     } else {
-        (Step::Done, left(keeper))
+        Err((Step::Done, connection.into_store()))
+    }
+}
+
+/// What a keeper over a database is found to hold.
+fn judged<S: Alter + Drop>(connection: Connection<S>, due: &mut Due) -> Result<Found, Trouble> {
+    let mut keeper = JobTables::adopt(connection);
+    judge(&mut keeper, due)
+}
+
+/// The files of a database that is closed.
+fn closed<D: Disk + Drop>(connection: Connection<FileStore<D>>) -> (Step, Files<D>) {
+    match connection.close_files() {
+        Ok(files) => (Step::Done, files),
+        Err((_, store)) => (Step::Close, store.close()),
     }
 }
 
@@ -102,7 +105,10 @@ pub(crate) fn run<D: Disk + Drop>(
     is_closed: bool,
 ) -> (Step, Files<D>) {
     match opened(alloc, files, options) {
-        Ok(keeper) => ended(alloc, keeper, saves, is_closed),
+        Ok(connection) => match kept(alloc, connection, saves, is_closed) {
+            Ok(connection) => closed(connection),
+            Err((step, store)) => (step, store.close()),
+        },
         Err(files) => (Step::Open, files),
     }
 }
@@ -115,12 +121,7 @@ pub(crate) fn reopened<D: Disk + Drop>(
     due: &mut Due,
 ) -> Result<Found, Trouble> {
     match opened(alloc, files, options) {
-        Ok(keeper) => {
-            let mut keeper = keeper;
-            let found = judge(&mut keeper, due);
-            drop(left(keeper));
-            found
-        }
+        Ok(connection) => judged(connection, due),
         Err(_) => Ok(Found {
             state: State::Neither,
             is_other_same: false,

@@ -1,4 +1,4 @@
 use Rattle.keep_sqlite.proofs.job_file.SqliteKeeperKeeper.part.Goals as goal
 
 pub returns-clause-told : goal.returns-clause-told
-returns-clause-told g c = (c.part.result, c.part.ensures, c.told.ensures.told)
+returns-clause-told g c = (c.ask.result, c.ask.ensures, c.told.ensures.told)
