@@ -1,4 +1,5 @@
 mod MoneyLaws
 mod PaymentLaws
 pub mod Pieces
+mod ReadLaws
 mod RunLaws

@@ -35,18 +35,18 @@ reads_of told a files request report log k =
     let plan : PlainPlan = plan_of (held_of k.wallet k.blocks) k.asked in
     subst (λ (t : List ℕ). IsReportText t (kinds.Funded (told_of told a files request report log k))) (sym k.reports) (paid_reads history plan k.asked.tries k.funded k.plan k.steps k.outcome k.pays k.psbt)
 
-pub report_of_run : (told : Type 0) (a : Asked) (files : ShelfView) (said log : List ℕ) → IsRun told a files statuses.Done said log → (f : PlainFunded) × IsReportText said (kinds.Funded f)
-report_of_run told a files said log run =
+pub report_of_run : (told : Type 0) (a : Asked) (files after : ShelfView) (said log : List ℕ) → IsRun told a files after statuses.Done said log → (f : PlainFunded) × IsReportText said (kinds.Funded f)
+report_of_run told a files after said log run =
     let ends = run.ends (λ e. cc) in
     let printed : run.sink.written ≡ ends.0 = ends.4 tt in
     let f : PlainFunded = told_of told a files run.request ends.0 ends.1 ends.2 in
     (f, subst (λ (t : List ℕ). IsReportText t (kinds.Funded f)) (sym (run.said_is ∙ printed)) (reads_of told a files run.request ends.0 ends.1 ends.2))
 
 -- a run that is done came to the payment that was read from what it printed
-pub is_payment : (told : Type 0) (a : Asked) (files : ShelfView) (status : Status) (f : PlainFunded) (said bytes log : List ℕ) → IsRun told a files status said log → status ≡ statuses.Done → bytes ≡ said → IsReportText bytes (kinds.Funded f) → IsPayment told a files f log
-is_payment told a files status f said bytes log run done same report = record {
+pub is_payment : (told : Type 0) (a : Asked) (files after : ShelfView) (status : Status) (f : PlainFunded) (said bytes log : List ℕ) → IsRun told a files after status said log → status ≡ statuses.Done → bytes ≡ said → IsReportText bytes (kinds.Funded f) → IsPayment told a files after f log
+is_payment told a files after status f said bytes log run done same report = record {
   said = said;
-  run = subst (λ (s : Status). IsRun told a files s said log) done run;
+  run = subst (λ (s : Status). IsRun told a files after s said log) done run;
   report = subst (λ (t : List ℕ). IsReportText t (kinds.Funded f)) same report;
 }
 
@@ -64,8 +64,8 @@ other_count counts name other = rw (apart name request_name other.0, apart name 
 same_funded : (f g : PlainFunded) → kinds.Funded f ≡ kinds.Funded g → f ≡ g
 same_funded f g e = cc
 
-pub as_asked : (a : Asked) (files : ShelfView) (f : PlainFunded) (log : List ℕ) → IsOther (string_bytes a.names.wallet) → IsOther (string_bytes a.names.blocks) → IsPayment (Unit {0}) a files f log → IsAsAsked a files f log
-as_asked a files f log wallet_other blocks_other payment =
+pub as_asked : (a : Asked) (files after : ShelfView) (f : PlainFunded) (log : List ℕ) → IsOther (string_bytes a.names.wallet) → IsOther (string_bytes a.names.blocks) → IsPayment (Unit {0}) a files after f log → IsAsAsked a files f log
+as_asked a files after f log wallet_other blocks_other payment =
     let run = payment.run in
     let ends = run.ends (λ e. cc) in
     let k = ends.2 in

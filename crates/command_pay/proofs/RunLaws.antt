@@ -20,7 +20,7 @@ use Rattle.fund_top.specs.Due.{ComesTo, IsRefusal, IsTold, Outcome}
 use Rattle.fund_top.specs.Statuses.{Ends, EndsBroken, EndsInput, EndsLimited, EndsNotFunded, EndsNotKept, EndsUnfinished, EndsUnkept, EndsUnread, EndsUnwritten, EndsWithoutMemory, KeepsOthers, NoneFailed, NoneUnkept, NoneUnread, WhereFunding, status_of}
 use Rattle.fund_top.specs.Words.{Command, Fund, command_of, names_stand, payment, sources, where_stands}
 use Rattle.pay_words.specs.declared.asked.Asked.{Asked}
-use Rattle.command_pay.specs.Held.{log_name}
+use Rattle.command_pay.specs.Held.{IsBeside, log_name}
 use Rattle.command_pay.specs.declared.run.Run.{Run}
 use Rattle.command_pay.specs.Run.{IsRun, beside, command_for, empty_sink, held_names, no_jobs, sources_of}
 
@@ -94,7 +94,7 @@ keeps_others told a true o before now is none some t = held (λ c. KeepsOthers c
 keeps_others told a false o before now is none some t = λ name other. ap (λ (f : List ℕ → List ℕ). f name) (none is)
 
 -- a count that is none didn't rise
-none_rose : Rose 0 0 → ⊥
+pub none_rose : Rose 0 0 → ⊥
 none_rose h = let no : 1 ≤ 0 = h in absurd (omega arith)
 
 -- neither a log that is held nor what is printed in memory is unwritten
@@ -111,10 +111,10 @@ none_unwritten told a true o shelf shelf' sink sink' keeper keeper' result is no
 none_unwritten told a false o shelf shelf' sink sink' keeper keeper' result is none old new before after lost = λ e. absurd (let usage = none is in cc)
 
 -- The whole.
-pub is_run : (told : Type 0) (a : Asked) (files : ShelfView) (request said log : List ℕ) (o : Option Command) (shelf shelf' : ShelfView) (sink sink' : SinkView) (keeper keeper' : KeeperView) (result : Status) → Promises told o shelf shelf' sink sink' keeper keeper' result
+pub is_run : (told : Type 0) (a : Asked) (files after : ShelfView) (request said log : List ℕ) (o : Option Command) (shelf shelf' : ShelfView) (sink sink' : SinkView) (keeper keeper' : KeeperView) (result : Status) → Promises told o shelf shelf' sink sink' keeper keeper' result
     → o ≡ where_stands (names_stand (sources_of a) held_names) (command_for a) → shelf ≡ beside files request → sink ≡ empty_sink → keeper ≡ no_jobs → request_of request ≡ asked_of a.payments.items a.coins.items a.settings → request ≡ request_bytes a.payments.items a.coins.items a.settings → said ≡ sink'.written → log ≡ shelf'.files log_name → result ≢ statuses.WriteFault
-    → sink'.faults ≡ 0 → keeper'.faults ≡ 0 → IsRun told a files result said log
-is_run told a files request said log o shelf shelf' sink sink' keeper keeper' result promises words shelf_is sink_is keeper_is asks bytes said_is log_is unlost sink_sound keeper_sound =
+    → sink'.faults ≡ 0 → keeper'.faults ≡ 0 → IsBeside after shelf' → IsRun told a files after result said log
+is_run told a files after request said log o shelf shelf' sink sink' keeper keeper' result promises words shelf_is sink_is keeper_is asks bytes said_is log_is unlost sink_sound keeper_sound left =
     let by_shelf : Promises told o (beside files request) shelf' sink sink' keeper keeper' result = subst (λ (x : ShelfView). Promises told o x shelf' sink sink' keeper keeper' result) shelf_is promises in
     let by_sink : Promises told o (beside files request) shelf' empty_sink sink' keeper keeper' result = subst (λ (x : SinkView). Promises told o (beside files request) shelf' x sink' keeper keeper' result) sink_is by_shelf in
     let h : Promises told o (beside files request) shelf' empty_sink sink' no_jobs keeper' result = subst (λ (x : KeeperView). Promises told o (beside files request) shelf' empty_sink sink' x keeper' result) keeper_is by_sink in
@@ -127,6 +127,7 @@ is_run told a files request said log o shelf shelf' sink sink' keeper keeper' re
       shelf = shelf';
       sink = sink';
       keeper = keeper';
+      left = left;
       usage = is_usage (names_stand (sources_of a) held_names) c o result words h.usage;
       usage_line = h.usage_line;
       ends = λ apart. ends_by told (sources_of a) held_names o (beside files request) shelf' empty_sink sink' no_jobs keeper' result (found apart) h;
@@ -147,9 +148,9 @@ is_run told a files request said log o shelf shelf' sink sink' keeper keeper' re
     }
 
 -- the same of a run as it is told, if there was enough memory to tell it
-pub run_told : (told : Type 0) (a : Asked) (files : ShelfView) (status : Status) (said log : List ℕ) (it : Result Run Memory) → IfOk it (λ r. r.status ≡ status) → IfOk it (λ r. r.said.items ≡ said) → IfOk it (λ r. r.log.items ≡ log) → IsRun told a files status said log → IfOk it (λ r. IsRun told a files r.status r.said.items r.log.items)
-run_told told a files status said log (Ok r) status_is said_is log_is run =
-    let by_log : IsRun told a files status said r.log.items = subst (λ (t : List ℕ). IsRun told a files status said t) (sym log_is) run in
-    let by_said : IsRun told a files status r.said.items r.log.items = subst (λ (t : List ℕ). IsRun told a files status t r.log.items) (sym said_is) by_log in
-    subst (λ (s : Status). IsRun told a files s r.said.items r.log.items) (sym status_is) by_said
-run_told told a files status said log (Err e) status_is said_is log_is run = tt
+pub run_told : (told : Type 0) (a : Asked) (files after : ShelfView) (status : Status) (said log : List ℕ) (it : Result Run Memory) → IfOk it (λ r. r.status ≡ status) → IfOk it (λ r. r.said.items ≡ said) → IfOk it (λ r. r.log.items ≡ log) → IsRun told a files after status said log → IfOk it (λ r. IsRun told a files after r.status r.said.items r.log.items)
+run_told told a files after status said log (Ok r) status_is said_is log_is run =
+    let by_log : IsRun told a files after status said r.log.items = subst (λ (t : List ℕ). IsRun told a files after status said t) (sym log_is) run in
+    let by_said : IsRun told a files after status r.said.items r.log.items = subst (λ (t : List ℕ). IsRun told a files after status t r.log.items) (sym said_is) by_log in
+    subst (λ (s : Status). IsRun told a files after s r.said.items r.log.items) (sym status_is) by_said
+run_told told a files after status said log (Err e) status_is said_is log_is run = tt

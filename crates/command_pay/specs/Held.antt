@@ -1,5 +1,5 @@
 -- Files of which two are held in memory: a request that was made, and a log.
-use Rattle.std.specs.Prelude.{ℕ, List, ◌∷◌, codes, map, String, string_bytes, bytes_eq, if◌then◌else◌}
+use Rattle.std.specs.Prelude.{ℕ, ◌≡◌, List, ◌∷◌, codes, map, String, string_bytes, bytes_eq, if◌then◌else◌}
 use Rattle.std.specs.declared.alloc.Global.{Global}
 use Rattle.fund_base.specs.Causes.{ShelfView}
 
@@ -26,6 +26,13 @@ held_view other request log asked = record {
   writes = count_among other.writes;
   asked = asked;
 }
+
+-- A shelf that holds two files beside these, whatever the two are, and whatever was asked for of it.
+pub record IsBeside (files shelf : ShelfView) : Type 0 where
+  pub request : List ℕ
+  pub log : List ℕ
+  pub names : List (List ℕ)
+  pub is : shelf ≡ held_view files request log names
 
 -- files of which only reads are counted elsewhere: nothing is told of what they hold, and each count stands for every name
 abbrev pub new_file_view : ShelfView → ℕ → ShelfView

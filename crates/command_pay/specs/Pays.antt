@@ -19,8 +19,8 @@ abbrev pub most_for : Asked → ℕ
 most_for a = fee_ceiling a.max_fee a.payments.items
 
 -- A payment whose fee is taken.
-pub record IsTaken (told : Type 0) (a : Asked) (files : ShelfView) (f : PlainFunded) (log : List ℕ) : Type 0 where
-  pub payment : IsPayment told a files f log
+pub record IsTaken (told : Type 0) (a : Asked) (files after : ShelfView) (f : PlainFunded) (log : List ℕ) : Type 0 where
+  pub payment : IsPayment told a files after f log
   pub fee : f.fee ≤ most_for a
 
 -- the log of a payment is written, where it is asked for
@@ -56,15 +56,16 @@ abbrev pub PutStops : (told : Type 0) → Asked → (log : List ℕ) → ShelfVi
 PutStops told a log old new (puts.Unwritten file) = IsLost told a log file old new
 PutStops told a log old new puts.Memory = HasLogAtMost told a log old new
 
--- Files are read at one shelf, and new ones are written at another; each tells of its content where it does. Paid: the payment is
+-- Files are read at one shelf, before and after the call, and new ones are written at another; each tells of its content where
+-- it does. Paid: the payment is
 -- taken, and its new files are written. Its fee is too high: nothing is written. Not paid: the run wasn't done, and nothing is
 -- written. A new file wasn't written. There was not enough memory: nothing is written, or the log of a payment that is taken.
-abbrev pub Pays : (told told_new : Type 0) → Asked → ShelfView → ShelfView → ShelfView → Ending → Type 0
-Pays told told_new a files old new (Paid report log) =
-    IsTaken told a files report log.items × HasBoth told_new a report log.items old new
-Pays told told_new a files old new (HighFee fee most) =
-    (f : PlainFunded) × (log : List ℕ) × IsPayment told a files f log × (fee ≡ f.fee) × (most ≡ most_for a) × (most < fee) × (new ≡ old)
-Pays told told_new a files old new (NotPaid status said) = (log : List ℕ) × IsRun told a files status said.items log × (status ≢ statuses.Done) × (new ≡ old)
-Pays told told_new a files old new (Unwritten file) = (f : PlainFunded) × (log : List ℕ) × IsTaken told a files f log × IsLost told_new a log file old new
-Pays told told_new a files old new Memory =
-    IsStill told_new old new ⊎ ((f : PlainFunded) × (log : List ℕ) × IsTaken told a files f log × HasLogAtMost told_new a log old new)
+abbrev pub Pays : (told told_new : Type 0) → Asked → (files after : ShelfView) → (old new : ShelfView) → Ending → Type 0
+Pays told told_new a files after old new (Paid report log) =
+    IsTaken told a files after report log.items × HasBoth told_new a report log.items old new
+Pays told told_new a files after old new (HighFee fee most) =
+    (f : PlainFunded) × (log : List ℕ) × IsPayment told a files after f log × (fee ≡ f.fee) × (most ≡ most_for a) × (most < fee) × (new ≡ old)
+Pays told told_new a files after old new (NotPaid status said) = (log : List ℕ) × IsRun told a files after status said.items log × (status ≢ statuses.Done) × (new ≡ old)
+Pays told told_new a files after old new (Unwritten file) = (f : PlainFunded) × (log : List ℕ) × IsTaken told a files after f log × IsLost told_new a log file old new
+Pays told told_new a files after old new Memory =
+    IsStill told_new old new ⊎ ((f : PlainFunded) × (log : List ℕ) × IsTaken told a files after f log × HasLogAtMost told_new a log old new)

@@ -20,7 +20,7 @@ use Rattle.fund_top.specs.Due.{ComesTo, IsRefusal, Outcome}
 use Rattle.fund_top.specs.Statuses.{Ends, KeepsOthers, NoneFailed, NoneUnkept, NoneUnread, status_of}
 use Rattle.fund_top.specs.Words.{Command, Fund, names_stand}
 use Rattle.pay_words.specs.declared.asked.Asked.{Asked}
-use Rattle.command_pay.specs.Held.{held_view, log_name, request_name}
+use Rattle.command_pay.specs.Held.{IsBeside, held_view, log_name, request_name}
 
 -- the files from which its coins are told
 abbrev pub sources_of : Asked → Sources
@@ -50,14 +50,16 @@ no_jobs = record { jobs = λ _. None; faults = 0 }
 -- the request file of it. It had this status, these bytes were printed, and this is the log that it left. All that is promised
 -- of that command is true of it: how it ends by its status, what it asks for, and which status is due. Its words are no command
 -- exactly where a name of a file is empty, or is that of the log. Its log and what it prints are held in memory, so that no
--- write of it fails, and no job is kept, so that no keeper does.
-pub record IsRun (told : Type 0) (a : Asked) (files : ShelfView) (status : Status) (said log : List ℕ) : Type 0 where
+-- write of it fails, and no job is kept, so that no keeper does. What it left of the files is what they are afterwards: a count
+-- of failed reads that rose is one of theirs.
+pub record IsRun (told : Type 0) (a : Asked) (files after : ShelfView) (status : Status) (said log : List ℕ) : Type 0 where
   pub request : List ℕ
   pub asks : request_of request ≡ asked_of a.payments.items a.coins.items a.settings
   pub bytes : request ≡ request_bytes a.payments.items a.coins.items a.settings
   pub shelf : ShelfView
   pub sink : SinkView
   pub keeper : KeeperView
+  pub left : IsBeside after shelf
   pub usage : (status ≡ statuses.Usage) ↔ (names_stand (sources_of a) held_names ≡ false)
   pub usage_line : status ≡ statuses.Usage → GotLine (fault_line (codes "usage")) empty_sink sink
   pub ends : status ≢ statuses.Usage → Ends told (Unit {0}) (Unit {0}) (command_for a) (beside files request) shelf empty_sink sink no_jobs keeper status
@@ -77,7 +79,7 @@ pub record IsRun (told : Type 0) (a : Asked) (files : ShelfView) (status : Statu
   pub log_is : log ≡ shelf.files log_name
 
 -- The payment that such a run came to: it is done, and what it printed is the report of this payment. A text has one report.
-pub record IsPayment (told : Type 0) (a : Asked) (files : ShelfView) (f : PlainFunded) (log : List ℕ) : Type 0 where
+pub record IsPayment (told : Type 0) (a : Asked) (files after : ShelfView) (f : PlainFunded) (log : List ℕ) : Type 0 where
   pub said : List ℕ
-  pub run : IsRun told a files statuses.Done said log
+  pub run : IsRun told a files after statuses.Done said log
   pub report : IsReportText said (kinds.Funded f)

@@ -2,8 +2,8 @@
 use Rattle.std.specs.Prelude.{ℕ, List, ◌++◌, codes, string_bytes}
 use Rattle.std.specs.List.{flat_map}
 use Rattle.hex.specs.Hex.{encode_lower}
-use Rattle.fault_text.specs.Coin.{coin_text}
-use Rattle.fault_text.specs.Name.{shown_name}
+use Rattle.command_end.specs.Coin.{coin_text}
+use Rattle.command_end.specs.Name.{shown_name}
 use Rattle.fund_report.specs.PlainFunded.{PlainFunded}
 use Rattle.fund_report.specs.declared.report.InLine.{InLine}
 use Rattle.request_making.specs.declared.payment.Payee.{Payee}

@@ -24,7 +24,7 @@ mod written;
 pub use change::is_change_listed;
 pub use fees::{fee_ceiling, is_fee_taken};
 pub use held::{RequestShelf, log_name, request_name};
-pub use laws::{money_goes_as_asked, payments_are_as_asked};
+pub use laws::{failed_reads_are_counted, money_goes_as_asked, payments_are_as_asked};
 pub use lines::mark_sentence;
 pub use new_files::NewFileShelf;
 pub use outcome::{Ending, NewFile};

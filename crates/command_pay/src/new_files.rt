@@ -1,6 +1,6 @@
 //! The files of the system. A write asks for a new file.
 
-ghost use Rattle.std.specs.Prelude.{◌≡◌, ◌≢◌, ◌≤◌, length, IfOk, OnErr, OnOk, IsErrOf, IsTrue, Err, Ok};
+ghost use Rattle.std.specs.Prelude.{◌≡◌, ◌≢◌, ◌≤◌, [], length, IfOk, OnErr, OnOk, IsErrOf, IsTrue, Err, Ok};
 ghost use Rattle.std.specs.Fs.{asks_create_new, asks_write};
 ghost use Rattle.fund_base.specs.Causes.{NeverFall, Rose, one_more};
 
@@ -19,8 +19,11 @@ pub struct NewFileShelf<'a, R: Files> {
 }
 
 impl<'a, R: Files> NewFileShelf<'a, R> {
+    ghost use Rattle.fund_base.specs.FileShelf.{view_of};
+
     /// The files that `rt` reaches, without a failure so far.
     pub fn new(rt: &'a R) -> NewFileShelf<'a, R>
+        ensures files { view_of result.files ≡ record { files = λ _. []; reads = λ _. 0; writes = λ _. 0; asked = [] } }
         ensures writes { result.writes ≡ 0 }
     {
         NewFileShelf {

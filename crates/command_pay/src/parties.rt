@@ -4,7 +4,7 @@ ghost use Rattle.std.specs.Prelude.{◌≡◌, IfOk, string_bytes};
 ghost use Rattle.command_pay.specs.Table.{payee_text, pays_line, spends_line};
 
 use crate::lines::money_text;
-use fault_text::{coin_text, shown_name};
+use command_end::{coin_text, shown_name};
 use fund_base::{Memory, are_bytes};
 use fund_report::InLine;
 use request_making::{Payee, Payment};

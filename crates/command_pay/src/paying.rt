@@ -66,7 +66,7 @@ pub fn pay_asked<H: Shelf + Drop, N: Shelf>(
     new_files: &mut N,
 ) -> (Ending, H)
     requires { HasTwoNames asked.now }
-    ensures pays { Pays H.tells N.tells asked.now (H.view files) (N.view new_files.old) (N.view new_files.new) result.0 }
+    ensures pays { Pays H.tells N.tells asked.now (H.view files) (H.view result.1) (N.view new_files.old) (N.view new_files.new) result.0 }
     ensures files { KeepsFiles H.tells (H.view files) (H.view result.1) }
 {
     let (ended, files) = run_asked(alloc, asked, files);
@@ -105,7 +105,7 @@ pub fn pay<H: Shelf + Drop, N: Shelf>(
     ensures words { YieldsAll OutOfMemory (λ r. plain_asked r.0) result.0 (asked_in drawn words.now) }
     ensures unasked { IfErr result.0 (λ fault. (N.view new_files.new) ≡ (N.view new_files.old)) }
     ensures unread { IfErr result.0 (λ fault. (H.view result.1) ≡ (H.view files)) }
-    ensures pays { IfOk result.0 (λ r. Pays H.tells N.tells r.0 (H.view files) (N.view new_files.old) (N.view new_files.new) r.1) }
+    ensures pays { IfOk result.0 (λ r. Pays H.tells N.tells r.0 (H.view files) (H.view result.1) (N.view new_files.old) (N.view new_files.new) r.1) }
     ensures files { KeepsFiles H.tells (H.view files) (H.view result.1) }
 {
     let asked = match read_pay(alloc, words, drawn) {

@@ -17,7 +17,7 @@ use pay_words::Asked;
 use std::alloc::Global;
 
 /// What a run came to: its status, what it printed, and its log.
-#[derive(Debug, Drop)]
+#[derive(Drop)]
 pub struct Run {
     /// Its status.
     pub status: Status,
@@ -41,7 +41,7 @@ fn fund_words(alloc: Global, asked: &Asked) -> Result<Vec<String>, Memory>
 }
 
 /// The request of what is asked, and the words of the command that reads it.
-#[derive(Debug, Drop)]
+#[derive(Drop)]
 struct Due {
     request: Vec<u8>,
     words: Vec<String>,
@@ -76,7 +76,7 @@ pub fn run_asked<H: Shelf + Drop>(
     asked: &Asked,
     files: H,
 ) -> (Result<Run, Memory>, H)
-    ensures run { IfOk result.0 (λ r. IsRun H.tells asked.now (H.view files) r.status r.said.items r.log.items) }
+    ensures run { IfOk result.0 (λ r. IsRun H.tells asked.now (H.view files) (H.view result.1) r.status r.said.items r.log.items) }
     ensures files { KeepsFiles H.tells (H.view files) (H.view result.1) }
 {
     let Due { request, words } = match due_for(alloc, asked) {

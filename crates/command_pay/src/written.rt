@@ -10,7 +10,7 @@ use fund_report::FundedReport;
 use pay_words::Asked;
 
 /// Why the new files aren't written.
-#[derive(Clone, Copy, Debug)]
+#[derive(Clone, Copy)]
 pub enum PutFault {
     /// The writing of this one failed.
     Unwritten(NewFile),

@@ -17,29 +17,29 @@ use Rattle.command_pay.proofs.paying.pay_asked.Goals as goal
 
 pub payment_in-requires : goal.payment_in-requires
 payment_in-requires g c =
-    let ran : IsRun g.H.Shelf.tells c.args.asked.now (g.H.Shelf.view c.args.files) c.in-Ok.run'.status c.in-Ok.run'.said.items c.in-Ok.run'.log.items = subst (λ (x : Result Run Memory). IfOk x (λ r. IsRun g.H.Shelf.tells c.args.asked.now (g.H.Shelf.view c.args.files) r.status r.said.items r.log.items)) c.in-Ok.is c.run_asked-ended.ensures.run in
+    let ran : IsRun g.H.Shelf.tells c.args.asked.now (g.H.Shelf.view c.args.files) (g.H.Shelf.view c.run_asked-ended.result.1) c.in-Ok.run'.status c.in-Ok.run'.said.items c.in-Ok.run'.log.items = subst (λ (x : Result Run Memory). IfOk x (λ r. IsRun g.H.Shelf.tells c.args.asked.now (g.H.Shelf.view c.args.files) (g.H.Shelf.view c.run_asked-ended.result.1) r.status r.said.items r.log.items)) c.in-Ok.is c.run_asked-ended.ensures.run in
     let done : c.in-Ok.run'.status ≡ statuses.Done = c.is_done.ensures.0 c.if-not-is_done.false in
-    let run : IsRun g.H.Shelf.tells c.args.asked.now (g.H.Shelf.view c.args.files) statuses.Done c.in-Ok.run'.said.items c.in-Ok.run'.log.items = subst (λ (s : Status). IsRun g.H.Shelf.tells c.args.asked.now (g.H.Shelf.view c.args.files) s c.in-Ok.run'.said.items c.in-Ok.run'.log.items) done ran in
-    let found = report_of_run g.H.Shelf.tells c.args.asked.now (g.H.Shelf.view c.args.files) c.in-Ok.run'.said.items c.in-Ok.run'.log.items run in
+    let run : IsRun g.H.Shelf.tells c.args.asked.now (g.H.Shelf.view c.args.files) (g.H.Shelf.view c.run_asked-ended.result.1) statuses.Done c.in-Ok.run'.said.items c.in-Ok.run'.log.items = subst (λ (s : Status). IsRun g.H.Shelf.tells c.args.asked.now (g.H.Shelf.view c.args.files) (g.H.Shelf.view c.run_asked-ended.result.1) s c.in-Ok.run'.said.items c.in-Ok.run'.log.items) done ran in
+    let found = report_of_run g.H.Shelf.tells c.args.asked.now (g.H.Shelf.view c.args.files) (g.H.Shelf.view c.run_asked-ended.result.1) c.in-Ok.run'.said.items c.in-Ok.run'.log.items run in
     (found.0, subst (λ (t : List ℕ). IsReportText t (kinds.Funded found.0)) (sym c.deref.ensures.value) found.1)
 
 pub returns-then-not-takes-clause-pays : goal.returns-then-not-takes-clause-pays
 returns-then-not-takes-clause-pays g c =
-    let ran : IsRun g.H.Shelf.tells c.args.asked.now (g.H.Shelf.view c.args.files) c.in-Ok.run'.status c.in-Ok.run'.said.items c.in-Ok.run'.log.items = subst (λ (x : Result Run Memory). IfOk x (λ r. IsRun g.H.Shelf.tells c.args.asked.now (g.H.Shelf.view c.args.files) r.status r.said.items r.log.items)) c.in-Ok.is c.run_asked-ended.ensures.run in
+    let ran : IsRun g.H.Shelf.tells c.args.asked.now (g.H.Shelf.view c.args.files) (g.H.Shelf.view c.run_asked-ended.result.1) c.in-Ok.run'.status c.in-Ok.run'.said.items c.in-Ok.run'.log.items = subst (λ (x : Result Run Memory). IfOk x (λ r. IsRun g.H.Shelf.tells c.args.asked.now (g.H.Shelf.view c.args.files) (g.H.Shelf.view c.run_asked-ended.result.1) r.status r.said.items r.log.items)) c.in-Ok.is c.run_asked-ended.ensures.run in
     let f : PlainFunded = c.in-Ok-payment_in.report in
     let log : List ℕ = c.in-Ok.run'.log.items in
     let done : c.in-Ok.run'.status ≡ statuses.Done = c.is_done.ensures.0 c.if-not-is_done.false in
-    let payment : IsPayment g.H.Shelf.tells c.args.asked.now (g.H.Shelf.view c.args.files) f log = is_payment _ _ _ c.in-Ok.run'.status f c.in-Ok.run'.said.items c.deref.result.now log ran done c.deref.ensures.value c.in-Ok-payment_in.ensures in
+    let payment : IsPayment g.H.Shelf.tells c.args.asked.now (g.H.Shelf.view c.args.files) (g.H.Shelf.view c.run_asked-ended.result.1) f log = is_payment _ _ _ _ c.in-Ok.run'.status f c.in-Ok.run'.said.items c.deref.result.now log ran done c.deref.ensures.value c.in-Ok-payment_in.ensures in
     let less : most_for c.args.asked.now < f.fee = lt_of_not-le (λ h. let yes = c.takes.ensures.1 h in let no = c.if-not-takes.true in cc) in
-    subst (λ (e : Ending). Pays g.H.Shelf.tells g.N.Shelf.tells c.args.asked.now (g.H.Shelf.view c.args.files) (g.N.Shelf.view c.args.new_files.now) (g.N.Shelf.view c.args.new_files.now) e) (sym c.high_fee.ensures) (f, log, payment, refl, refl, less, refl)
+    subst (λ (e : Ending). Pays g.H.Shelf.tells g.N.Shelf.tells c.args.asked.now (g.H.Shelf.view c.args.files) (g.H.Shelf.view c.run_asked-ended.result.1) (g.N.Shelf.view c.args.new_files.now) (g.N.Shelf.view c.args.new_files.now) e) (sym c.high_fee.ensures) (f, log, payment, refl, refl, less, refl)
 
 pub returns-clause-pays : goal.returns-clause-pays
 returns-clause-pays g c =
-    let ran : IsRun g.H.Shelf.tells c.args.asked.now (g.H.Shelf.view c.args.files) c.in-Ok.run'.status c.in-Ok.run'.said.items c.in-Ok.run'.log.items = subst (λ (x : Result Run Memory). IfOk x (λ r. IsRun g.H.Shelf.tells c.args.asked.now (g.H.Shelf.view c.args.files) r.status r.said.items r.log.items)) c.in-Ok.is c.run_asked-ended.ensures.run in
+    let ran : IsRun g.H.Shelf.tells c.args.asked.now (g.H.Shelf.view c.args.files) (g.H.Shelf.view c.run_asked-ended.result.1) c.in-Ok.run'.status c.in-Ok.run'.said.items c.in-Ok.run'.log.items = subst (λ (x : Result Run Memory). IfOk x (λ r. IsRun g.H.Shelf.tells c.args.asked.now (g.H.Shelf.view c.args.files) (g.H.Shelf.view c.run_asked-ended.result.1) r.status r.said.items r.log.items)) c.in-Ok.is c.run_asked-ended.ensures.run in
     let f : PlainFunded = c.in-Ok-payment_in.report in
     let log : List ℕ = c.in-Ok.run'.log.items in
     let done : c.in-Ok.run'.status ≡ statuses.Done = c.is_done.ensures.0 c.if-not-is_done.false in
-    let payment : IsPayment g.H.Shelf.tells c.args.asked.now (g.H.Shelf.view c.args.files) f log = is_payment _ _ _ c.in-Ok.run'.status f c.in-Ok.run'.said.items c.deref.result.now log ran done c.deref.ensures.value c.in-Ok-payment_in.ensures in
+    let payment : IsPayment g.H.Shelf.tells c.args.asked.now (g.H.Shelf.view c.args.files) (g.H.Shelf.view c.run_asked-ended.result.1) f log = is_payment _ _ _ _ c.in-Ok.run'.status f c.in-Ok.run'.said.items c.deref.result.now log ran done c.deref.ensures.value c.in-Ok-payment_in.ensures in
     let stop : HasLogAtMost g.N.Shelf.tells c.args.asked.now c.deref-2.result.now (g.N.Shelf.view c.args.new_files.now) (g.N.Shelf.view c.put_files.new.new_files) = subst (λ (x : PutFault). PutStops g.N.Shelf.tells c.args.asked.now c.deref-2.result.now (g.N.Shelf.view c.args.new_files.now) (g.N.Shelf.view c.put_files.new.new_files) x) c.in-Err-Memory.field-0-is c.in-Err-Memory.ensures.stop in
     let most : HasLogAtMost g.N.Shelf.tells c.args.asked.now log (g.N.Shelf.view c.args.new_files.now) (g.N.Shelf.view c.put_files.new.new_files) = subst (λ (t : List ℕ). HasLogAtMost g.N.Shelf.tells c.args.asked.now t (g.N.Shelf.view c.args.new_files.now) (g.N.Shelf.view c.put_files.new.new_files)) c.deref-2.ensures.value stop in
     inr (f, log, record { payment = payment; fee = c.takes.ensures.0 c.if-not-takes.false }, most)

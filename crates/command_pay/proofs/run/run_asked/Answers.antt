@@ -6,7 +6,7 @@ use Rattle.fund_outside.specs.Kept.{KeeperView}
 use Rattle.fund_outside.specs.SureKeeper.{view_of as keeper_view}
 use Rattle.command_end.specs.declared.status.Status.TheVariants as statuses
 use Rattle.fund_top.specs.Words.{Command, command_of, names_stand}
-use Rattle.command_pay.specs.Held.{held_view}
+use Rattle.command_pay.specs.Held.{IsBeside, held_view}
 use Rattle.pay_words.specs.declared.asked.Asked.{Asked}
 use Rattle.command_pay.specs.Run.{held_names, sources_of}
 use Rattle.command_pay.specs.Written.{KeepsFiles}
@@ -52,9 +52,16 @@ returns-clause-run g c =
       all_put = e.all_put;
     } in
     let apart : c.run-status.result ≢ statuses.WriteFault = none_unwritten g.H.Shelf.tells asked (names_stand (sources_of asked) held_names) o shelf shelf' sink sink' keeper keeper' c.run-status.result c.in-Ok.ensures.words e.usage.1 refl refl refl refl e.write_fault in
-    run_told g.H.Shelf.tells asked (g.H.Shelf.view c.args.files) c.run-status.result c.written.result.now c.log.result.now c.run_of-ended.result c.run_of-ended.ensures.status c.run_of-ended.ensures.said c.run_of-ended.ensures.log
-    (is_run g.H.Shelf.tells asked (g.H.Shelf.view c.args.files) c.in-Ok.due.request.items c.written.result.now c.log.result.now o shelf shelf' sink sink' keeper keeper' c.run-status.result promises
-    c.in-Ok.ensures.words c.new-shelf.ensures c.new-out.ensures c.new-keeper.ensures.view c.in-Ok.ensures.asks c.in-Ok.ensures.bytes c.written.ensures c.log.ensures apart refl refl)
+    let after : ShelfView = g.H.Shelf.view c.into_files.result in
+    let left : IsBeside after shelf' = record {
+      request = s'.request.items;
+      log = s'.log.items;
+      names = map string_bytes s'.asked.items;
+      is = ap (λ (v : ShelfView). held_view v s'.request.items s'.log.items (map string_bytes s'.asked.items)) (sym c.into_files.ensures);
+    } in
+    run_told g.H.Shelf.tells asked (g.H.Shelf.view c.args.files) after c.run-status.result c.written.result.now c.log.result.now c.run_of-ended.result c.run_of-ended.ensures.status c.run_of-ended.ensures.said c.run_of-ended.ensures.log
+    (is_run g.H.Shelf.tells asked (g.H.Shelf.view c.args.files) after c.in-Ok.due.request.items c.written.result.now c.log.result.now o shelf shelf' sink sink' keeper keeper' c.run-status.result promises
+    c.in-Ok.ensures.words c.new-shelf.ensures c.new-out.ensures c.new-keeper.ensures.view c.in-Ok.ensures.asks c.in-Ok.ensures.bytes c.written.ensures c.log.ensures apart refl refl left)
 
 pub returns-clause-files : goal.returns-clause-files
 returns-clause-files g c =
