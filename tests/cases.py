@@ -9,7 +9,7 @@ import re
 from kept_jobs import read_jobs
 
 TOP = pathlib.Path(__file__).resolve().parent.parent
-DATA = TOP / "crates" / "rows_fund" / "data"
+DATA = TOP / "crates" / "rows_commands" / "data"
 EXAMPLE = TOP / "crates" / "fund_cli" / "data"
 THREE = ("wallet.json", "blocks.dat", "request.json")
 FUND = ["fund", *THREE, "LOG"]

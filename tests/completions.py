@@ -5,7 +5,7 @@
 
 FOLDER has fund/, with a folder for each case in which are wallet.json, blocks.dat and stdout, which `fund` printed; and
 psbt.tsv, PSBTs with their faults, which were worked out apart. The PSBT of each case that is funded is made whole here, by
-the definitions of crates/psbt_complete/specs and crates/command_complete/specs done again. Rows for refusals, limits, failures
+the definitions of crates/command_complete/specs done again. Rows for refusals, limits, failures
 and PSBTs that are made whole twice are made of the first of these; their answers are stated by hand beside them. It shares
 no code with the program, and needs Python alone.
 """

@@ -5,14 +5,14 @@ use fund_base::Memory;
 use report_check::CheckFault;
 
 /// A file that is judged.
-#[derive(Clone, Copy, Debug, PartialEq, Eq)]
+#[derive(Clone, Copy)]
 pub enum Evidence {
     Report,
     Log,
 }
 
 /// Why the command stops before it says that a report is accepted.
-#[derive(Debug, Drop)]
+#[derive(Drop)]
 pub enum Stop {
     /// A file of the payment stops it, as it stops the command that funds the payment.
     Payment(PaymentStop),

@@ -2,12 +2,12 @@
 
 ghost use Rattle.std.specs.Prelude.{◌≡◌, ◌++◌, ◌∷◌, codes, IfOk, string_bytes};
 ghost use Rattle.std.specs.Fmt.{decimal};
-ghost use Rattle.fault_text.specs.Words.{log_fault_words};
+ghost use Rattle.command_end.specs.Words.{log_fault_words};
 ghost use Rattle.command_check.specs.Words.{accepted_text, check_fault_words, evidence_word};
 
 use crate::stop::Evidence;
 use closing_log::Worded;
-use fault_text::{coin_text, log_fault_words, psbt_fault_words};
+use command_end::{coin_text, log_fault_words, psbt_fault_words};
 use fund_base::Memory;
 use fund_report::Report;
 use log_checker::LogFault;

@@ -5,8 +5,8 @@ use Rattle.fund_base.specs.declared.candidate.Candidate.{Candidate}
 use Rattle.payment_states.specs.declared.state.Payment.{Payment}
 use Rattle.payment_states.specs.declared.state.State.{State}
 use Rattle.payment_states.specs.declared.state.State.TheVariants as states
-use Rattle.fault_text.specs.Coin.{coin_text, shown_hash}
-use Rattle.fault_text.specs.Lines.{lines_text}
+use Rattle.command_end.specs.Coin.{coin_text, shown_hash}
+use Rattle.command_end.specs.LinesText.{lines_text}
 
 -- the chain's height, and the hash of its last block
 unfoldable pub tip_line : ℕ → List ℕ → List ℕ

@@ -1,7 +1,7 @@
 //! The listing as one text.
 
 ghost use Rattle.std.specs.Prelude.{◌≡◌, ◌++◌, IfOk, OnOk, map, string_bytes};
-ghost use Rattle.fault_text.specs.Lines.{lines_text};
+ghost use Rattle.command_end.specs.LinesText.{lines_text};
 ghost use Rattle.command_coins.specs.Listing.{coin_line, listing_of, payment_line};
 
 use crate::lines::{coin_line, payment_line, tip_line};

@@ -3,13 +3,13 @@ use Rattle.std.proofs.Common.{◌≡◌, ◌∙◌, ◌++◌, ◌<◌, ◌^◌, 
 use Rattle.std.specs.Fmt.{decimal}
 use Rattle.fault_laws.proofs.OtherFaults.{psbt_apart}
 use Rattle.fault_laws.proofs.WordLaws.{after, decimal_apart, decimal_plain, differ, peel}
-use Rattle.fault_text.proofs.CoinLaws.{coins_apart}
-use Rattle.fault_text.specs.Coin.{IsShown, coin_text}
-use Rattle.fault_text.specs.Words.{psbt_fault_words}
+use Rattle.command_end.proofs.CoinLaws.{coins_apart}
+use Rattle.command_end.specs.Coin.{IsShown, coin_text}
+use Rattle.command_end.specs.Words.{psbt_fault_words}
 use Rattle.fund_base.specs.declared.outpoint.OutPoint.{OutPoint}
 use Rattle.psbt_codec.specs.declared.fault.PsbtFault.{PsbtFault}
 use Rattle.psbt_codec.specs.declared.fault.PsbtFault.TheVariants as psbts
-use Rattle.psbt_complete.specs.declared.fault.CompleteFault.TheVariants.{Missing, OtherOutput, Memory}
+use Rattle.command_complete.specs.declared.fault.CompleteFault.TheVariants.{Missing, OtherOutput, Memory}
 use Rattle.command_complete.specs.Numbers.{HasNumbers}
 use Rattle.command_complete.specs.Words.{input_fault_words, refusal_words}
 use Rattle.command_complete.specs.declared.stop.Refusal.{Refusal}

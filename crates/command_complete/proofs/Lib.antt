@@ -1,7 +1,12 @@
 pub mod ApartLaws
 pub mod AskingLaws
+pub mod CompletedLaws
 pub mod EndsLaws
+pub mod InputLaws
+pub mod LoopLaws
 pub mod OutcomeLaws
+pub mod PaymentLaws
+pub mod PsbtLaws
 pub mod RepeatLaws
 pub mod StopLaws
 pub mod TextLaws

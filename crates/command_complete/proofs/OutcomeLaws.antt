@@ -10,10 +10,10 @@ use Rattle.fund_files.specs.declared.held.Held.{Held}
 use Rattle.psbt_codec.specs.PartialTransaction.{PartialTransaction}
 use Rattle.psbt_codec.specs.Text.{psbt_text}
 use Rattle.psbt_codec.specs.declared.fault.PsbtFault.{PsbtFault}
-use Rattle.psbt_complete.proofs.CompletedLaws.{no_fault, one_completed, one_first}
-use Rattle.psbt_complete.specs.Completed.{IsCompleted, known_of}
-use Rattle.psbt_complete.specs.Faults.{IsFirstFault}
-use Rattle.psbt_complete.specs.declared.fault.CompleteFault.{CompleteFault}
+use Rattle.command_complete.proofs.CompletedLaws.{no_fault, one_completed, one_first}
+use Rattle.command_complete.specs.Completed.{IsCompleted, known_of}
+use Rattle.command_complete.specs.Faults.{IsFirstFault}
+use Rattle.command_complete.specs.declared.fault.CompleteFault.{CompleteFault}
 use Rattle.report_check.proofs.SpendLaws.{one_psbt, one_psbt_fault, psbt_apart}
 use Rattle.command_end.specs.Names.{Sources}
 use Rattle.command_complete.specs.Due.{BadPsbt, ComesTo, Completed, HasBook, IsMadeWhole, IsTooLong, IsWithin, Outcome, Refused, TooLong}

@@ -4,8 +4,8 @@ use Rattle.std.proofs.Math.Seq.{get_or-append_seam, take-append_seam}
 use Rattle.coin_book.specs.History.{History}
 use Rattle.psbt_codec.specs.PartialTransaction.{PartialTransaction}
 use Rattle.psbt_codec.specs.Text.{psbt_text}
-use Rattle.psbt_complete.proofs.CompletedLaws.{one_completed, stays}
-use Rattle.psbt_complete.specs.Completed.{IsCompleted}
+use Rattle.command_complete.proofs.CompletedLaws.{one_completed, stays}
+use Rattle.command_complete.specs.Completed.{IsCompleted}
 use Rattle.report_check.proofs.SpendLaws.{one_psbt}
 use Rattle.command_complete.specs.Made.{IsCompletedFile, IsSpelled, line_of}
 

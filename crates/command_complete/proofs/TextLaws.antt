@@ -10,10 +10,10 @@ use Rattle.psbt_codec.specs.Reading.{read_of}
 use Rattle.psbt_codec.specs.Text.{psbt_text}
 use Rattle.psbt_codec.specs.declared.fault.PsbtFault.{PsbtFault}
 use Rattle.psbt_codec.specs.declared.fault.PsbtFault.TheVariants as psbts
-use Rattle.psbt_complete.specs.Completed.{known_of}
-use Rattle.psbt_complete.specs.Faults.{IsFirstFault}
-use Rattle.psbt_complete.specs.declared.fault.CompleteFault.{CompleteFault}
-use Rattle.psbt_complete.specs.declared.fault.CompleteFault.TheVariants as inputs
+use Rattle.command_complete.specs.Completed.{known_of}
+use Rattle.command_complete.specs.Faults.{IsFirstFault}
+use Rattle.command_complete.specs.declared.fault.CompleteFault.{CompleteFault}
+use Rattle.command_complete.specs.declared.fault.CompleteFault.TheVariants as inputs
 use Rattle.report_check.specs.Payment.{HasPsbtFault, IsPsbtText}
 use Rattle.command_complete.specs.Made.{IsSpelled, IsSpelledOtherwise, line_of}
 use Rattle.command_complete.specs.Stops.{StopsAtFile, StopsAtText, stop_of_input, stop_of_psbt}

@@ -7,7 +7,7 @@ use Rattle.fund_files.specs.Chain.{history_of}
 use Rattle.fund_files.specs.Contents.{HasChain}
 use Rattle.fund_files.specs.Refusals.{IsChainCause}
 use Rattle.psbt_codec.specs.PartialTransaction.{PartialTransaction}
-use Rattle.psbt_complete.specs.Completed.{IsCompleted}
+use Rattle.command_complete.specs.Completed.{IsCompleted}
 use Rattle.wallet_text.specs.PlainWallet.{PlainWallet}
 use Rattle.command_end.specs.Lines.{status_of_file}
 use Rattle.command_end.specs.Names.{Sources}

@@ -1,5 +1,7 @@
 pub mod Asked
+pub mod Completed
 pub mod Due
+pub mod Faults
 pub mod Made
 pub mod Numbers
 pub mod Statuses

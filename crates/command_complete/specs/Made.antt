@@ -3,8 +3,8 @@ use Rattle.std.specs.Prelude.{ℕ, ◌≡◌, ◌≢◌, ◌-◌, ◌==◌, List
 use Rattle.coin_book.specs.History.{History}
 use Rattle.psbt_codec.specs.PartialTransaction.{PartialTransaction}
 use Rattle.psbt_codec.specs.Text.{psbt_text}
-use Rattle.psbt_complete.specs.Completed.{IsCompleted, known_of}
-use Rattle.psbt_complete.specs.Faults.{IsFirstFault}
+use Rattle.command_complete.specs.Completed.{IsCompleted, known_of}
+use Rattle.command_complete.specs.Faults.{IsFirstFault}
 use Rattle.report_check.specs.Payment.{HasPsbtFault, IsPsbtText}
 use Rattle.command_complete.specs.declared.stop.Refusal.{Refusal}
 use Rattle.command_complete.specs.declared.stop.Refusal.TheVariants.{Psbt, OtherPairs, Input}

@@ -1,7 +1,7 @@
 -- The numbers and the coin of a refusal, as those of every refusal of the command are.
 use Rattle.fault_laws.specs.Numbers.{HasPsbtNumbers, IsNumber}
-use Rattle.fault_text.specs.Coin.{IsShown}
-use Rattle.psbt_complete.specs.declared.fault.CompleteFault.TheVariants.{Missing, OtherOutput, Memory}
+use Rattle.command_end.specs.Coin.{IsShown}
+use Rattle.command_complete.specs.declared.fault.CompleteFault.TheVariants.{Missing, OtherOutput, Memory}
 use Rattle.command_complete.specs.declared.stop.Refusal.{Refusal}
 use Rattle.command_complete.specs.declared.stop.Refusal.TheVariants as refusals
 

@@ -8,8 +8,8 @@ use Rattle.fund_files.specs.FileStops.{StopsChain}
 use Rattle.fund_files.specs.declared.stop.Stop.TheVariants as chains
 use Rattle.psbt_codec.specs.declared.fault.PsbtFault.{PsbtFault}
 use Rattle.psbt_codec.specs.declared.fault.PsbtFault.TheVariants as psbts
-use Rattle.psbt_complete.specs.declared.fault.CompleteFault.{CompleteFault}
-use Rattle.psbt_complete.specs.declared.fault.CompleteFault.TheVariants as inputs
+use Rattle.command_complete.specs.declared.fault.CompleteFault.{CompleteFault}
+use Rattle.command_complete.specs.declared.fault.CompleteFault.TheVariants as inputs
 use Rattle.report_check.specs.Payment.{HasPsbtFault}
 use Rattle.command_end.specs.Names.{Sources}
 use Rattle.command_complete.specs.Due.{BadPsbt, ComesTo, HasBook, IsTooLong, TooLong}

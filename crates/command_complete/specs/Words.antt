@@ -1,11 +1,11 @@
 -- How a PSBT that isn't made whole is answered.
 use Rattle.std.specs.Prelude.{ℕ, ◌≡◌, List, ◌∷◌, ◌++◌, codes}
 use Rattle.std.specs.Fmt.{decimal}
-use Rattle.fault_text.specs.Coin.{coin_text}
-use Rattle.fault_text.specs.Words.{psbt_fault_words}
+use Rattle.command_end.specs.Coin.{coin_text}
+use Rattle.command_end.specs.Words.{psbt_fault_words}
 use Rattle.fund_base.specs.Causes.{SinkView}
-use Rattle.psbt_complete.specs.declared.fault.CompleteFault.{CompleteFault}
-use Rattle.psbt_complete.specs.declared.fault.CompleteFault.TheVariants.{Missing, OtherOutput, Memory}
+use Rattle.command_complete.specs.declared.fault.CompleteFault.{CompleteFault}
+use Rattle.command_complete.specs.declared.fault.CompleteFault.TheVariants.{Missing, OtherOutput, Memory}
 use Rattle.command_coins.specs.Answer as chains
 use Rattle.command_end.specs.AnswerLines.{IsAnswered, IsWanting}
 use Rattle.command_end.specs.Lines.{GotLine, fault_line}

@@ -4,12 +4,21 @@
 
 mod answer;
 mod command;
+mod fault;
 mod files;
+mod input;
 mod laws;
 mod making;
+mod psbt;
 mod stop;
+mod whole_laws;
 mod words;
 
 pub use command::complete;
+pub use fault::CompleteFault;
 pub use laws::{completed_files_stay, completions_have_one_outcome, refusals_are_told_apart};
+pub use psbt::complete_psbt;
 pub use stop::Refusal;
+pub use whole_laws::{
+    completed_psbts_are_one, completed_stay, completions_are_psbts, payments_are_made_whole,
+};

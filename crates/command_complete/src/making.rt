@@ -8,12 +8,12 @@ ghost use Rattle.command_complete.specs.Stops.{StopsAtFile, StopsAtText, stop_of
 ghost use Rattle.command_complete.specs.declared.stop.Refusal.TheVariants as refusals;
 ghost use Rattle.command_complete.specs.declared.stop.Stop.TheVariants as stops;
 
+use crate::psbt::complete_psbt;
 use crate::stop::{Refusal, Stop};
 use coin_book::Book;
 use fund_base::{Memory, are_bytes};
 use fund_files::Held;
 use psbt_codec::{Psbt, PsbtFault, from_text, read_psbt, to_text, write_psbt, write_text};
-use psbt_complete::complete;
 use std::alloc::Global;
 
 /// The bytes of a file without the line feed at their end, where one stands there.
@@ -91,7 +91,7 @@ fn completed_text(alloc: Global, book: &Book, file: &[u8]) -> Result<Vec<u8>, St
     ensures stop { IfErr result (StopsAtFile book.now file.now) }
 {
     let psbt = spelled(alloc, line_of(file))?;
-    let completed = complete(alloc, book, &psbt)?;
+    let completed = complete_psbt(alloc, book, &psbt)?;
     let mut text = text_of(alloc, &completed)?;
     match text.push(b'\n') {
         Ok(()) => Ok(text),

@@ -1,9 +1,9 @@
 //! Why a PSBT isn't made whole.
 
+use crate::fault::CompleteFault;
 use fund_base::Memory;
 use fund_files::Stop as ChainStop;
 use psbt_codec::PsbtFault;
-use psbt_complete::CompleteFault;
 
 /// Why a PSBT file is refused. No fault within it is that there was not enough memory.
 #[derive(Clone, Copy, Debug, PartialEq, Eq)]
@@ -17,7 +17,7 @@ pub enum Refusal {
 }
 
 /// Why the command stops before it prints a PSBT.
-#[derive(Debug, Drop)]
+#[derive(Drop)]
 pub enum Stop {
     /// The wallet file or the block file stops it.
     Chain(ChainStop),

@@ -3,10 +3,10 @@
 ghost use Rattle.std.specs.Prelude.{◌≡◌, IfOk, string_bytes};
 ghost use Rattle.command_complete.specs.Words.{input_fault_words, refusal_words};
 
+use crate::fault::CompleteFault;
 use crate::stop::Refusal;
-use fault_text::{coin_text, psbt_fault_words};
+use command_end::{coin_text, psbt_fault_words};
 use fund_base::Memory;
-use psbt_complete::CompleteFault;
 use std::alloc::Global;
 
 /// What is wrong with an input: the variant's name, the input's index and the outpoint that it spends. It refuses only when

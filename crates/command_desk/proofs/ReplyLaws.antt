@@ -5,9 +5,9 @@ use Rattle.std.proofs.Common.{refl, sym, ap, ◌∙◌}
 use Rattle.base64.specs.Engines.{standard}
 use Rattle.base64.specs.GeneralPurpose.{encode_of}
 use Rattle.closing_log.specs.MarkWord.{mark_word}
-use Rattle.fault_text.specs.Coin.{coin_text, shown_hash}
-use Rattle.fault_text.specs.Name.{shown_name}
-use Rattle.fault_text.specs.Words.{address_fault_words, feed_fault_words, request_fault_words, tx_fault_words}
+use Rattle.command_end.specs.Coin.{coin_text, shown_hash}
+use Rattle.command_end.specs.Name.{shown_name}
+use Rattle.command_end.specs.Words.{address_fault_words, feed_fault_words, request_fault_words, tx_fault_words}
 use Rattle.json_fields.specs.declared.fault.FieldFault.{FieldFault}
 use Rattle.json_fields.specs.declared.fault.FieldFault.TheVariants as fields
 use Rattle.request_text.specs.Told.{plain_fault}

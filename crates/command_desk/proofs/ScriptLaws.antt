@@ -3,7 +3,7 @@ use Rattle.std.specs.Prelude.{ℕ, ◌≡◌, ◌≢◌, ◌==◌, ◌++◌, Lis
 use Rattle.std.proofs.Common.{refl, sym, ap, ◌∙◌, subst, cond, append_assoc}
 use Rattle.std.proofs.lemmas.Bool.{eqb-false, eqb-true, ne_eqb}
 use Rattle.std.proofs.lemmas.List.Elements.{All-cons, All-head, All-nil, All-tail}
-use Rattle.fault_text.specs.Lines.{lines_text}
+use Rattle.command_end.specs.LinesText.{lines_text}
 use Rattle.command_desk.specs.Script.{AreLines, before_part, last_line, lines_of}
 
 abbrev IsPlain : List ℕ → Type 0

@@ -6,8 +6,8 @@ use Rattle.base64.specs.GeneralPurpose.{encode_of}
 use Rattle.closing_log.specs.MarkWord.{mark_word}
 use Rattle.coin_book.specs.declared.fault.BookFault.{BookFault}
 use Rattle.coin_book.specs.declared.fault.BookFault.TheVariants as books
-use Rattle.fault_text.specs.Coin.{coin_text, shown_hash}
-use Rattle.fault_text.specs.Words.{feed_fault_words, request_fault_words, tx_fault_words}
+use Rattle.command_end.specs.Coin.{coin_text, shown_hash}
+use Rattle.command_end.specs.Words.{feed_fault_words, request_fault_words, tx_fault_words}
 use Rattle.fund_steps.specs.declared.fault.PlanFault.{PlanFault}
 use Rattle.fund_steps.specs.declared.fault.PlanFault.TheVariants as plans
 use Rattle.desk_machine.specs.declared.reply.Refusal.{Refusal}

@@ -1,6 +1,6 @@
 -- The lines of a script, and the words of a line.
 use Rattle.std.specs.Prelude.{ℕ, ◌≡◌, ◌≢◌, ◌==◌, ◌++◌, List, [], ◌∷◌, All, Option, Some, None, if◌then◌else◌}
-use Rattle.fault_text.specs.Lines.{lines_text}
+use Rattle.command_end.specs.LinesText.{lines_text}
 
 -- a byte at the front of the first of these parts
 abbrev pub before_part : ℕ → List (List ℕ) → List (List ℕ)

@@ -6,7 +6,7 @@ ghost use Rattle.command_desk.specs.Halts.{put_halt_of, read_halt_of};
 use fund_base::{Fault, ReadError};
 
 /// Why a line isn't done. The run of the script ends there.
-#[derive(Clone, Copy, Debug, PartialEq, Eq)]
+#[derive(Clone, Copy, PartialEq, Eq)]
 pub enum Halt {
     /// A read of the line's file failed.
     Unread,

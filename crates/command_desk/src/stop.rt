@@ -7,7 +7,7 @@ use fund_base::ReadError;
 use fund_files::Stop as ChainStop;
 
 /// Why the reading stops before the first line is done.
-#[derive(Debug, Drop)]
+#[derive(Drop)]
 pub enum Stop {
     /// The wallet or the blocks stop it.
     Chain(ChainStop),

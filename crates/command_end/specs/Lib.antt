@@ -1,5 +1,9 @@
 pub mod AnswerLines
+pub mod Coin
 pub mod Lines
+pub mod LinesText
+pub mod Name
 pub mod Names
 pub mod Printed
 pub mod StatusCode
+pub mod Words

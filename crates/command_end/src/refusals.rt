@@ -6,10 +6,13 @@ ghost use Rattle.fund_files.specs.Cause.{cause_of};
 ghost use Rattle.command_end.specs.AnswerLines.{IsAnswered};
 ghost use Rattle.command_end.specs.Lines.{file_refusal_words, file_word, status_of_file};
 
+use crate::block_words::feed_fault_words;
+use crate::coin_words::coin_text;
 use crate::named::put_named;
 use crate::output::{put_fault, want_of_memory};
+use crate::request_words::request_fault_words;
 use crate::status::Status;
-use fault_text::{coin_text, feed_fault_words, request_fault_words, wallet_fault_words};
+use crate::wallet_words::wallet_fault_words;
 use fund_base::{Memory, Sink};
 use fund_files::{File, FileRefusal};
 use std::alloc::Global;

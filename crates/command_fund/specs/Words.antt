@@ -1,6 +1,6 @@
 -- What a refusal says, and how a payment that stops is answered.
 use Rattle.std.specs.Prelude.{ℕ, ◌≡◌, List, ◌++◌, codes}
-use Rattle.fault_text.specs.Words.{bump_fault_words, plan_fault_words}
+use Rattle.command_end.specs.Words.{bump_fault_words, plan_fault_words}
 use Rattle.fund_base.specs.Causes.{SinkView}
 use Rattle.command_end.specs.AnswerLines.{IsAnswered, IsWanting}
 use Rattle.command_end.specs.Lines.{GotLine, fault_line, file_refusal_words}

@@ -12,10 +12,9 @@ ghost use Rattle.command_fund.specs.Words.{IsStopped, refusal_words};
 use crate::names::Payment;
 use crate::refusal::{Refusal, Stop};
 use command_end::{
-    Sources, Status, file_refusal_words, file_status, put_fault, refuse_keep, refuse_read,
-    want_of_memory,
+    Sources, Status, bump_fault_words, file_refusal_words, file_status, plan_fault_words,
+    put_fault, refuse_keep, refuse_read, want_of_memory,
 };
-use fault_text::{bump_fault_words, plan_fault_words};
 use fund_base::{Memory, Sink};
 use fund_files::File;
 use fund_steps::PlanFault;

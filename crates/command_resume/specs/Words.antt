@@ -1,7 +1,7 @@
 -- What a kept job's fault says, and its status.
 use Rattle.std.specs.Prelude.{ℕ, List, ◌∷◌, ◌++◌, codes}
 use Rattle.std.specs.Fmt.{decimal}
-use Rattle.fault_text.specs.Words.{log_fault_words}
+use Rattle.command_end.specs.Words.{log_fault_words}
 use Rattle.fund_base.specs.Causes.{SinkView}
 use Rattle.hex.specs.Hex.{encode_lower}
 use Rattle.kept_job.specs.declared.fault.KeptFault.{KeptFault}

@@ -4,7 +4,7 @@ use command_fund::Stop as FundStop;
 use kept_job::KeptFault;
 
 /// Why the command stops before it writes or prints.
-#[derive(Debug, Drop)]
+#[derive(Drop)]
 pub enum Stop {
     /// A file wasn't read or is refused, or no plan is made of the request.
     Funding(FundStop),

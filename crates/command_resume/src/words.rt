@@ -4,8 +4,7 @@ ghost use Rattle.std.specs.Prelude.{◌≡◌, ◌++◌, ◌∷◌, codes, IfOk,
 ghost use Rattle.hex.specs.Hex.{encode_lower};
 ghost use Rattle.command_resume.specs.Words.{kept_status, kept_words};
 
-use command_end::Status;
-use fault_text::log_fault_words;
+use command_end::{Status, log_fault_words};
 use fund_base::Memory;
 use kept_job::KeptFault;
 use log_checker::LogFault;

@@ -8,7 +8,7 @@ use std::alloc::Global;
 use wallet_text::Watch;
 
 /// What the coins of a workload pay to.
-#[derive(Clone, Copy, Debug, PartialEq, Eq)]
+#[derive(Clone, Copy)]
 pub(crate) enum Kind {
     /// A witness program of version 0 with a hash of twenty bytes (BIP 141).
     WitnessKeyHash,

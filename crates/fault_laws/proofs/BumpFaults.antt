@@ -7,9 +7,9 @@ use Rattle.fee_bump.specs.declared.fault.BumpFault.TheVariants as bumps
 use Rattle.fund_base.specs.declared.outpoint.OutPoint.{OutPoint}
 use Rattle.payment_states.specs.declared.state.State.{State}
 use Rattle.payment_states.specs.declared.state.State.TheVariants as states
-use Rattle.fault_text.proofs.CoinLaws.{coins_apart}
-use Rattle.fault_text.specs.Coin.{coin_text, shown_hash}
-use Rattle.fault_text.specs.Words.{bump_fault_words, found_words, state_words}
+use Rattle.command_end.proofs.CoinLaws.{coins_apart}
+use Rattle.command_end.specs.Coin.{coin_text, shown_hash}
+use Rattle.command_end.specs.Words.{bump_fault_words, found_words, state_words}
 use Rattle.fault_laws.specs.Numbers.{HasBumpNumbers, HasStateNumbers}
 use Rattle.fault_laws.proofs.OtherFaults.{shown}
 use Rattle.fault_laws.proofs.ShownLaws.{hash_apart}

@@ -14,9 +14,9 @@ use Rattle.wallet_text.specs.Told.{refusal_of}
 use Rattle.wallet_text.specs.declared.fault.Refusal.TheVariants as refusals
 use Rattle.wallet_text.specs.declared.fault.WalletFault.{WalletFault}
 use Rattle.wallet_text.specs.declared.fault.WalletFault.TheVariants as wallets
-use Rattle.fault_text.specs.Coin.{shown_hash}
-use Rattle.fault_text.specs.Name.{shown_name}
-use Rattle.fault_text.specs.Words.{address_fault_words, feed_fault_words, request_fault_words, tx_fault_words, wallet_fault_words}
+use Rattle.command_end.specs.Coin.{shown_hash}
+use Rattle.command_end.specs.Name.{shown_name}
+use Rattle.command_end.specs.Words.{address_fault_words, feed_fault_words, request_fault_words, tx_fault_words, wallet_fault_words}
 use Rattle.fault_laws.specs.Numbers.{HasFeedNumbers, HasRequestNumbers, HasWalletNumbers}
 use Rattle.fault_laws.proofs.OtherFaults.{address_apart}
 use Rattle.fault_laws.proofs.ShownLaws.{hash_apart, hash_long, name_apart, name_plain}

@@ -12,9 +12,9 @@ use Rattle.psbt_codec.specs.declared.fault.PsbtFault.TheVariants as psbts
 use Rattle.segwit_addr.specs.declared.fault.AddrFault.{AddrFault}
 use Rattle.segwit_addr.specs.declared.fault.AddrFault.TheVariants as addresses
 use Rattle.tx_codec.specs.declared.fault.TxFault.{TxFault}
-use Rattle.fault_text.proofs.CoinLaws.{coins_apart}
-use Rattle.fault_text.specs.Coin.{IsShown, coin_text}
-use Rattle.fault_text.specs.Words.{address_fault_words, log_fault_words, plan_fault_words, psbt_fault_words, tx_fault_words}
+use Rattle.command_end.proofs.CoinLaws.{coins_apart}
+use Rattle.command_end.specs.Coin.{IsShown, coin_text}
+use Rattle.command_end.specs.Words.{address_fault_words, log_fault_words, plan_fault_words, psbt_fault_words, tx_fault_words}
 use Rattle.fault_laws.specs.Numbers.{HasLogNumbers, HasPlanNumbers, HasPsbtNumbers}
 use Rattle.fault_laws.proofs.TxFaults.{tx_apart}
 use Rattle.fault_laws.proofs.WordLaws.{after, decimal_apart, differ}

@@ -5,7 +5,7 @@ use Rattle.json_fields.proofs.CoinLaws as coins
 use Rattle.json_fields.proofs.NumberLaws as numbers
 use Rattle.json_fields.specs.Fields.{IsHash, IsPoint, coin_in, hash_in}
 use Rattle.json_fields.specs.Rules.{IsCoinText}
-use Rattle.fault_text.specs.Coin.{coin_text, shown_hash}
+use Rattle.command_end.specs.Coin.{coin_text, shown_hash}
 
 pub hash_back : (hash : List ℕ) → IsHash hash → hash_in (shown_hash hash) ≡ Some hash
 hash_back hash is = numbers.lower hash is

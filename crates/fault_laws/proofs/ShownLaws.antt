@@ -5,10 +5,10 @@ use Rattle.std.proofs.lemmas.List.{length-reverse}
 use Rattle.hex.specs.Hex.{lower_digits}
 use Rattle.hex.proofs.HexLemmas.{length-encode_with}
 use Rattle.json_fields.specs.Fields.{IsHash}
-use Rattle.fault_text.proofs.CoinLaws.{hashes_apart}
-use Rattle.fault_text.proofs.NameLaws.{printable, apart}
-use Rattle.fault_text.specs.Coin.{shown_hash}
-use Rattle.fault_text.specs.Name.{shown_name}
+use Rattle.command_end.proofs.CoinLaws.{hashes_apart}
+use Rattle.command_end.proofs.NameLaws.{printable, apart}
+use Rattle.command_end.specs.Coin.{shown_hash}
+use Rattle.command_end.specs.Name.{shown_name}
 use Rattle.fault_laws.proofs.WordLaws.{NoBlank, name_bytes, printable_plain}
 
 pub name_apart : {Z : Type 0} (a b : String Z) → shown_name (string_bytes a) ≡ shown_name (string_bytes b) → string_bytes a ≡ string_bytes b

@@ -3,7 +3,7 @@ use Rattle.std.proofs.Common.{◌≡◌, ℕ, codes, refl, ap}
 use Rattle.std.specs.Fmt.{decimal}
 use Rattle.tx_codec.specs.declared.fault.TxFault.{TxFault}
 use Rattle.tx_codec.specs.declared.fault.TxFault.TheVariants as txs
-use Rattle.fault_text.specs.Words.{tx_fault_words}
+use Rattle.command_end.specs.Words.{tx_fault_words}
 use Rattle.fault_laws.specs.Numbers.{HasTxNumbers}
 use Rattle.fault_laws.proofs.WordLaws.{after, decimal_apart, differ}
 

@@ -17,8 +17,8 @@ ghost use Rattle.segwit_addr.specs.declared.fault.AddrFault.{AddrFault};
 ghost use Rattle.tx_codec.specs.declared.fault.TxFault.{TxFault};
 ghost use Rattle.wallet_text.specs.Told.{refusal_of};
 ghost use Rattle.wallet_text.specs.declared.fault.WalletFault.{WalletFault};
-ghost use Rattle.fault_text.specs.Coin.{coin_text, shown_hash};
-ghost use Rattle.fault_text.specs.Words.{address_fault_words, bump_fault_words, feed_fault_words, log_fault_words, plan_fault_words, psbt_fault_words, request_fault_words, tx_fault_words, wallet_fault_words};
+ghost use Rattle.command_end.specs.Coin.{coin_text, shown_hash};
+ghost use Rattle.command_end.specs.Words.{address_fault_words, bump_fault_words, feed_fault_words, log_fault_words, plan_fault_words, psbt_fault_words, request_fault_words, tx_fault_words, wallet_fault_words};
 ghost use Rattle.fault_laws.specs.Numbers.{HasBumpNumbers, HasFeedNumbers, HasLogNumbers, HasPlanNumbers, HasPsbtNumbers, HasRequestNumbers, HasTxNumbers, HasWalletNumbers};
 
 /// The law of the words of a transaction's faults: two that are printed alike are the same, with the same field.

@@ -2,7 +2,7 @@
 use Rattle.std.proofs.Common.{◌≡◌, codes, refl, string_bytes}
 use Rattle.std.specs.declared.string.String.{String}
 use Rattle.fault_lines.specs.Sentences.{request_kind_sentence, request_member_sentence, wallet_kind_sentence}
-use Rattle.fault_text.specs.Name.{shown_name}
+use Rattle.command_end.specs.Name.{shown_name}
 use Rattle.fault_lines.proofs.WordLaws.{same_name}
 
 pub wallet_kind_shown : {Z : Type 0} (name : String Z) → wallet_kind_sentence (shown_name (string_bytes name)) ≡ wallet_kind_sentence (string_bytes name)

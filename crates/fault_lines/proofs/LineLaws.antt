@@ -20,8 +20,8 @@ use Rattle.fee_bump.specs.declared.fault.BumpFault.{BumpFault}
 use Rattle.fee_bump.specs.declared.fault.BumpFault.TheVariants as bumps
 use Rattle.psbt_codec.specs.declared.fault.PsbtFault.{PsbtFault}
 use Rattle.psbt_codec.specs.declared.fault.PsbtFault.TheVariants as psbts
-use Rattle.fault_text.specs.Name.{shown_name}
-use Rattle.fault_text.specs.Words.{address_fault_words, bump_fault_words, feed_fault_words, plan_fault_words, found_words, psbt_fault_words, request_fault_words, state_words, tx_fault_words, wallet_fault_words}
+use Rattle.command_end.specs.Name.{shown_name}
+use Rattle.command_end.specs.Words.{address_fault_words, bump_fault_words, feed_fault_words, plan_fault_words, found_words, psbt_fault_words, request_fault_words, state_words, tx_fault_words, wallet_fault_words}
 use Rattle.fault_laws.proofs.ShownLaws.{name_plain}
 use Rattle.fault_laws.proofs.WordLaws.{decimal_plain}
 use Rattle.fault_laws.specs.Numbers.{HasRequestNumbers, HasWalletNumbers}

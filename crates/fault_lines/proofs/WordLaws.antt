@@ -12,8 +12,8 @@ use Rattle.std.proofs.lemmas.List.Elements.{All-cons, All-head, All-nil, All-tai
 use Rattle.std.proofs.lemmas.Slice.Eq.{bytes_eq-Decides}
 use Rattle.std.proofs.lemmas.Bool.Decides.{Decides-like, same_from_decides}
 use Rattle.fault_laws.proofs.WordLaws.{NoBlank, name_bytes}
-use Rattle.fault_text.proofs.NameLaws.{apart, plain, printable}
-use Rattle.fault_text.specs.Name.{shown_name, stands_plain}
+use Rattle.command_end.proofs.NameLaws.{apart, plain, printable}
+use Rattle.command_end.specs.Name.{shown_name, stands_plain}
 use Rattle.fault_lines.specs.Word.{after_word, is_no_blank, word}
 
 -- a byte that is printable passes the test

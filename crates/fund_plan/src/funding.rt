@@ -35,7 +35,7 @@ use std::alloc::Global;
 use std::marker::Model;
 
 /// What a request says of the coins that may be chosen.
-#[derive(Clone, Copy, Debug, PartialEq, Eq)]
+#[derive(Clone, Copy)]
 pub struct Choice {
     /// Whether pending coins of the wallet's own may be spent.
     pub zero_conf: bool,

@@ -25,7 +25,7 @@ use search_run::Step;
 use std::alloc::Global;
 
 /// A row that keeps more than 10,000 groups.
-#[derive(Clone, Copy, Debug, PartialEq, Eq)]
+#[derive(Clone, Copy)]
 pub struct Crowded {
     /// The row's number.
     pub number: u8,

@@ -12,7 +12,7 @@ use command_fund::Payment;
 use fund_base::read_decimal;
 
 /// What is to be done.
-#[derive(Clone, Copy, Debug)]
+#[derive(Clone, Copy)]
 pub enum Command<'a> {
     /// To list the pending payments and the coins that may be spent.
     Coins(Sources<'a>),

@@ -14,7 +14,7 @@ use Rattle.fault_lines.specs.Sentences.{psbt_sentence}
 use Rattle.fund_files.specs.declared.refusal.File.TheVariants as files
 use Rattle.fund_files.specs.declared.refusal.FileRefusal.{FileRefusal}
 use Rattle.fund_files.specs.declared.refusal.FileRefusal.TheVariants as refused
-use Rattle.psbt_complete.specs.declared.fault.CompleteFault.TheVariants as inputs
+use Rattle.command_complete.specs.declared.fault.CompleteFault.TheVariants as inputs
 use Rattle.line_laws.specs.Sentences.{HasFileNumbers, HasPaymentNumbers, completion_sentence, file_sentence, payment_sentence}
 
 pub file_told : (r : FileRefusal) → HasFileNumbers r → line_sentence (fault_line (file_refusal_words r)) ≡ Some (file_sentence r)

@@ -13,7 +13,7 @@ use Rattle.fund_files.specs.declared.refusal.File.{File}
 use Rattle.fund_files.specs.declared.refusal.File.TheVariants as files
 use Rattle.fund_files.specs.declared.refusal.FileRefusal.{FileRefusal}
 use Rattle.fund_files.specs.declared.refusal.FileRefusal.TheVariants as refused
-use Rattle.psbt_complete.specs.declared.fault.CompleteFault.TheVariants as inputs
+use Rattle.command_complete.specs.declared.fault.CompleteFault.TheVariants as inputs
 
 -- a file that is longer than its limit
 abbrev pub limit_sentence : File → List ℕ

@@ -1,8 +1,8 @@
 //! What is shown as JSON: one object on one line.
 
 use closing_log::Worded;
+use command_end::coin_text;
 use command_pay::mark_sentence;
-use fault_text::coin_text;
 use fund_base::Memory;
 use fund_report::{FundedReport, InLine};
 use pay_words::Asked;

@@ -10,7 +10,7 @@ use crate::flag::{Flag, flag_of, is_same, may_repeat, takes_value};
 use std::alloc::Global;
 
 /// A flag that was given.
-#[derive(Clone, Copy, Debug)]
+#[derive(Clone, Copy)]
 pub struct Given {
     /// Which flag it is.
     pub flag: Flag,

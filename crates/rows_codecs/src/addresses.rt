@@ -1,7 +1,7 @@
 //! Addresses read and written.
 
 use crate::words::{self, RowError};
-use fault_text::address_fault_words;
+use command_end::address_fault_words;
 use fund_base::Script;
 use segwit_addr::{decode, encode};
 use std::alloc::Global;

@@ -4,7 +4,7 @@ use crate::block_files;
 use crate::pieces::Pieces;
 use crate::words::{self, RowError};
 use block_feed::{Block, Feed, FeedFault};
-use fault_text::{feed_fault_words, shown_hash};
+use command_end::{feed_fault_words, shown_hash};
 use fund_base::{MemShelf, Shelf, SureShelf};
 use std::alloc::Global;
 use tx_codec::{txid, weight};

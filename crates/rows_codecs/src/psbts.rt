@@ -2,7 +2,7 @@
 
 use crate::transactions;
 use crate::words::{self, RowError};
-use fault_text::{shown_hash, tx_fault_words};
+use command_end::{shown_hash, tx_fault_words};
 use psbt_codec::{Psbt, PsbtFault, Spent, from_text, read_psbt, to_text, write_psbt, write_text};
 use std::alloc::Global;
 use tx_codec::{txid, write_tx};

@@ -1,7 +1,7 @@
 //! Transactions read and written.
 
 use crate::words::{self, RowError};
-use fault_text::{shown_hash, tx_fault_words};
+use command_end::{shown_hash, tx_fault_words};
 use fund_base::{Cursor, OutPoint, Sat, Txid};
 use std::alloc::Global;
 use tx_codec::{

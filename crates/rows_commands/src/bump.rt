@@ -2,67 +2,49 @@
 //! request names is made from, or why there is none. The wallet has no blocks.
 
 ghost use Rattle.std.specs.Prelude.{◌<◌, IsSome};
-ghost use Rattle.payment_states.specs.BookOf.{IsBookOf};
+ghost use Rattle.fund_files.specs.Chain.{IsHeld};
 
 use crate::bump_lines::{fault_text, terms_text};
-use coin_book::Book;
 use fee_bump::{BumpTerms, bump_terms};
 use fund_base::Memory;
+use fund_files::{Held, hold};
 use payment_states::{all_states, confirmed_without};
 use request_text::{Request, read_request};
-use row_books::book_of;
 use std::alloc::Global;
 use std::io;
 use wallet_text::{Wallet, read_wallet};
 
 /// The terms in lines.
-fn told(
-    alloc: Global,
-    book: &Book,
-    wallet: &Wallet,
-    tip: u32,
-    terms: &BumpTerms,
-) -> Result<String, Memory>
-    requires book { IsBookOf wallet.now book.now }
+fn told(alloc: Global, held: &Held, tip: u32, terms: &BumpTerms) -> Result<String, Memory>
+    requires held { IsHeld held.now }
     requires tip { tip < 4294967295 }
 {
-    let without = confirmed_without(alloc, book, wallet, tip, &terms.replaced)?;
+    let without = confirmed_without(alloc, &held.book, &held.wallet, tip, &terms.replaced)?;
     let text = terms_text(alloc, terms, &without)?;
     Ok(text)
 }
 
 /// What the request's payment comes to, by the wallet's book.
-fn by_book(
-    alloc: Global,
-    book: &Book,
-    wallet: &Wallet,
-    tip: u32,
-    request: &Request,
-) -> Result<String, Memory>
-    requires book { IsBookOf wallet.now book.now }
+fn by_book(alloc: Global, held: &Held, tip: u32, request: &Request) -> Result<String, Memory>
+    requires held { IsHeld held.now }
     requires tip { tip < 4294967295 }
     requires bump { IsSome request.now.bump }
 {
-    let states = all_states(alloc, book, wallet)?;
-    match bump_terms(alloc, book, wallet, &states, tip, request) {
-        Ok(terms) => told(alloc, book, wallet, tip, &terms),
+    let states = all_states(alloc, &held.book, &held.wallet)?;
+    match bump_terms(alloc, &held.book, &held.wallet, &states, tip, request) {
+        Ok(terms) => told(alloc, held, tip, &terms),
         Err(fault) => fault_text(alloc, fault),
     }
 }
 
 /// What the request's payment comes to.
-fn by_wallet(
-    alloc: Global,
-    wallet: &Wallet,
-    tip: u32,
-    request: &Request,
-) -> Result<String, Memory> {
+fn by_wallet(alloc: Global, wallet: Wallet, tip: u32, request: &Request) -> Result<String, Memory> {
     if tip == u32::MAX || request.bump.is_none() {
         return Ok(String::from_str(alloc, "no tip or nothing to replace\n")?);
     }
-    match book_of(alloc, wallet) {
-        Ok(book) => by_book(alloc, &book, wallet, tip, request),
-        Err(fault) => Ok(format!(in alloc; "{fault:?}\n")?),
+    match hold(alloc, wallet) {
+        Ok(held) => by_book(alloc, &held, tip, request),
+        Err(_) => Ok(String::from_str(alloc, "no book\n")?),
     }
 }
 
@@ -81,7 +63,7 @@ fn answer(
     ) else {
         return Ok(format!(in alloc; "{label}: no wallet or no request\n")?);
     };
-    let text = by_wallet(alloc, &wallet, tip, &request)?;
+    let text = by_wallet(alloc, wallet, tip, &request)?;
     Ok(format!(in alloc; "{label}:\n{text}")?)
 }
 

@@ -1,6 +1,6 @@
 //! Terms and faults in lines.
 
-use fault_text::{coin_text, shown_hash};
+use command_end::{coin_text, shown_hash};
 use fee_bump::{BumpFault, BumpTerms};
 use fund_base::{Candidate, Memory, Txid};
 use payment_states::State;

@@ -1,7 +1,7 @@
 //! What columns of rows stand for.
 
 use fund_base::Memory;
-use row_bytes::unescaped;
+use row_columns::unescaped;
 use std::alloc::Global;
 use std::io;
 use std::io::ErrorKind;

@@ -1,14 +1,19 @@
 //! Does the rows of its input part by part. A line `# PART` begins a part and is printed; what follows it are rows of that part,
-//! none of which begins with `# `. A row's columns have tabs between them, in `desk`, `resume` and `summaries` blanks. What it
-//! must print was worked out apart from this program. Each module says what its rows are.
+//! none of which begins with `# `. A row's columns have tabs between them, in `desk`, `files`, `memory`, `resume` and `summaries`
+//! blanks. What it must print was worked out apart from this program. Each module says what its rows are.
 #![tactic(auto)]
 
+mod books;
 mod bump;
 mod bump_lines;
 mod check;
 mod columns;
 mod complete;
 mod desk;
+mod files;
+mod jobs;
+mod long_jobs;
+mod memory;
 mod methods;
 mod pay;
 mod people;
@@ -32,6 +37,8 @@ enum Part {
     Summaries,
     People,
     Bump,
+    Files,
+    Memory,
     Unknown,
 }
 
@@ -48,6 +55,8 @@ impl Part {
             "summaries" => Part::Summaries,
             "people" => Part::People,
             "bump" => Part::Bump,
+            "files" => Part::Files,
+            "memory" => Part::Memory,
             _ => Part::Unknown,
         })
     }
@@ -55,7 +64,7 @@ impl Part {
     /// What stands between the columns of its rows.
     fn between(&self) -> char {
         match self {
-            Part::Desk(_) | Part::Resume(_) | Part::Summaries => ' ',
+            Part::Desk(_) | Part::Files | Part::Memory | Part::Resume(_) | Part::Summaries => ' ',
             _ => '\t',
         }
     }
@@ -73,6 +82,8 @@ fn row(rt: &HostRuntime, part: &mut Part, columns: &[&str]) -> io::Result<()> {
         Part::Summaries => summaries::row(rt, columns),
         Part::People => people::row(rt, columns),
         Part::Bump => bump::row(rt, columns),
+        Part::Files => files::row(rt, columns),
+        Part::Memory => memory::row(rt, columns),
         Part::Unknown => println!(rt; "no such part"),
     }
 }

@@ -5,7 +5,7 @@
 use crate::log_lines::push_log;
 use closing_log::{LogText, LogTextFault, read_sections, write_sections, write_tail};
 use fund_base::Memory;
-use row_bytes::{escaped, unescaped};
+use row_columns::{escaped, unescaped};
 use std::alloc::Global;
 
 /// What is written of a log that was read from these bytes.

@@ -8,7 +8,7 @@ use crate::report_lines::{fault_text, report_text};
 use closing_log::Stage;
 use fund_base::Memory;
 use fund_report::{Report, read_report, write_report};
-use row_bytes::{escaped, unescaped};
+use row_columns::{escaped, unescaped};
 use std::alloc::Global;
 
 /// The line of what was written.

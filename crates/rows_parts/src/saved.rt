@@ -8,7 +8,7 @@
 use crate::saved_lines::{fault_text, saved_text};
 use crate::saved_resumed;
 use fund_base::Memory;
-use row_bytes::{escaped, unescaped};
+use row_columns::{escaped, unescaped};
 use search_keep::{Saved, read_saved, write_saved};
 use std::alloc::Global;
 

@@ -4,8 +4,7 @@ use crate::saved_lines::{best_text, fault_text};
 use fund_base::Memory;
 use hex::FromHex;
 use pick_problem::{Problem, Progress};
-use row_bytes::unescaped;
-use row_columns::{places_text, problem_in};
+use row_columns::{places_text, problem_in, unescaped};
 use search_keep::{Saved, SavedFault, Walk, read_saved, resume};
 use std::alloc::Global;
 

@@ -2,7 +2,7 @@
 
 use crate::lines::put_line;
 use block_feed::FeedFault;
-use fault_text::{
+use command_end::{
     address_fault_words, feed_fault_words, request_fault_words, tx_fault_words, wallet_fault_words,
 };
 use fund_base::Memory;

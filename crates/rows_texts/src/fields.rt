@@ -1,6 +1,6 @@
 //! Values of JSON texts, read and refused.
 
-use fault_text::coin_text;
+use command_end::coin_text;
 use fund_base::{Memory, OutPoint};
 use json_fields::{
     FieldFault, coin_of, entries_of, flag_of, hex_of, member_of, number_of, object_of, parse,

@@ -1,7 +1,7 @@
 //! Hashes, coins and names as they are shown. The hash and the txid are those of Bitcoin's first block.
 
 use crate::lines::put_line;
-use fault_text::{coin_text, shown_hash, shown_name};
+use command_end::{coin_text, shown_hash, shown_name};
 use fund_base::{Memory, OutPoint, Txid};
 use std::alloc::Global;
 

@@ -1,6 +1,6 @@
 //! Request files, read and refused.
 
-use fault_text::{request_fault_words, shown_hash};
+use command_end::{request_fault_words, shown_hash};
 use fund_base::Memory;
 use request_text::{Request, read_request};
 use std::alloc::Global;

@@ -1,6 +1,6 @@
 //! Wallet files, read and refused.
 
-use fault_text::{shown_hash, wallet_fault_words};
+use command_end::{shown_hash, wallet_fault_words};
 use fund_base::Memory;
 use std::alloc::Global;
 use wallet_text::{Wallet, read_wallet};

@@ -1,5 +1,5 @@
 use Rattle.std.proofs.Common.{◌∙◌, ◌++◌, ap, List, ℕ, map}
-use Rattle.fault_text.specs.Lines.{lines_text}
+use Rattle.command_end.specs.LinesText.{lines_text}
 use Rattle.command_coins.specs.Listing.{coin_line, listing_of, payment_line, tip_line}
 use Rattle.command_coins.proofs.LinesLaws.{lines_from}
 use Rattle.command_coins.proofs.text.listing.Goals as goal

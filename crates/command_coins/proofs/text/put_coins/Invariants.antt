@@ -1,5 +1,5 @@
 use Rattle.std.proofs.Common.{◌≡◌, ◌++◌, map, take, string_bytes}
-use Rattle.fault_text.specs.Lines.{lines_text}
+use Rattle.command_end.specs.LinesText.{lines_text}
 use Rattle.command_coins.specs.Listing.{coin_line}
 use Rattle.command_coins.proofs.text.put_coins.Given as goal
 

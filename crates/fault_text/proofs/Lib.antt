@@ -1,2 +1,0 @@
-pub mod CoinLaws
-pub mod NameLaws

@@ -1,8 +1,0 @@
-use Rattle.fault_text.proofs.CoinLaws.{coins_apart, hashes_apart}
-use Rattle.fault_text.proofs.laws.coins_are_told_apart.Goals as goal
-
-pub returns-clause-hash : goal.returns-clause-hash
-returns-clause-hash c = hashes_apart
-
-pub returns-clause-coin : goal.returns-clause-coin
-returns-clause-coin c = coins_apart

@@ -1,4 +1,0 @@
-pub mod Coin
-pub mod Lines
-pub mod Name
-pub mod Words

@@ -1,5 +1,0 @@
-pub mod CompletedLaws
-pub mod InputLaws
-pub mod LoopLaws
-pub mod PaymentLaws
-pub mod PsbtLaws
