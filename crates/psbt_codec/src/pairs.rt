@@ -1,6 +1,6 @@
 //! Reading the maps of a PSBT, pair by pair.
 
-ghost use Rattle.std.specs.Prelude.{◌≡◌, ◌≢◌, ◌<◌, ◌==◌, ◌⊎◌, [], false, length, Err, IsOkAnd, option_copied};
+ghost use Rattle.std.specs.Prelude.{◌≡◌, ◌≢◌, ◌<◌, ◌==◌, ◌⊎◌, [], ◌∷◌, ◌++◌, false, length, Err, IfOk, IsOkAnd, option_copied};
 ghost use Rattle.fund_base.specs.Cursor.{compact_at, take_at};
 ghost use Rattle.fund_base.specs.Parsing.{Yields, YieldsAll, string_at};
 ghost use Rattle.psbt_codec.specs.declared.fault.PsbtFault.TheVariants.{Field, Memory as OutOfMemory};
@@ -10,12 +10,13 @@ ghost use Rattle.psbt_codec.specs.Fault.{type_fault};
 
 use crate::fault::PsbtFault;
 use crate::values::{check_version, paid_in, tx_in};
-use fund_base::{Cursor, CutFault};
+use fund_base::{Cursor, CutFault, Memory};
 use std::alloc::Global;
+use std::collections::BTreeSet;
 use std::marker::Model;
 
 /// Whose map it is.
-#[derive(Clone, Copy, Debug, PartialEq, Eq)]
+#[derive(Clone, Copy, PartialEq, Eq)]
 pub enum Part {
     Global,
     Input,
@@ -35,6 +36,63 @@ impl<'a> Model for Pair<'a> {
     ghost Value = { Plain };
 
     ghost view = { λ p. record { key = p.key.now; value = p.value.now } };
+}
+
+/// The pairs of a map that were read so far, and their keys in order. Each further key is looked up among these by few
+/// comparisons, since a stranger's file may hold millions of pairs.
+#[derive(Drop)]
+struct Seen<'a> {
+    pairs: Vec<Pair<'a>>,
+    keys: BTreeSet<&'a [u8]>,
+}
+
+impl<'a> Model for Seen<'a> {
+    ghost use Rattle.std.specs.Prelude.{List};
+    ghost use Rattle.psbt_codec.specs.Psbt.{Pair as Plain};
+    ghost use Rattle.psbt_codec.specs.Keys.{AreKeysOf};
+
+    ghost Value = { List Plain };
+
+    ghost view = { λ s. s.pairs.items };
+
+    ghost invariant = { λ s. AreKeysOf s.pairs.items s.keys };
+}
+
+impl<'a> Seen<'a> {
+    fn new(alloc: Global) -> Seen<'a>
+        ensures { result ≡ [] }
+    {
+        Seen {
+            pairs: Vec::new(alloc),
+            keys: BTreeSet::new(alloc),
+        }
+    }
+
+    fn has_key(&self, key: &[u8]) -> bool
+        ensures { result ≡ has_key key.now self.now }
+    {
+        self.keys.contains(key)
+    }
+
+    /// The same and one pair more. The error is out of memory.
+    fn with(self, pair: Pair<'a>) -> Result<Seen<'a>, Memory>
+        ensures { IfOk result (λ seen. seen ≡ self.entry ++ pair.entry ∷ []) }
+    {
+        let Seen {
+            mut pairs,
+            mut keys,
+        } = self;
+        keys.insert(pair.key)?;
+        pairs.push(pair)?;
+        Ok(Seen { pairs, keys })
+    }
+
+    fn into_pairs(self) -> Vec<Pair<'a>>
+        ensures { result.items ≡ self.entry }
+    {
+        let Seen { pairs, keys: _ } = self;
+        pairs
+    }
 }
 
 #[tactic(auto, unfolding(fund_base::specs::Parsing::string_at))]
@@ -124,17 +182,11 @@ fn check_value(
     }
 }
 
-fn has_key(pairs: &[Pair], key: &[u8]) -> bool
-    ensures { result ≡ has_key key.now pairs.now }
-{
-    pairs.iter().any(|pair| pair.key == key)
-}
-
 #[tactic(auto, unfolding(crate::specs::Reading::keyed_at))]
 fn keyed_of<'a>(
     alloc: Global,
     part: Part,
-    before: &[Pair],
+    before: &Seen,
     place: u64,
     len: u64,
     cursor: &mut Cursor<'a>,
@@ -146,7 +198,7 @@ fn keyed_of<'a>(
 {
     let key_place = cursor.place();
     let key = cursor.take(len)?;
-    if has_key(before, key) {
+    if before.has_key(key) {
         return Err(PsbtFault::RepeatKey(place));
     }
     let kind = kind_in(part, place, key_place, key)?;
@@ -160,7 +212,7 @@ fn keyed_of<'a>(
 fn pair_of<'a>(
     alloc: Global,
     part: Part,
-    before: &[Pair],
+    before: &Seen,
     cursor: &mut Cursor<'a>,
 ) -> Result<Option<Pair<'a>>, PsbtFault>
     ensures gives { Yields OutOfMemory (λ o. o) cursor.new result (pair_at part before.now cursor.old) }
@@ -185,11 +237,11 @@ pub fn pairs_of<'a>(
     ensures gives { Yields OutOfMemory (λ v. v.items) cursor.new result (map_at part cursor.old) }
     ensures short { result ≡ Err OutOfMemory → 0 < length cursor.old.rest }
 {
-    let mut pairs = Vec::new(alloc);
+    let mut seen = Seen::new(alloc);
     for _ in 0..cursor.rest().len() {
-        match pair_of(alloc, part, &pairs, cursor)? {
-            Some(pair) => pairs.push(pair)?,
-            None => return Ok(pairs),
+        match pair_of(alloc, part, &seen, cursor)? {
+            Some(pair) => seen = seen.with(pair)?,
+            None => return Ok(seen.into_pairs()),
         }
     }
     Err(PsbtFault::Truncated(cursor.place()))
