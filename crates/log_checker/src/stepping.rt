@@ -11,7 +11,7 @@ use crate::reading::Reading;
 use pick_problem::{Reason, Token};
 
 /// What is wrong with a letter. A step gives but the last two, of a token at an open node.
-#[derive(Clone, Copy, Debug, PartialEq, Eq)]
+#[derive(Clone, Copy, PartialEq, Eq)]
 pub enum Wrong {
     /// It is the letter of no token.
     Unknown,

@@ -2,7 +2,7 @@
 //! none but the one for the answer itself goes through the chosen places. What only A asks is never inlined,
 //! so that the loop over letters stays small.
 
-ghost use Rattle.std.specs.Prelude.{◌≡◌, ◌≢◌, ◌↔◌, ◌<◌, ◌≤◌, ◌+◌, ◌-◌, ◌*◌, ◌||◌, pos, ◌+ℤ◌, IsSomeAnd, IsTrue, Some, length, slice_get};
+ghost use Rattle.std.specs.Prelude.{◌≡◌, ◌≢◌, ◌↔◌, ◌<◌, ◌≤◌, ◌+◌, ◌-◌, ◌*◌, ◌||◌, pos, ◌+ℤ◌, IsSomeAnd, IsTrue, Some, bytes_eq, length, slice_get};
 ghost use Rattle.log_checker.specs.Reads.{IsReading, is_answer};
 ghost use Rattle.pick_problem.specs.Admissible.{IsAdmissible, NeedsEach};
 ghost use Rattle.pick_problem.specs.Pool.{item_at};
@@ -16,6 +16,24 @@ use crate::claim::Claim;
 use crate::reading::Reading;
 use pick_problem::{Kind, Reason, Score};
 
+/// Whether two lists of places are the same. They are compared from their ends, so that no log can make each letter A
+/// cost a whole comparison. Two selections of one length that end in the same places differ before these. A reading comes
+/// from one to the other only by leaving those places and choosing them anew. So n letters cost about n log n steps at
+/// most.
+fn are_same(one: &[u32], other: &[u32]) -> bool
+    ensures { result ≡ bytes_eq one.now other.now }
+{
+    if one.len() != other.len() {
+        return false;
+    }
+    for place in (0..one.len()).rev() {
+        if one[place] != other[place] {
+            return false;
+        }
+    }
+    true
+}
+
 impl Reading {
     /// Whether the chosen places are the answer.
     #[inline(never)]
@@ -24,7 +42,7 @@ impl Reading {
     {
         match claim.answer() {
             None => false,
-            Some(best) => self.places.as_slice() == best.as_slice(),
+            Some(best) => are_same(self.places.as_slice(), best.as_slice()),
         }
     }
 
