@@ -1,10 +1,17 @@
 -- Coins are looked up one after another.
-use Rattle.std.specs.Prelude.{ℕ, ◌≡◌, ◌≢◌, ◌⊎◌, ◌<◌, ◌≤◌, ◌+◌, List, [], ◌∷◌, ◌++◌, length, take, All, AllPairs, Contains, Option, Some, None}
+use Rattle.std.specs.Prelude.{ℕ, ◌≡◌, ◌≢◌, ◌⊎◌, ◌<◌, ◌≤◌, ◌+◌, cond, Bool, true, false, List, [], ◌∷◌, ◌++◌, length, take, All, AllPairs, Contains, Option, Some, None, option_copied}
 use Rattle.std.specs.List.{AllZip}
-use Rattle.std.proofs.Common.{refl, sym, ap, subst, inl, inr, ◌∙◌, drop, get_or}
+use Rattle.std.specs.Map.{lookup}
+use Rattle.std.specs.Borrow.{Bor}
+use Rattle.std.specs.Slice.{IsItemAt}
+use Rattle.std.proofs.Common.{refl, sym, ap, subst, inl, inr, ◌∙◌, arith, drop, get_or}
+use Rattle.std.proofs.lemmas.Bool.{both_ways}
 use Rattle.std.proofs.lemmas.List.{drop_all, take-append-drop, take_all, take_more}
 use Rattle.std.proofs.lemmas.List.Elements.{All-cons, All-nil}
+use Rattle.std.proofs.lemmas.Option.{get_or_from_slice_get, slice_get_read, slice_get_within}
 use Rattle.fund_base.proofs.Lists.{cons_cases}
+use Rattle.fund_base.proofs.OutpointLaws.{same_outpoint-Decides}
+use Rattle.fund_base.specs.Outpoints.{same_outpoint}
 use Rattle.fund_base.specs.declared.candidate.Candidate.{Candidate}
 use Rattle.fund_base.specs.declared.outpoint.OutPoint.{OutPoint}
 use Rattle.output_groups.proofs.Members.{none_in}
@@ -12,15 +19,12 @@ use Rattle.output_groups.proofs.PlaceLaws.{one_coin}
 use Rattle.output_groups.specs.Ladder.{Meets}
 use Rattle.output_groups.specs.declared.rows.Row.{Row}
 use Rattle.tx_codec.specs.declared.tx.TxIn.{TxIn}
-use Rattle.report_check.specs.Finding.{CanTake, IsCoinAt, IsFirstUntaken, IsTakenAt, NoneAt, Takes}
+use Rattle.report_check.specs.Finding.{CanTake, IsCoinAt, IsFirstUntaken, IsPlaceAt, IsTakenAt, NoneAt, Takes}
 use Rattle.report_check.proofs.SliceLaws.{drop_step}
 
 -- ---- one coin
 
-pub find_here : (coins : List Candidate) (point : OutPoint) (i : ℕ) (c : Candidate) → i < length coins → c ≡ get_or coins i c → c.coin ≡ point → IsCoinAt coins point (Some c)
-find_here coins point i c below is at = ((i, below, sym is), at)
-
-pub find_next : (coins : List Candidate) (point : OutPoint) (i : ℕ) (c : Candidate) → i < length coins → c ≡ get_or coins i c → (NoneAt (drop i coins) point → NoneAt coins point) → c.coin ≢ point → NoneAt (drop (i + 1) coins) point → NoneAt coins point
+find_next : (coins : List Candidate) (point : OutPoint) (i : ℕ) (c : Candidate) → i < length coins → c ≡ get_or coins i c → (NoneAt (drop i coins) point → NoneAt coins point) → c.coin ≢ point → NoneAt (drop (i + 1) coins) point → NoneAt coins point
 find_next coins point i c below is h apart none =
     h (subst (λ (cs : List Candidate). NoneAt cs point) (sym (drop_step coins i c below is)) (λ d there. others d (cons_cases c (drop (i + 1) coins) d there)))
   where
@@ -28,8 +32,37 @@ find_next coins point i c below is h apart none =
     others d (inl e) = subst (λ (x : Candidate). x.coin ≢ point) e apart
     others d (inr later) = none d later
 
-pub find_over : (coins : List Candidate) (point : OutPoint) (i : ℕ) → length coins ≤ i → (NoneAt (drop i coins) point → NoneAt coins point) → NoneAt coins point
+find_over : (coins : List Candidate) (point : OutPoint) (i : ℕ) → length coins ≤ i → (NoneAt (drop i coins) point → NoneAt coins point) → NoneAt coins point
 find_over coins point i end h = h (subst (λ (cs : List Candidate). NoneAt cs point) (sym (drop_all i coins end)) (λ c there. absurd (none_in c there)))
+
+-- what an outpoint is found by, once the coins before an index are put: a coin's place, or that none of those is at it
+abbrev pub IsPlaceSoFar : List Candidate → ℕ → OutPoint → Option ℕ → Type 0
+IsPlaceSoFar coins i point (Some k) = IsPlaceAt coins point (Some k)
+IsPlaceSoFar coins i point None = NoneAt (drop i coins) point → NoneAt coins point
+
+pub place_first : (coins : List Candidate) (point : OutPoint) (entries : List (OutPoint × ℕ)) → entries ≡ [] → IsPlaceSoFar coins 0 point (lookup (same_outpoint point) entries)
+place_first coins point entries e = subst (λ (es : List (OutPoint × ℕ)). IsPlaceSoFar coins 0 point (lookup (same_outpoint point) es)) (sym e) (λ none. none)
+
+pub place_next : (coins : List Candidate) (point : OutPoint) (i : ℕ) (c : Candidate) (old new : Option ℕ) → i < length coins → c ≡ get_or coins i c → new ≡ cond (same_outpoint (get_or coins i c).coin point) (Some i) old → IsPlaceSoFar coins i point old → IsPlaceSoFar coins (i + 1) point new
+place_next coins point i c old new below is put h =
+    let put_is : new ≡ cond (same_outpoint c.coin point) (Some i) old = put ∙ ap (λ (d : Candidate). cond (same_outpoint d.coin point) (Some i) old) (sym is) in
+    subst (IsPlaceSoFar coins (i + 1) point) (sym put_is) (by (same_outpoint c.coin point) refl old h)
+  where
+    by : (b : Bool) → same_outpoint c.coin point ≡ b → (o : Option ℕ) → IsPlaceSoFar coins i point o → IsPlaceSoFar coins (i + 1) point (cond b (Some i) o)
+    by true same o k = (c, slice_get_read coins (length coins) i c refl below is, (same_outpoint-Decides c.coin point).0 same)
+    by false other (Some j) k = k
+    by false other None k = find_next coins point i c below is k (λ e. both_ways (same_outpoint c.coin point) other ((same_outpoint-Decides c.coin point).1 e))
+
+pub place_over : (coins : List Candidate) (point : OutPoint) (i : ℕ) (o : Option ℕ) → length coins ≤ i → IsPlaceSoFar coins i point o → IsPlaceAt coins point o
+place_over coins point i (Some k) end h = h
+place_over coins point i None end h = find_over coins point i end h
+
+-- the coin at the place that was found
+pub found_at : (coins : List Candidate) (point : OutPoint) (k : ℕ) (coin : Option (Bor Candidate)) → IsItemAt coins k coin → IsPlaceAt coins point (Some k) → IsCoinAt coins point (option_copied coin)
+found_at coins point k None h (c, is, at) = absurd (omega (arith, h.3, slice_get_within coins k c is))
+found_at coins point k (Some x) h (c, is, at) =
+    let same : x.now ≡ c = h.1 ∙ get_or_from_slice_get coins k c x.now is in
+    ((k, h.3.0, sym h.1), ap (λ (d : Candidate). d.coin) same ∙ at)
 
 -- ---- one that may be spent
 

@@ -1,13 +1,19 @@
 -- Coins in the order of their outpoints, and coins that are among others.
-use Rattle.std.specs.Prelude.{ℕ, suc, ◌≡◌, ◌<◌, ◌≤◌, ◌+◌, ◌↔◌, List, [], ◌∷◌, length, All}
-use Rattle.std.specs.declared.cmp.Ordering.TheVariants.{Less}
-use Rattle.std.proofs.Common.{sym, subst, arith, drop, get_or}
-use Rattle.std.proofs.lemmas.List.{drop_all}
+use Rattle.std.specs.Prelude.{ℕ, suc, ◌≡◌, ◌<◌, ◌≤◌, ◌+◌, ◌⊎◌, ◌↔◌, Bool, IsTrue, List, [], ◌∷◌, length, All, Result, Ok, Err, is_ok}
+use Rattle.std.specs.List.Sorted.{IsBinarySearchResult, IsNonDecreasingBy, IsPartitionPoint, IsSearchInRange}
+use Rattle.std.specs.Ordering.{ordering_index}
+use Rattle.std.specs.declared.cmp.Ordering.{Ordering}
+use Rattle.std.specs.declared.cmp.Ordering.TheVariants.{Less, Equal, Greater}
+use Rattle.std.proofs.Common.{refl, sym, ap, subst, inl, inr, ◌∙◌, arith, drop, get_or}
+use Rattle.std.proofs.lemmas.Bool.{both_ways, cases_lt, cases_order}
+use Rattle.std.proofs.lemmas.Cmp.{tied_itself}
+use Rattle.std.proofs.lemmas.List.{drop_all, get_or_default}
 use Rattle.std.proofs.lemmas.List.Elements.{All-cons, All-head, All-nil, All-tail}
 use Rattle.std.proofs.lemmas.List.Kept.{AllPairs-cons}
-use Rattle.fund_base.proofs.OutpointLaws.{outpoint_total}
+use Rattle.fund_base.proofs.OutpointLaws.{outpoint_equal, outpoint_total}
 use Rattle.fund_base.specs.Outpoints.{outpoint_cmp}
 use Rattle.fund_base.specs.declared.candidate.Candidate.{Candidate}
+use Rattle.fund_base.specs.declared.outpoint.OutPoint.{OutPoint}
 use Rattle.fund_steps.specs.Selection.{AreSorted}
 use Rattle.report_check.specs.Paying.{HasCoinOf, HasEach, IsBelow}
 use Rattle.report_check.proofs.SliceLaws.{drop_step}
@@ -55,6 +61,57 @@ sorted_halt coins i c below is h apart k = apart (sorted_uncons c (drop (i + 1) 
 
 pub sorted_over : (coins : List Candidate) (i : ℕ) → length coins ≤ i → (AreSorted (drop i coins) ↔ AreSorted coins) → AreSorted coins
 sorted_over coins i end h = h.0 (subst AreSorted (sym (drop_all i coins end)) none_sorted)
+
+-- ---- a search among sorted coins
+
+at_most : (o : Ordering) → ordering_index o ≤ 2
+at_most Less = omega arith
+at_most Equal = omega arith
+at_most Greater = omega arith
+
+-- how one coin and a later one compare with an outpoint
+compared : (a b : Candidate) (point : OutPoint) → Below a b → ordering_index (outpoint_cmp a.coin point) ≤ ordering_index (outpoint_cmp b.coin point)
+compared a b point under = by (outpoint_cmp b.coin point) refl
+  where
+    by : (o : Ordering) → outpoint_cmp b.coin point ≡ o → ordering_index (outpoint_cmp a.coin point) ≤ ordering_index o
+    by Less e = let first : outpoint_cmp a.coin point ≡ Less = outpoint_total.trans a.coin b.coin point under e in omega (arith, ap ordering_index first)
+    by Equal e =
+        let first : outpoint_cmp a.coin point ≡ Less = subst (λ (p : OutPoint). outpoint_cmp a.coin p ≡ Less) (outpoint_equal b.coin point e) under in
+        omega (arith, ap ordering_index first)
+    by Greater e = at_most (outpoint_cmp a.coin point)
+
+rising : (coins : List Candidate) (point : OutPoint) → AreSorted coins → IsNonDecreasingBy (λ (c : Candidate). ordering_index (outpoint_cmp c.coin point)) coins
+rising coins point h i j d up below = by (cases_order i j)
+  where
+    by : (i ≡ j) ⊎ ((i < j) ⊎ (j < i)) → ordering_index (outpoint_cmp (get_or coins i d).coin point) ≤ ordering_index (outpoint_cmp (get_or coins j d).coin point)
+    by (inl e) = omega (arith, ap (λ (k : ℕ). ordering_index (outpoint_cmp (get_or coins k d).coin point)) e)
+    by (inr (inl before)) = compared (get_or coins i d) (get_or coins j d) point (h i j d before below)
+    by (inr (inr behind)) = absurd (omega (arith, up, behind))
+
+-- a coin at an outpoint neither comes before it nor after it
+not_before : (c : Candidate) (point : OutPoint) → c.coin ≡ point → outpoint_cmp c.coin point ≡ Less → ⊥
+not_before c point at less = omega (arith, ap ordering_index (sym less ∙ (ap (λ (p : OutPoint). outpoint_cmp p point) at ∙ tied_itself outpoint_total point)))
+
+not_behind : (c : Candidate) (point : OutPoint) → c.coin ≡ point → outpoint_cmp c.coin point ≡ Greater → ⊥
+not_behind c point at more = omega (arith, ap ordering_index (sym more ∙ (ap (λ (p : OutPoint). outpoint_cmp p point) at ∙ tied_itself outpoint_total point)))
+
+-- where a search ends without one, none is there
+none_found : (coins : List Candidate) (c : Candidate) (i : ℕ) → AreSorted coins → IsBinarySearchResult (λ (d : Candidate). outpoint_cmp d.coin c.coin) coins (Err i) → HasCoinOf coins c → ⊥
+none_found coins c i h parted (d, (k, below, is), at) = by (cases_lt k i)
+  where
+    parts : IsPartitionPoint (λ (e : Candidate). outpoint_cmp e.coin c.coin ≡ Less) (λ (e : Candidate). outpoint_cmp e.coin c.coin ≡ Greater) coins i
+    parts = parted (rising coins c.coin h)
+
+    by : (k < i) ⊎ (i ≤ k) → ⊥
+    by (inl before) = not_before d c.coin at (subst (λ (e : Candidate). outpoint_cmp e.coin c.coin ≡ Less) is (parts.0 k d (omega arith) before))
+    by (inr behind) = not_behind d c.coin at (subst (λ (e : Candidate). outpoint_cmp e.coin c.coin ≡ Greater) is (parts.1 k d behind below))
+
+-- a search tells whether a coin is there
+pub searched : (coins : List Candidate) (c : Candidate) (r : Result ℕ ℕ) (b : Bool) → AreSorted coins → IsSearchInRange r (length coins) → IsBinarySearchResult (λ (d : Candidate). outpoint_cmp d.coin c.coin) coins r → b ≡ is_ok r → (IsTrue b ↔ HasCoinOf coins c)
+searched coins c (Ok i) b h below at is =
+    let own : Candidate = get_or coins i c in
+    (λ t. (own, (i, below, get_or_default coins i own c below), outpoint_equal own.coin c.coin (at c)), λ there. is)
+searched coins c (Err i) b h bound parted is = (λ t. absurd (both_ways b is t), λ there. absurd (none_found coins c i h parted there))
 
 -- ---- each is there
 

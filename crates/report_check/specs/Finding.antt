@@ -1,5 +1,7 @@
 -- Coins that are looked up by their outpoints.
-use Rattle.std.specs.Prelude.{◌≡◌, ◌≢◌, ◌⊎◌, List, ◌∷◌, ◌++◌, All, Contains, Option, Some, None}
+use Rattle.std.specs.Prelude.{ℕ, ◌≡◌, ◌≢◌, ◌⊎◌, List, ◌∷◌, ◌++◌, slice_get, All, Contains, Option, Some, None}
+use Rattle.std.specs.Map.{lookup}
+use Rattle.fund_base.specs.Outpoints.{same_outpoint}
 use Rattle.fund_base.specs.declared.candidate.Candidate.{Candidate}
 use Rattle.fund_base.specs.declared.outpoint.OutPoint.{OutPoint}
 use Rattle.output_groups.specs.Ladder.{Meets}
@@ -14,6 +16,15 @@ NoneAt coins point = (c : Candidate) → Contains coins c → c.coin ≢ point
 abbrev pub IsCoinAt : List Candidate → OutPoint → Option Candidate → Type 0
 IsCoinAt coins point (Some c) = Contains coins c × (c.coin ≡ point)
 IsCoinAt coins point None = NoneAt coins point
+
+-- where one of the coins at an outpoint stands, or that there is none
+abbrev pub IsPlaceAt : List Candidate → OutPoint → Option ℕ → Type 0
+IsPlaceAt coins point (Some i) = (c : Candidate) × (slice_get coins i ≡ Some c) × (c.coin ≡ point)
+IsPlaceAt coins point None = NoneAt coins point
+
+-- the entries of a map say this of every outpoint
+abbrev pub ArePlaces : List Candidate → List (OutPoint × ℕ) → Type 0
+ArePlaces coins entries = (point : OutPoint) → IsPlaceAt coins point (lookup (same_outpoint point) entries)
 
 -- a coin is a preset, or one of the others that meets the row, where there is one
 abbrev pub MayTake : List Candidate → List Candidate → Option Row → Candidate → Type 0

@@ -4,10 +4,11 @@ ghost use Rattle.std.specs.Prelude.{◌≡◌, ◌≢◌, ◌==◌, ◌++◌, �
 ghost use Rattle.std.specs.List.{AllZip};
 ghost use Rattle.fund_base.specs.declared.candidate.Candidate.{Candidate};
 ghost use Rattle.output_groups.specs.declared.rows.Row.{Row};
-ghost use Rattle.report_check.specs.Finding.{IsCoinAt, IsTakenAt, Takes};
+ghost use Rattle.report_check.specs.Finding.{IsTakenAt, Takes};
 ghost use Rattle.report_check.specs.PaidRefused.{IsCoinRefusal};
 ghost use Rattle.report_check.specs.declared.fault.CheckFault.TheVariants.{Coin};
 
+use crate::coin_index::CoinIndex;
 use crate::fault::CheckFault;
 use fund_base::{Candidate, Memory, OutPoint};
 use output_groups::{Row, meets};
@@ -21,35 +22,23 @@ pub(crate) fn row_at(rows: &[Row], number: u8) -> Option<&Row>
     rows.iter().find(|row| row.number == number)
 }
 
-/// The first of the coins at an outpoint.
-pub(crate) fn coin_at<'a>(coins: &'a [Candidate], point: &OutPoint) -> Option<&'a Candidate>
-    ensures { IsCoinAt coins.now point.now (option_copied result) }
-{
-    'finding: for coin in coins {
-        if coin.coin == *point {
-            return Some(coin);
-        }
-    }
-    None
-}
-
 /// The coin at an outpoint that may be spent: a preset, or another that meets the row.
 fn taken_at<'a>(
-    presets: &'a [Candidate],
-    rest: &'a [Candidate],
+    presets: &CoinIndex<'a>,
+    rest: &CoinIndex<'a>,
     row: Option<&Row>,
     point: &OutPoint,
 ) -> Option<&'a Candidate>
     requires { AllPairs (λ (a b : Candidate). a.coin ≢ b.coin) rest.now }
     ensures { IsTakenAt presets.now rest.now (option_copied row.entry) point.now (option_copied result) }
 {
-    match coin_at(presets, point) {
+    match presets.coin_at(point) {
         Some(preset) => Some(preset),
         None => {
             match row {
                 None => None,
                 Some(row) => {
-                    match coin_at(rest, point) {
+                    match rest.coin_at(point) {
                         None => None,
                         Some(coin) => { if meets(row, coin) { Some(coin) } else { None } }
                     }
@@ -61,8 +50,8 @@ fn taken_at<'a>(
 
 /// The coin at an outpoint that may be spent; the refusal is the outpoint where there is none. It takes no memory.
 fn coin_for<'a>(
-    presets: &'a [Candidate],
-    rest: &'a [Candidate],
+    presets: &CoinIndex<'a>,
+    rest: &CoinIndex<'a>,
     row: Option<&Row>,
     point: &OutPoint,
 ) -> Result<&'a Candidate, CheckFault>
@@ -85,12 +74,12 @@ fn add(alloc: Global, coins: &mut Vec<Candidate>, coin: &Candidate) -> Result<()
     Ok(())
 }
 
-/// The coins that the inputs spend, in their order. The refusal is the first outpoint at which there is none that may be
-/// spent.
-pub(crate) fn coins_of(
+/// The coins that the inputs spend, in their order, looked up one after another. The refusal is the first outpoint at
+/// which there is none that may be spent.
+fn taken<'a>(
     alloc: Global,
-    presets: &[Candidate],
-    rest: &[Candidate],
+    presets: &CoinIndex<'a>,
+    rest: &CoinIndex<'a>,
     row: Option<&Row>,
     inputs: &[TxIn],
 ) -> Result<Vec<Candidate>, CheckFault>
@@ -109,4 +98,25 @@ pub(crate) fn coins_of(
         }
     }
     Ok(coins)
+}
+
+/// The coins that the inputs spend, in their order. The refusal is the first outpoint at which there is none that may be
+/// spent. The presets and the others are gone through once each, and no input goes through them again.
+pub(crate) fn coins_of<'a>(
+    alloc: Global,
+    presets: &'a [Candidate],
+    rest: &'a [Candidate],
+    row: Option<&Row>,
+    inputs: &[TxIn],
+) -> Result<Vec<Candidate>, CheckFault>
+    requires { AllPairs (λ (a b : Candidate). a.coin ≢ b.coin) rest.now }
+    ensures found { IfOk result (λ coins. AllZip (Takes presets.now rest.now (option_copied row.entry)) inputs.now coins.items) }
+    ensures foreign { IfErr result (IsCoinRefusal presets.now rest.now (option_copied row.entry) inputs.now) }
+{
+    let own = CoinIndex::new(alloc, presets)?;
+    let others = CoinIndex::new(alloc, rest)?;
+    match taken(alloc, &own, &others, row, inputs) {
+        Ok(coins) => Ok(coins),
+        Err(fault) => Err(fault),
+    }
 }

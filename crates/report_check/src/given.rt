@@ -4,7 +4,6 @@ ghost use Rattle.std.specs.Prelude.{◌↔◌, IsTrue};
 ghost use Rattle.fund_steps.specs.Selection.{AreSorted};
 ghost use Rattle.report_check.specs.Paying.{HasCoinOf, HasEach, IsBelow};
 
-use crate::coins::coin_at;
 use fund_base::Candidate;
 
 /// Whether a coin's outpoint comes before that of the first of the others, where there is one.
@@ -29,18 +28,19 @@ fn are_sorted(coins: &[Candidate]) -> bool
     true
 }
 
-/// Whether one of the coins is at the outpoint of another coin.
+/// Whether one of the coins is at the outpoint of another coin. They stand in the order of their outpoints.
 fn has_coin_of(coins: &[Candidate], coin: &Candidate) -> bool
+    requires { AreSorted coins.now }
     ensures { IsTrue result ↔ HasCoinOf coins.now coin.now }
 {
-    match coin_at(coins, &coin.coin) {
-        None => false,
-        Some(_) => true,
-    }
+    coins
+        .binary_search_by_key(&coin.coin, |own| own.coin)
+        .is_ok()
 }
 
-/// Whether one of the coins is at the outpoint of each of the given coins.
+/// Whether one of the coins is at the outpoint of each of the given coins. They stand in the order of their outpoints.
 fn has_each(coins: &[Candidate], given: &[Candidate]) -> bool
+    requires { AreSorted coins.now }
     ensures { IsTrue result ↔ HasEach coins.now given.now }
 {
     'having: for coin in given {

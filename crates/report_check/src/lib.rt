@@ -4,6 +4,7 @@
 
 mod answered;
 mod checked;
+mod coin_index;
 mod coins;
 mod examiner;
 mod fault;

@@ -1,8 +1,11 @@
-use Rattle.report_check.proofs.FittingLaws.{ever_true, never_true}
+use Rattle.std.proofs.Common.{rules}
+use Rattle.std.proofs.lemmas.List.Sorted.{answers_always}
+use Rattle.fund_base.specs.declared.candidate.Candidate.{Candidate}
+use Rattle.report_check.proofs.SortedLaws.{searched}
 use Rattle.report_check.proofs.given.has_coin_of.Goals as goal
 
-pub returns-in-None : goal.returns-in-None
-returns-in-None c = never_true (λ h. c.in-None.ensures h.0 h.1 h.2)
-
-pub returns-in-Some : goal.returns-in-Some
-returns-in-Some c = ever_true (c.in-Some.field-0.now, c.in-Some.ensures.0, c.in-Some.ensures.1)
+pub returns : goal.returns
+returns c =
+    let facts = c.binary_search_by_key.ensures in
+    let by_point = facts.position (λ (own : Candidate). own.coin) (answers_always _ _ _ (λ f a r g called. search rules)) in
+    searched c.args.coins.now c.args.coin.now c.binary_search_by_key.result c.is_ok.result c.requires facts.bound by_point c.is_ok.ensures.value

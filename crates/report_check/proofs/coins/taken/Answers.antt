@@ -2,7 +2,7 @@ use Rattle.std.specs.Prelude.{option_copied}
 use Rattle.std.proofs.Common.{subst, sym}
 use Rattle.report_check.specs.PaidRefused.{IsCoinRefusal}
 use Rattle.report_check.proofs.FindingLaws.{take_halt, take_next, take_over}
-use Rattle.report_check.proofs.coins.coins_of.Goals as goal
+use Rattle.report_check.proofs.coins.taken.Goals as goal
 
 pub returns-in-Err-clause-foreign : goal.returns-in-Err-clause-foreign
 returns-in-Err-clause-foreign c =
