@@ -12,3 +12,4 @@ pub mod SetLaws
 pub mod ShelfLaws
 pub mod ShownLaws
 pub mod StepLaws
+pub mod TxidLaws

@@ -1,19 +1,21 @@
 //! The wallet's chain, as blocks and pending transactions are added to it.
 
-ghost use Rattle.std.specs.Prelude.{◌≡◌, ◌<◌, All, OnErr, OnOk, bytes_eq, false};
-ghost use Rattle.std.specs.List.{list_any};
+ghost use Rattle.std.specs.Prelude.{◌≡◌, ◌<◌, ◌++◌, ◌∷◌, [], List, All, OnErr, OnOk, bytes_eq, false};
 ghost use Rattle.coin_book.specs.Faults.{Answers};
 ghost use Rattle.coin_book.specs.History as histories;
 ghost use Rattle.fund_files.specs.Chain.{IsHeld};
+ghost use Rattle.tx_codec.specs.Transaction.{Transaction};
 ghost use Rattle.tx_codec.specs.TransactionText.{IsTransaction};
 ghost use Rattle.tx_codec.specs.Txid.{txid_of};
 ghost use Rattle.desk_machine.specs.Machine.{is_later, is_repeat, spends_txid, waiting, with_block, with_pending};
+ghost use Rattle.fund_desk.specs.Kept.{AreTxidsOf};
 
+use crate::pending_txids::PendingTxids;
 use block_feed::Block;
 use coin_book::{Book, BookFault};
 use fund_base::Txid;
 use fund_files::{Held, Tip};
-use tx_codec::{Tx, TxIn, txid};
+use tx_codec::{Tx, TxIn};
 use wallet_text::Wallet;
 
 /// Adds a block behind the tip. The fault is that of the book; the chain is then as before.
@@ -38,20 +40,6 @@ pub fn add_block(held: &mut Held, block: &Block) -> Result<(), BookFault>
     }
 }
 
-/// Whether the transaction has this txid.
-fn has_txid(tx: &Tx, id: &Txid) -> bool
-    ensures { result ≡ bytes_eq (txid_of tx.now) id.now }
-{
-    txid(tx) == *id
-}
-
-/// Whether a transaction of this txid waits.
-pub fn is_repeat(pending: &[Tx], id: &Txid) -> bool
-    ensures { result ≡ is_repeat pending.now id.now }
-{
-    pending.iter().any(|tx| has_txid(tx, id))
-}
-
 /// Whether the input spends an output of the transaction of this txid.
 fn spends(input: &TxIn, id: &Txid) -> bool
     ensures { result ≡ bytes_eq input.now.prev.txid id.now }
@@ -66,25 +54,27 @@ fn spends_txid(tx: &Tx, id: &Txid) -> bool
     tx.inputs.iter().any(|input| spends(input, id))
 }
 
-/// Whether one of these spends an output of the transaction of this txid.
-fn one_spends(pending: &[Tx], id: &Txid) -> bool
-    ensures { result ≡ list_any (spends_txid id.now) pending.now }
-{
-    pending.iter().any(|tx| spends_txid(tx, id))
-}
-
 /// Whether the transaction, which has this txid, or one that waits spends an output of it.
-pub fn is_later(pending: &[Tx], tx: &Tx, id: &Txid) -> bool
+pub fn is_later(txids: &PendingTxids, tx: &Tx, id: &Txid) -> bool
     requires { id.now ≡ txid_of tx.now }
-    ensures { result ≡ is_later pending.now tx.now }
+    ensures { (pending : List Transaction) → AreTxidsOf pending txids.now → result ≡ is_later pending tx.now }
 {
-    one_spends(pending, id) || spends_txid(tx, id)
+    txids.is_parent(id) || spends_txid(tx, id)
 }
 
-/// Adds a transaction behind those of the wallet that wait, and to the book. None that waits has its txid, and neither one
-/// of them nor itself spends an output of it. The fault is that of the book; both are then as before.
-fn add_waiting(wallet: &mut Wallet, book: &mut Book, tx: Tx) -> Result<(), BookFault>
+/// Adds a transaction of this txid behind those of the wallet that wait, to the book, and to the txids of those. None that
+/// waits has its txid, and neither one of them nor itself spends an output of it. The fault is that of the book; nothing is
+/// then added.
+fn add_waiting(
+    wallet: &mut Wallet,
+    book: &mut Book,
+    txids: &mut PendingTxids,
+    tx: Tx,
+    id: Txid,
+) -> Result<(), BookFault>
     requires text { IsTransaction tx }
+    requires id { id ≡ txid_of tx }
+    requires txids { AreTxidsOf wallet.old.pending txids.old }
     requires fresh { is_repeat wallet.old.pending (txid_of tx) ≡ false }
     requires first { is_later wallet.old.pending tx ≡ false }
     requires same { book.old.pending ≡ wallet.old.pending }
@@ -93,28 +83,40 @@ fn add_waiting(wallet: &mut Wallet, book: &mut Book, tx: Tx) -> Result<(), BookF
     ensures exact { Answers result (histories.with_pending book.old tx) }
     ensures kept_wallet { OnErr result (wallet.new ≡ wallet.old) }
     ensures kept_book { OnErr result (book.new ≡ book.old) }
+    ensures txids { OnOk result (AreTxidsOf (wallet.old.pending ++ tx ∷ []) txids.new) }
+    ensures kept_txids { OnErr result (AreTxidsOf wallet.old.pending txids.new) }
 {
     wallet.pending.reserve(1)?;
+    txids.reserve(&tx)?;
     match book.add_pending(&tx) {
         Ok(()) => {}
         Err(fault) => return Err(fault),
     }
     // there is room for this one
+    let _ = txids.add(&tx, id);
     let _ = wallet.pending.push(tx);
     Ok(())
 }
 
-/// Adds a transaction behind those that wait, none of which has its txid; neither one of them nor itself spends an output
-/// of it. The fault is that of the book; the chain is then as before.
-pub fn add_pending(held: &mut Held, tx: Tx) -> Result<(), BookFault>
+/// Adds a transaction of this txid behind those that wait, and to the txids of those. None of them has its txid, and neither
+/// one of them nor itself spends an output of it. The fault is that of the book; the chain is then as before.
+pub fn add_pending(
+    held: &mut Held,
+    txids: &mut PendingTxids,
+    tx: Tx,
+    id: Txid,
+) -> Result<(), BookFault>
     requires held { IsHeld held.old }
     requires text { IsTransaction tx }
+    requires id { id ≡ txid_of tx }
+    requires txids { AreTxidsOf held.old.wallet.pending txids.old }
     requires fresh { is_repeat held.old.wallet.pending (txid_of tx) ≡ false }
     requires first { is_later held.old.wallet.pending tx ≡ false }
     ensures added { OnOk result (held.new ≡ with_pending held.old tx) }
     ensures held { IsHeld held.new }
     ensures exact { Answers result (histories.with_pending held.old.book tx) }
     ensures kept { OnErr result (held.new ≡ held.old) }
+    ensures txids { AreTxidsOf held.new.wallet.pending txids.new }
 {
-    add_waiting(&mut held.wallet, &mut held.book, tx)
+    add_waiting(&mut held.wallet, &mut held.book, txids, tx, id)
 }

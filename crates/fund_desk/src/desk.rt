@@ -16,6 +16,7 @@ use crate::committing::{Given, give_out};
 use crate::job::{OpenJob, close, has_job, is_full, job_in, turn};
 use crate::opening::{Made, make};
 use crate::payments::{Committed, is_committed, release};
+use crate::pending_txids::PendingTxids;
 use crate::records::add_all;
 use crate::waiting::add_hex;
 use coin_book::Book;
@@ -34,6 +35,8 @@ use wallet_text::Wallet;
 pub struct Desk {
     alloc: Global,
     held: Held,
+    // those of the transactions that wait
+    txids: PendingTxids,
     committed: Vec<Committed>,
     jobs: Vec<OpenJob>,
 }
@@ -44,6 +47,7 @@ impl Drop for Desk {
         let Desk {
             alloc: _,
             held: _,
+            txids: _,
             committed: _,
             jobs: _,
         } = self;
@@ -53,12 +57,13 @@ impl Drop for Desk {
 impl Model for Desk {
     ghost use Rattle.desk_machine.specs.Rules.{IsDesk};
     ghost use Rattle.desk_machine.specs.State.{PlainDesk};
+    ghost use Rattle.fund_desk.specs.Kept.{AreTxidsOf};
 
     ghost Value = { PlainDesk };
 
     ghost view = { λ d. record { held = d.held; committed = d.committed.items; jobs = d.jobs.items } };
 
-    ghost invariant = { λ d. IsDesk (record { held = d.held; committed = d.committed.items; jobs = d.jobs.items }) };
+    ghost invariant = { λ d. IsDesk (record { held = d.held; committed = d.committed.items; jobs = d.jobs.items }) × AreTxidsOf d.held.wallet.pending d.txids };
 }
 
 /// The reply to a command that was done, or that memory ran out.
@@ -84,6 +89,7 @@ impl Desk {
         requires { IsHeld (record { wallet = wallet; book = book; tip = record { height = tip; hash = hash } }) }
         ensures { IfOk result (λ d. d ≡ new_desk (record { wallet = wallet; book = book; tip = record { height = tip; hash = hash } })) }
     {
+        let txids = PendingTxids::of(alloc, &wallet.pending)?;
         let held = Held {
             wallet,
             book,
@@ -92,6 +98,7 @@ impl Desk {
         Ok(Desk {
             alloc,
             held,
+            txids,
             committed: Vec::new(alloc),
             jobs: Vec::new(alloc),
         })
@@ -224,7 +231,7 @@ impl Desk {
         ensures memory { OnErr result (self.new ≡ self.old) }
         ensures takes { OnErr result (TakesMemory self.old (Pending digits.now)) }
     {
-        add_hex(self.alloc, &mut self.held, digits)
+        add_hex(self.alloc, &mut self.held, &mut self.txids, digits)
     }
 
     /// Does a command, and replies to it: the first reply of its kind that applies, in the order in which [`Reply`] has

@@ -8,6 +8,7 @@ mod desk;
 mod job;
 mod opening;
 mod payments;
+mod pending_txids;
 mod ready;
 mod records;
 mod taken;

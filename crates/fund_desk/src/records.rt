@@ -59,7 +59,7 @@ pub fn add_all(alloc: Global, held: &mut Held, bytes: &[u8]) -> Result<Reply, Me
     ensures reply { IfOk result (λ r. plain_reply r ≡ (add_records held.old (records_at held.old bytes.now)).reply) }
     ensures next { OnOk result (held.new ≡ (add_records held.old (records_at held.old bytes.now)).held) }
     ensures held { IsHeld held.new }
-    ensures change { held.new.wallet.change ≡ held.old.wallet.change }
+    ensures wallet { held.new.wallet ≡ held.old.wallet }
     ensures own { IfOk result (λ r. IsOfBytes (plain_reply r)) }
     ensures memory { OnErr result ((n : ℕ) × (held.new ≡ (add_blocks held.old (take n (records_at held.old bytes.now).blocks) None).held)) }
 {

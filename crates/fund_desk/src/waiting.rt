@@ -6,8 +6,10 @@ ghost use Rattle.tx_codec.specs.TransactionText.{IsTransaction};
 ghost use Rattle.tx_codec.specs.Txid.{txid_of};
 ghost use Rattle.desk_machine.specs.Machine.{add_pending, is_later, is_repeat, pending_by_tx, whole_tx};
 ghost use Rattle.desk_machine.specs.Replies.{BadHex, BadTx, Refused, plain_reply};
+ghost use Rattle.fund_desk.specs.Kept.{AreTxidsOf};
 
-use crate::chain::{add_pending, is_later, is_repeat};
+use crate::chain::{add_pending, is_later};
+use crate::pending_txids::PendingTxids;
 use crate::records::refuse_book;
 use desk_machine::{Refusal, Reply};
 use fund_base::Memory;
@@ -16,9 +18,11 @@ use hex::FromHexError;
 use std::alloc::Global;
 use tx_codec::{Tx, TxFault, read_whole_tx, txid};
 
-/// Adds a transaction behind those that wait, unless it or the book refuses. The error is out of memory.
-fn add_tx(held: &mut Held, tx: Tx) -> Result<Reply, Memory>
+/// Adds a transaction behind those that wait, which have these txids, unless it or the book refuses. The error is out of
+/// memory.
+fn add_tx(held: &mut Held, txids: &mut PendingTxids, tx: Tx) -> Result<Reply, Memory>
     requires held { IsHeld held.old }
+    requires txids { AreTxidsOf held.old.wallet.pending txids.old }
     requires text { IsTransaction tx }
     ensures fresh { OnErr result (is_repeat held.old.wallet.pending (txid_of tx) ≡ false) }
     ensures first { OnErr result (is_later held.old.wallet.pending tx ≡ false) }
@@ -27,15 +31,16 @@ fn add_tx(held: &mut Held, tx: Tx) -> Result<Reply, Memory>
     ensures held { IsHeld held.new }
     ensures change { held.new.wallet.change ≡ held.old.wallet.change }
     ensures memory { OnErr result (held.new ≡ held.old) }
+    ensures txids { AreTxidsOf held.new.wallet.pending txids.new }
 {
     let id = txid(&tx);
-    if is_repeat(&held.wallet.pending, &id) {
+    if txids.has(&id) {
         return Ok(Reply::Refused(Refusal::Repeat));
     }
-    if is_later(&held.wallet.pending, &tx, &id) {
+    if is_later(txids, &tx, &id) {
         return Ok(Reply::Refused(Refusal::ParentLater));
     }
-    match add_pending(held, tx) {
+    match add_pending(held, txids, tx, id) {
         Ok(()) => Ok(Reply::Seen(id)),
         Err(fault) => refuse_book(fault),
     }
@@ -64,35 +69,49 @@ fn refuse_hex(error: FromHexError) -> Result<Reply, Memory>
 }
 
 /// Adds the transaction of these bytes, all of them.
-fn add_bytes(alloc: Global, held: &mut Held, bytes: &[u8]) -> Result<Reply, Memory>
-    requires { IsHeld held.old }
+fn add_bytes(
+    alloc: Global,
+    held: &mut Held,
+    txids: &mut PendingTxids,
+    bytes: &[u8],
+) -> Result<Reply, Memory>
+    requires held { IsHeld held.old }
+    requires txids { AreTxidsOf held.old.wallet.pending txids.old }
     ensures reply { IfOk result (λ r. plain_reply r ≡ (pending_by_tx held.old (whole_tx bytes.now)).reply) }
     ensures next { OnOk result (held.new ≡ (pending_by_tx held.old (whole_tx bytes.now)).held) }
     ensures held { IsHeld held.new }
     ensures change { held.new.wallet.change ≡ held.old.wallet.change }
     ensures memory { OnErr result (held.new ≡ held.old) }
+    ensures txids { AreTxidsOf held.new.wallet.pending txids.new }
 {
     match read_whole_tx(alloc, bytes) {
-        Ok(tx) => add_tx(held, tx),
+        Ok(tx) => add_tx(held, txids, tx),
         Err(fault) => refuse_tx(fault),
     }
 }
 
-/// Adds the transaction of these hex digits behind those that wait. The first of these refuses it: the digits aren't an
-/// even number of hex digits; the bytes aren't a transaction; one of its txid waits; it or one that waits spends an output
-/// of it; the book. The error is out of memory: the chain is then as before.
+/// Adds the transaction of these hex digits behind those that wait, which have these txids. The first of these refuses it:
+/// the digits aren't an even number of hex digits; the bytes aren't a transaction; one of its txid waits; it or one that
+/// waits spends an output of it; the book. The error is out of memory: the chain is then as before.
 #[tactic(auto, unfolding(desk_machine::specs::Machine::add_pending))]
-pub fn add_hex(alloc: Global, held: &mut Held, digits: &[u8]) -> Result<Reply, Memory>
-    requires { IsHeld held.old }
+pub fn add_hex(
+    alloc: Global,
+    held: &mut Held,
+    txids: &mut PendingTxids,
+    digits: &[u8],
+) -> Result<Reply, Memory>
+    requires held { IsHeld held.old }
+    requires txids { AreTxidsOf held.old.wallet.pending txids.old }
     ensures reply { IfOk result (λ r. plain_reply r ≡ (add_pending held.old digits.now).reply) }
     ensures next { OnOk result (held.new ≡ (add_pending held.old digits.now).held) }
     ensures held { IsHeld held.new }
     ensures change { held.new.wallet.change ≡ held.old.wallet.change }
     ensures memory { OnErr result (held.new ≡ held.old) }
     ensures even { OnErr result ((length digits.now % 2 ≡ 1) → ⊥) }
+    ensures txids { AreTxidsOf held.new.wallet.pending txids.new }
 {
     match hex::decode(alloc, digits) {
-        Ok(bytes) => add_bytes(alloc, held, &bytes),
+        Ok(bytes) => add_bytes(alloc, held, txids, &bytes),
         Err(error) => refuse_hex(error),
     }
 }

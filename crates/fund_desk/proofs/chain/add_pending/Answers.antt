@@ -1,4 +1,5 @@
 use Rattle.fund_desk.proofs.ChainLaws.{added_either, book_pending, held_either, kept_either}
+use Rattle.fund_desk.proofs.TxidLaws.{txids_either}
 use Rattle.fund_desk.proofs.chain.add_pending.Goals as goal
 
 pub add_waiting-requires-clause-same : goal.add_waiting-requires-clause-same
@@ -14,3 +15,7 @@ returns-clause-held c =
 
 pub returns-clause-kept : goal.returns-clause-kept
 returns-clause-kept c = kept_either c.add_waiting.result c.args.held.now c.add_waiting.new.wallet c.add_waiting.new.book c.add_waiting.ensures.kept_wallet c.add_waiting.ensures.kept_book
+
+pub returns-clause-txids : goal.returns-clause-txids
+returns-clause-txids c =
+    txids_either c.add_waiting.result c.args.held.now.wallet c.add_waiting.new.wallet c.args.tx c.add_waiting.new.txids c.add_waiting.ensures.wallet c.add_waiting.ensures.kept_wallet c.add_waiting.ensures.txids c.add_waiting.ensures.kept_txids

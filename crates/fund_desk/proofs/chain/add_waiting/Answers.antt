@@ -5,6 +5,7 @@ use Rattle.tx_codec.specs.Txid.{txid_of}
 use Rattle.wallet_text.specs.PlainWallet.{PlainWallet}
 use Rattle.wallet_text.specs.WalletRules.{IsWallet}
 use Rattle.fund_desk.proofs.ChainLaws.{fresh_book, wallet_more}
+use Rattle.fund_desk.proofs.TxidLaws.{same_kept, told_ok}
 use Rattle.fund_desk.proofs.chain.add_waiting.Goals as goal
 
 pub add_pending-requires-clause-fresh : goal.add_pending-requires-clause-fresh
@@ -25,3 +26,9 @@ invariant_of-wallet-2 c =
     let room = c.in_ok-reserve.ensures.ok in
     let pushed = c.push.ensures.items ∙ ap (λ (b : Bool). cond b (c.reserve.new.self.items ++ c.args.tx ∷ []) c.reserve.new.self.items) (c.push.ensures.succeeds (omega arith)) ∙ ap (λ (ts : List Transaction). ts ++ c.args.tx ∷ []) c.in_ok-reserve.ensures.items in
     wallet_more w c.args.wallet.now c.args.tx c.push.new.self.items c.wallet.view_is pushed (subst IsWallet c.wallet.view_is c.wallet.invariant) c.requires.text c.requires.fresh c.requires.first
+
+pub returns-clause-txids : goal.returns-clause-txids
+returns-clause-txids c =
+    let e = c.in_ok-reserve-2.ensures in
+    let kept = same_kept c.args.wallet.now.pending c.args.txids.now c.reserve-2.new.self e.txids e.parents c.requires.txids in
+    told_ok c.add.result (c.add.ensures.succeeds e.room) (c.add.ensures.added c.args.wallet.now.pending) kept

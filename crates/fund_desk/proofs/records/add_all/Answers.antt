@@ -16,7 +16,7 @@ reading-init c =
       held = c.requires.held;
       file = c.in_ok-shelf.ensures;
       fine = refl;
-      change = refl;
+      wallet = refl;
       so_far = so_far_none c.args.bytes.now k (record { hash = k.tip.hash; height = k.tip.height; place = 0; fault = None; hasher = None; digest = None }) refl refl refl;
     })
 
@@ -84,7 +84,7 @@ reading-preserved c =
       held = c.in-Ok.ensures.held;
       file = ap (λ (files : List ℕ → List ℕ). files (codes "blocks")) (e.same tt) ∙ i.file;
       fine = e.fine;
-      change = ap (λ (k : Held). k.wallet.change) c.in-Ok.ensures.added ∙ i.change;
+      wallet = ap (λ (k : Held). k.wallet) c.in-Ok.ensures.added ∙ i.wallet;
       so_far = so_far_more c.args.bytes.now c.args.held.now c.reading.held c.add_block.new.held c.reading.feed c.next.new.self b i.so_far
           (subst (λ (file : List ℕ). next_of file c.reading.feed ≡ Ok (Some (b, c.next.new.self.place))) i.file (exact tt i.fine)) (within tt i.fine).0 (subst (λ (file : List ℕ). c.next.new.self.place ≤ length file) i.file (within tt i.fine).1) moves.1
           moves.2 c.in-Ok.ensures.exact c.in-Ok.ensures.added;

@@ -9,7 +9,7 @@ invariant-reading l = record {
   held : IsHeld l.held;
   file : (view_of l.shelf).files (codes "blocks") ≡ l.bytes;
   fine : l.feed.fault ≡ None;
-  change : l.held.wallet.change ≡ l.initial.held.wallet.change;
+  wallet : l.held.wallet ≡ l.initial.held.wallet;
   so_far : SoFar l.bytes l.initial.held l.held l.feed;
 }
 

@@ -1,4 +1,7 @@
+use Rattle.std.proofs.Common.{ap, subst, sym}
+use Rattle.wallet_text.specs.PlainWallet.{PlainWallet}
 use Rattle.desk_machine.specs.State.{PlainDesk}
+use Rattle.fund_desk.specs.Kept.{AreTxidsOf}
 use Rattle.fund_desk.proofs.DeskLaws.{desk_grown}
 use Rattle.fund_desk.proofs.StepLaws.{blocks_left, blocks_next, blocks_reply}
 use Rattle.fund_desk.proofs.desk.Desk.blocks.Goals as goal
@@ -6,7 +9,9 @@ use Rattle.fund_desk.proofs.desk.Desk.blocks.Goals as goal
 pub invariant_of-self : goal.invariant_of-self
 invariant_of-self c =
     let d : PlainDesk = record { held = c.self.inside.held; committed = c.self.inside.committed.items; jobs = c.self.inside.jobs.items } in
-    desk_grown d c.add_all.new.held c.self.invariant c.add_all.ensures.held c.add_all.ensures.change
+    let same = c.add_all.ensures.wallet in
+    let rules = desk_grown d c.add_all.new.held c.self.invariant.0 c.add_all.ensures.held (ap (λ (w : PlainWallet). w.change) same) in
+    (rules, subst (λ (w : PlainWallet). AreTxidsOf w.pending c.self.inside.txids) (sym same) c.self.invariant.1)
 
 pub returns-clause-reply : goal.returns-clause-reply
 returns-clause-reply c =

@@ -8,4 +8,5 @@ use Rattle.fund_desk.proofs.desk.Desk.close.Goals as goal
 pub invariant_of-self : goal.invariant_of-self
 invariant_of-self c =
     let d : PlainDesk = record { held = c.self.inside.held; committed = c.self.inside.committed.items; jobs = c.self.inside.jobs.items } in
-    subst (λ (js : List Job). IsDesk (record { held = d.held; committed = d.committed; jobs = js })) (sym c.close.ensures) (desk_close d c.args.name.now c.self.invariant)
+    let rules = subst (λ (js : List Job). IsDesk (record { held = d.held; committed = d.committed; jobs = js })) (sym c.close.ensures) (desk_close d c.args.name.now c.self.invariant.0) in
+    (rules, c.self.invariant.1)

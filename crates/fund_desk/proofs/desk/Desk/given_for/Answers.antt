@@ -17,7 +17,7 @@ give_out-requires-clause-job c =
     let jobs = c.self.inside.jobs.items in
     let name = c.args.name.now in
     let at = sym (c.in-Some.ensures ∙ ap (λ (js : List Job). job_at js name) c.deref.ensures.value) in
-    All-contains (IsJob c.self.inside.held.wallet.change) jobs c.in-Some.job.now c.self.invariant.each (job_stands jobs name c.in-Some.job.now at).0
+    All-contains (IsJob c.self.inside.held.wallet.change) jobs c.in-Some.job.now c.self.invariant.0.each (job_stands jobs name c.in-Some.job.now at).0
 
 pub returns-in-Some-clause-given : goal.returns-in-Some-clause-given
 returns-in-Some-clause-given c =

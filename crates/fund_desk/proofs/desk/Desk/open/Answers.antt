@@ -40,7 +40,8 @@ invariant_of-self-2 c =
     let few : nat_le 64 (length d.jobs) ≡ false = ap (λ (js : List Job). nat_le 64 (length js)) (sym c.deref-2.ensures.value) ∙ sym c.is_full.ensures ∙ c.if-is_full.false in
     let made = rw c.in-Ok.is at c.in_ok-made.ensures.made in
     let due = ap (λ (ps : List Payment). plan_for (desk_of d.held ps) request) (sym c.deref-3.ensures.value) ∙ made.due_is in
-    subst IsDesk (sym (with_job d name p c.in_ok-job.job c.push.new.self.items c.in_ok-push.ensures.items c.in_ok-job.ensures)) (desk_open d name p c.self.invariant none few (plan_change (desk_of d.held d.committed) request p due))
+    let rules = subst IsDesk (sym (with_job d name p c.in_ok-job.job c.push.new.self.items c.in_ok-push.ensures.items c.in_ok-job.ensures)) (desk_open d name p c.self.invariant.0 none few (plan_change (desk_of d.held d.committed) request p due)) in
+    (rules, c.self.invariant.1)
 
 pub returns-clause-reply : goal.returns-clause-reply
 returns-clause-reply c =

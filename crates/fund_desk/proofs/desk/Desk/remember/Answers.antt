@@ -15,7 +15,8 @@ invariant_of-self-2 c =
     let name = c.args.name.now in
     let g = c.args.given in
     let due = subst (λ (x : PlainDesk). IsDue x name g) (sym c.self.view_is) c.requires in
-    subst IsDesk (sym (remembered d name g.payment _ _ c.in_ok-push.ensures.items c.close.ensures)) (desk_due d name g c.self.invariant due)
+    let rules = subst IsDesk (sym (remembered d name g.payment _ _ c.in_ok-push.ensures.items c.close.ensures)) (desk_due d name g c.self.invariant.0 due) in
+    (rules, c.self.invariant.1)
 
 pub returns-clause-reply : goal.returns-clause-reply
 returns-clause-reply c =
@@ -40,7 +41,7 @@ returns-clause-commits c = λ txid psbt e.
     let g = c.args.given in
     let due = subst (λ (x : PlainDesk). IsDue x name g) (sym c.self.view_is) c.requires in
     subst (λ (x : PlainDesk). IsCommit c.args.self.now name txid psbt x) (sym (remembered d name g.payment _ _ c.in_ok-push.ensures.items c.close.ensures))
-    (subst (λ (x : PlainDesk). IsCommit x name txid psbt (given_desk d name g.payment)) c.self.view_is (commit_due d name g c.self.invariant due txid psbt e))
+    (subst (λ (x : PlainDesk). IsCommit x name txid psbt (given_desk d name g.payment)) c.self.view_is (commit_due d name g c.self.invariant.0 due txid psbt e))
 
 pub returns-in_err-push-clause-takes : goal.returns-in_err-push-clause-takes
 returns-in_err-push-clause-takes c = on_any_err c.from_residual.result _ (c.requires.job, c.requires.given.funded, c.requires.stands, c.requires.given.answers)
