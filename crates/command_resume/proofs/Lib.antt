@@ -1,4 +1,5 @@
 pub mod AnswerLaws
+pub mod AskingLaws
 pub mod EndingLaws
 pub mod EndsLaws
 pub mod Finished

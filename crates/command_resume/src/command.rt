@@ -8,6 +8,7 @@ ghost use Rattle.command_fund.specs.Inputs.{AsksTwice, NoneBehind};
 ghost use Rattle.command_fund.specs.Jobs.{KeepsJobs};
 ghost use Rattle.command_fund.specs.Names.{plain_payment};
 ghost use Rattle.command_fund.specs.Statuses.{IsBeforeTheLog};
+ghost use Rattle.command_resume.specs.Asked.{AsksOnceIfRefused};
 ghost use Rattle.command_resume.specs.Endings.{CanBeLeft};
 ghost use Rattle.command_resume.specs.Leaving.{HasLeft};
 ghost use Rattle.command_resume.specs.Statuses.{Ends};
@@ -73,6 +74,8 @@ pub fn resume<H: Shelf, O: Sink, K: Keeper>(
     // order; and for no other name. Behind a file that is refused it asks for none.
     ensures asked { H.tells → AsksTwice (plain_sources sources.now) (plain_payment payment.now) (H.view shelf.old) (H.view shelf.new) }
     ensures none_behind { H.tells → NoneBehind (plain_sources sources.now) (H.view shelf.old) (H.view shelf.new) }
+    // Once alone where the files come to a refusal: of a file, of the payment to be replaced or of the plan.
+    ensures read_once { H.tells → AsksOnceIfRefused (plain_sources sources.now) (plain_payment payment.now) (H.view shelf.old) (H.view shelf.new) }
 
     // A read that failed is told as that, and as nothing else.
     ensures all_read { result ≢ Status.ReadFault → (H.view shelf.new).reads ≡ (H.view shelf.old).reads }

@@ -10,6 +10,7 @@ ghost use Rattle.command_fund.specs.Inputs.{AsksTwice, NoneBehind};
 ghost use Rattle.command_fund.specs.Names.{plain_payment};
 ghost use Rattle.command_fund.specs.Stops as payments;
 ghost use Rattle.kept_job.specs.Refused.{IsNotResumed};
+ghost use Rattle.command_resume.specs.Asked.{AsksOnceIfRefused};
 ghost use Rattle.command_resume.specs.Endings.{IsEnded};
 ghost use Rattle.command_resume.specs.Ready.{HasEnded, IsPlanned, IsReady};
 ghost use Rattle.command_resume.specs.Runs.{IsConcluded, IsRunOn};
@@ -123,6 +124,7 @@ fn prepare<H: Shelf>(
     ensures frame { OnlyReads H.tells (H.view shelf.old) (H.view shelf.new) }
     ensures stop { IfErr result (payments.StopsFor H.tells (plain_sources sources.now) (plain_payment payment.now) (H.view shelf.old) (H.view shelf.new)) }
     ensures asked { H.tells → AsksTwice (plain_sources sources.now) (plain_payment payment.now) (H.view shelf.old) (H.view shelf.new) }
+    ensures read_once { H.tells → AsksOnceIfRefused (plain_sources sources.now) (plain_payment payment.now) (H.view shelf.old) (H.view shelf.new) }
     ensures none_behind { H.tells → NoneBehind (plain_sources sources.now) (H.view shelf.old) (H.view shelf.new) }
     ensures all_read { ((file : File) → result ≢ Err (FundStop.Read file)) → (H.view shelf.new).reads ≡ (H.view shelf.old).reads }
 {
@@ -189,6 +191,7 @@ pub fn go_on<H: Shelf, K: Keeper>(
     ensures frame { OnlyReads H.tells (H.view shelf.old) (H.view shelf.new) }
     ensures stop { IfErr result (StopsFor H.tells K.tells (plain_sources sources.now) (plain_payment payment.now) job.now (H.view shelf.old) (H.view shelf.new) (K.view keeper.old) (K.view keeper.new)) }
     ensures asked { H.tells → AsksTwice (plain_sources sources.now) (plain_payment payment.now) (H.view shelf.old) (H.view shelf.new) }
+    ensures read_once { H.tells → AsksOnceIfRefused (plain_sources sources.now) (plain_payment payment.now) (H.view shelf.old) (H.view shelf.new) }
     ensures none_behind { H.tells → NoneBehind (plain_sources sources.now) (H.view shelf.old) (H.view shelf.new) }
     ensures all_read { ((file : File) → result ≢ Err (Stop.Funding (FundStop.Read file))) → (H.view shelf.new).reads ≡ (H.view shelf.old).reads }
     ensures jobs { K.tells → (K.view keeper.new).jobs ≡ (K.view keeper.old).jobs }

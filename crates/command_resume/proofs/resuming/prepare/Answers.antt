@@ -6,6 +6,7 @@ use Rattle.command_fund.proofs.InputLaws.{inputs_behind}
 use Rattle.command_fund.proofs.LeavingLaws.{asked_once, asked_twice}
 use Rattle.command_fund.specs.Names.{plain_payment}
 use Rattle.command_fund.specs.declared.refusal.Stop.{Stop as FundStop}
+use Rattle.command_resume.proofs.AskingLaws.{never_refused, once_anyway}
 use Rattle.command_resume.proofs.GoingLaws.{named_on, plan_stopped, reading_stopped}
 use Rattle.command_resume.proofs.resuming.prepare.Goals as goal
 
@@ -75,6 +76,24 @@ returns-in_err-held-clause-none_behind g c = c.read_inputs.ensures.none_behind
 
 pub returns-in_err-plan-clause-none_behind : goal.returns-in_err-plan-clause-none_behind
 returns-in_err-plan-clause-none_behind g c = c.read_inputs.ensures.none_behind
+
+-- ---- files that are refused
+
+pub returns-in_err-held-clause-read_once : goal.returns-in_err-held-clause-read_once
+returns-in_err-held-clause-read_once g c = once_anyway _ (plain_sources c.args.sources.now) (plain_payment c.args.payment.now) (g.H.Shelf.view c.args.shelf.now) (g.H.Shelf.view c.read_inputs.new.shelf) c.read_inputs.ensures.asked
+
+pub returns-in_err-plan-clause-read_once : goal.returns-in_err-plan-clause-read_once
+returns-in_err-plan-clause-read_once g c = once_anyway _ (plain_sources c.args.sources.now) (plain_payment c.args.payment.now) (g.H.Shelf.view c.args.shelf.now) (g.H.Shelf.view c.read_inputs.new.shelf) c.read_inputs.ensures.asked
+
+pub returns-in_err-digest-clause-read_once : goal.returns-in_err-digest-clause-read_once
+returns-in_err-digest-clause-read_once g c =
+    let i = c.in_ok-held.field-0 in
+    never_refused _ (plain_sources c.args.sources.now) (plain_payment c.args.payment.now) i.held i.request _ (g.H.Shelf.view c.args.shelf.now) (g.H.Shelf.view c.read_digest.new.shelf) c.in_ok-held.ensures.held c.in_ok-plan.ensures.plan.plan c.keeps_rules.ensures
+
+pub returns-clause-read_once : goal.returns-clause-read_once
+returns-clause-read_once g c =
+    let i = c.in_ok-held.field-0 in
+    never_refused _ (plain_sources c.args.sources.now) (plain_payment c.args.payment.now) i.held i.request _ (g.H.Shelf.view c.args.shelf.now) (g.H.Shelf.view c.read_digest.new.shelf) c.in_ok-held.ensures.held c.in_ok-plan.ensures.plan.plan c.keeps_rules.ensures
 
 -- ---- failed reads
 

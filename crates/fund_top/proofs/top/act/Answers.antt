@@ -21,7 +21,7 @@ pub returns-in-Coins-clause-asked : goal.returns-in-Coins-clause-asked
 returns-in-Coins-clause-asked g c = rw c.in-Coins.is (λ told. (c.coins.ensures.asked told, c.coins.ensures.refused_alone told))
 
 pub returns-in-Resume-clause-asked : goal.returns-in-Resume-clause-asked
-returns-in-Resume-clause-asked g c = rw c.in-Resume.is (λ told. (c.resume.ensures.asked told, c.resume.ensures.none_behind told))
+returns-in-Resume-clause-asked g c = rw c.in-Resume.is (λ told. (c.resume.ensures.asked told, c.resume.ensures.none_behind told, c.resume.ensures.read_once told))
 
 pub returns-in-Fund-clause-read_once : goal.returns-in-Fund-clause-read_once
 returns-in-Fund-clause-read_once g c = rw c.in-Fund.is c.fund.ensures.read_once
