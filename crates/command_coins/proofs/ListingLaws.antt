@@ -1,6 +1,6 @@
 -- What the files of a listing come to, and how its printing ends.
 use Rattle.std.proofs.Common.{◌≡◌, ◌∙◌, ◌++◌, ℕ, List, Result, Ok, Err, inl, inr, sym, ap, subst}
-use Rattle.fund_base.specs.Causes.{ShelfView, SinkView, HasPart}
+use Rattle.fund_base.specs.Causes.{ShelfView, SinkView}
 use Rattle.block_feed.specs.Block.{ChainBlock}
 use Rattle.wallet_text.specs.PlainWallet.{PlainWallet}
 use Rattle.fund_files.proofs.ChainLaws.{chain_due, chain_held}
@@ -16,7 +16,7 @@ use Rattle.command_end.specs.Printed.{IsPut}
 use Rattle.command_end.specs.declared.status.Status.{Status}
 use Rattle.command_end.specs.declared.status.Status.TheVariants as statuses
 use Rattle.command_coins.specs.Due.{by_chain, due_of, listing_in}
-use Rattle.command_coins.specs.Statuses.{Ends, IsListed, IsReported, printed_of}
+use Rattle.command_coins.specs.Statuses.{Ends, IsListed, IsReported}
 
 pub refused_due : (files : List ℕ → List ℕ) (s : Sources) (cause : FileCause) → IsChainMeant (files s.wallet) (files s.blocks) cause → due_of files s ≡ Err cause
 refused_due files s cause h = ap by_chain (chain_due (files s.wallet) (files s.blocks) cause h)
@@ -35,15 +35,16 @@ listed_is told files s k text h is =
       comes_to = λ t. listing_due files s k.wallet h.held.blocks (h.chain t) ∙ ap (λ (l : List ℕ). Ok l) (sym lists);
     }
 
-part_due : (report due : List ℕ) (sink sink' : SinkView) → due ≡ report → HasPart sink.written report sink'.written → HasPart sink.written due sink'.written
-part_due report due sink sink' is part = subst (λ (r : List ℕ). HasPart sink.written r sink'.written) (sym is) part
+-- a listing to which the files come is no refusal of them
+reported : (told_files : Type 0) (files : List ℕ → List ℕ) (s : Sources) (listing : List ℕ) → IsListed told_files files s listing → told_files → IsReported (due_of files s)
+reported told_files files s listing h t = subst IsReported (sym (h.comes_to t)) tt
 
 pub listing_ends : (told_files told : Type 0) (s : Sources) (listing : List ℕ) (shelf shelf' : ShelfView) (sink sink' : SinkView) (result : Status) → IsListed told_files shelf.files s listing → IsPut told listing statuses.Done sink sink' result
     → Ends told_files told s shelf shelf' sink sink' result
 listing_ends told_files told s listing shelf shelf' sink sink' result h (inl e) = subst (λ (x : Status). Ends told_files told s shelf shelf' sink sink' x) (sym e.0) (listing, h, e.1)
 listing_ends told_files told s listing shelf shelf' sink sink' result h (inr (inl e)) =
     subst (λ (x : Status). Ends told_files told s shelf shelf' sink sink' x) (sym e.0)
-    ((λ f. subst IsReported (sym (h.comes_to f)) tt), e.1, λ f t. part_due listing (printed_of (due_of shelf.files s)) sink sink' (ap printed_of (h.comes_to f)) (e.2 t))
+    (reported told_files shelf.files s listing h, e.1, (listing, h, e.2))
 listing_ends told_files told s listing shelf shelf' sink sink' result h (inr (inr e)) =
     subst (λ (x : Status). Ends told_files told s shelf shelf' sink sink' x) (sym e.0)
-    (inr (e.1, (λ f. subst IsReported (sym (h.comes_to f)) tt), λ f t. part_due listing (printed_of (due_of shelf.files s)) sink sink' (ap printed_of (h.comes_to f)) (e.2 t)))
+    (inr (e.1, reported told_files shelf.files s listing h, (listing, h, e.2)))

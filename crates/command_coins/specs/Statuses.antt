@@ -22,11 +22,6 @@ abbrev pub status_of : Result (List ℕ) FileCause → Status
 status_of (Err cause) = status_of_file cause
 status_of (Ok listing) = statuses.Done
 
--- what is printed, where nothing is refused
-abbrev pub printed_of : Result (List ℕ) FileCause → List ℕ
-printed_of (Err cause) = []
-printed_of (Ok listing) = listing
-
 -- The files come to a listing.
 abbrev pub IsReported : Result (List ℕ) FileCause → Type 0
 IsReported (Err cause) = ⊥
@@ -69,9 +64,9 @@ names_to s Request = []
 abbrev pub AsksToUnread : Sources → ShelfView → ShelfView → Type 0
 AsksToUnread s shelf shelf' = (file : File) × IsUnread s.wallet s.blocks file shelf shelf' × Asks (names_to s file) shelf.asked shelf'.asked
 
--- the sink has got a part of what is due
+-- The sink has got a part of a listing of a wallet and blocks. Where the files are told, they hold these and come to it.
 abbrev pub HasDue : Type 0 → Type 0 → Sources → ShelfView → SinkView → SinkView → Type 0
-HasDue told_files told s shelf sink sink' = told_files → told → HasPart sink.written (printed_of (due_of shelf.files s)) sink'.written
+HasDue told_files told s shelf sink sink' = (listing : List ℕ) × IsListed told_files shelf.files s listing × (told → HasPart sink.written listing sink'.written)
 
 -- Nothing is refused, and the sink failed and has got a part of what is due.
 abbrev pub EndsUnwritten : Type 0 → Type 0 → Sources → ShelfView → SinkView → SinkView → Type 0
