@@ -77,6 +77,7 @@ impl Grinder {
     pub fn reserve(&mut self, tries: u64) -> Result<(), Memory>
         ensures walk { self.new ≡ record self.old { spare = self.new.spare } }
         ensures ok { OnOk result (tries ≤ self.new.spare) }
+        ensures kept { OnOk result (self.old.spare ≤ self.new.spare) }
         ensures err { OnErr result (self.new ≡ self.old) }
     {
         self.search.reserve(tries)

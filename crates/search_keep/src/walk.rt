@@ -67,6 +67,7 @@ impl Walk {
         ensures walk { search_of self.new ≡ record (search_of self.old) { spare = (search_of self.new).spare } }
         ensures kind { kind_of self.new ≡ kind_of self.old }
         ensures ok { OnOk result (tries ≤ (search_of self.new).spare) }
+        ensures kept { OnOk result ((search_of self.old).spare ≤ (search_of self.new).spare) }
         ensures err { OnErr result (search_of self.new ≡ search_of self.old) }
     {
         match self {

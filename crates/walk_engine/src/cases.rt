@@ -15,7 +15,7 @@ use crate::stack::Stack;
 use pick_problem::Kind;
 
 /// Which rule applies to a try.
-#[derive(Clone, Copy, Debug, PartialEq, Eq)]
+#[derive(Clone, Copy, PartialEq, Eq)]
 pub(crate) enum Case {
     /// With all later places it doesn't reach the least value.
     Short,

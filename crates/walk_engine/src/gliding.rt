@@ -13,7 +13,7 @@ use crate::stack::Stack;
 use crate::ways::drop_place;
 
 /// Where a run of tries leads: the next place; and how many tries were made.
-#[derive(Clone, Copy, Debug)]
+#[derive(Clone, Copy)]
 pub(crate) struct Run {
     pub(crate) next: u32,
     pub(crate) made: u64,

@@ -102,6 +102,7 @@ impl Search {
     pub fn reserve(&mut self, tries: u64) -> Result<(), Memory>
         ensures walk { self.new ≡ record self.old { spare = self.new.spare } }
         ensures ok { OnOk result (tries ≤ self.new.spare) }
+        ensures kept { OnOk result (self.old.spare ≤ self.new.spare) }
         ensures err { OnErr result (self.new ≡ self.old) }
     {
         if tries <= self.spare {
