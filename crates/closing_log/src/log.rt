@@ -39,6 +39,7 @@ impl Worded for Stage {
 pub struct Section {
     /// The row of the ladder.
     pub row: u8,
+    /// Which search of that row.
     pub stage: Stage,
     /// The digest of the search's problem.
     pub digest: [u8; 32],
@@ -61,6 +62,7 @@ impl Model for Section {
 pub struct OpenSection {
     /// The row of the ladder.
     pub row: u8,
+    /// Which search of that row.
     pub stage: Stage,
     /// The digest of the search's problem.
     pub digest: [u8; 32],
@@ -79,8 +81,11 @@ impl Model for OpenSection {
 /// The searches of a run, in order. A log that isn't ended has one that goes on.
 #[derive(Debug, Drop)]
 pub struct LogText {
+    /// The searches that came to their ends.
     pub closed: Vec<Section>,
+    /// The search that goes on.
     pub tail: Option<OpenSection>,
+    /// Whether the run came to its end.
     pub ended: bool,
 }
 

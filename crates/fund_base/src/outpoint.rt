@@ -33,6 +33,8 @@ impl Txid {
 /// Outpoints are ordered by the bytes of the txid as stored, then by index.
 #[derive(Clone, Copy, Debug, PartialEq, Eq, PartialOrd, Ord, Hash)]
 pub struct OutPoint {
+    /// The txid of the transaction.
     pub txid: Txid,
+    /// The output's place among its outputs, from 0.
     pub index: u32,
 }

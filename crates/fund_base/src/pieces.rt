@@ -48,7 +48,9 @@ impl From<AllocError> for ReadError {
 /// The first bytes of a file, and whether it has more than these.
 #[derive(Debug, Drop)]
 pub struct Front {
+    /// The first bytes, in the file's order.
     pub bytes: Vec<u8>,
+    /// Whether the file has more.
     pub longer: bool,
 }
 

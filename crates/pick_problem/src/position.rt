@@ -33,7 +33,7 @@ pub enum Progress {
 /// Why a search can't go on from a position.
 #[derive(Clone, Copy, Debug, PartialEq, Eq)]
 pub enum RestoreFault {
-    /// No search of the problem with these tokens stands at such a position.
+    /// No search of the problem with these tokens may stand at such a position.
     IllFormed,
     /// There was not enough memory.
     Memory,

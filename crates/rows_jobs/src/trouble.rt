@@ -5,7 +5,7 @@ use std::alloc::AllocError;
 use std::io;
 
 /// What stopped the program.
-#[derive(Clone, Copy, Debug)]
+#[derive(Clone, Copy)]
 pub(crate) enum Trouble {
     /// There was not enough memory.
     Memory,

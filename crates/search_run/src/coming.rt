@@ -12,7 +12,7 @@ use random_draw::draw;
 use std::alloc::Global;
 
 /// The place of a step to which a run comes, or the number of steps; and whether its column has a result so far.
-#[derive(Clone, Copy, Debug, PartialEq, Eq)]
+#[derive(Clone, Copy, PartialEq, Eq)]
 pub(crate) struct Coming {
     pub(crate) at: usize,
     pub(crate) some: bool,

@@ -15,7 +15,7 @@ pub enum RestoreRefused {
     /// digest is another. An open section comes after the closed ones; it is also wrong where there is none, and
     /// where the saved row or stage is another.
     Section(u64),
-    /// No search of the open section's problem stands at the saved position.
+    /// No search of the open section's problem may stand at the saved position with its letters.
     IllFormed,
     /// The closed section at this index has an answer that isn't admissible for its problem.
     Answer(u64),

@@ -197,7 +197,7 @@ fn replay(
 }
 
 /// What a run that is restored has: the place of its step, the walk of that, and what it has done.
-#[derive(Debug, Drop)]
+#[derive(Drop)]
 pub(crate) struct Restored {
     pub(crate) at: usize,
     pub(crate) walk: Walk,

@@ -11,7 +11,7 @@ use search_keep::Walk;
 use std::alloc::Global;
 
 /// What tries have come to: how many were made, and whether the walk is done.
-#[derive(Clone, Copy, Debug, PartialEq, Eq)]
+#[derive(Clone, Copy, PartialEq, Eq)]
 pub(crate) struct Turn {
     pub(crate) made: u64,
     pub(crate) done: bool,

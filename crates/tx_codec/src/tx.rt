@@ -103,11 +103,13 @@ impl TxOut {
 /// A transaction.
 #[derive(Debug, Drop)]
 pub struct Tx {
+    /// The version (BIP 68 gives a meaning to sequences from version 2 on).
     pub version: u32,
     /// Its inputs, in order.
     pub inputs: Vec<TxIn>,
     /// Its outputs, in order.
     pub outputs: Vec<TxOut>,
+    /// The lock time: a height below 500,000,000, else seconds since 1970. 0 locks nothing.
     pub locktime: u32,
     /// Whether its text has the segregated form, with marker, flag and witnesses (BIP 144).
     pub segwit: bool,
