@@ -7,7 +7,7 @@ use fund_base::Memory;
 use fund_report::{FundedReport, InLine};
 use pay_words::Asked;
 use request_making::{Payee, Payment};
-use serde_json::{Value, json};
+use serde_json::{Map, Value};
 use std::alloc::Global;
 use std::io;
 
@@ -34,16 +34,50 @@ fn sentence_value(alloc: Global, sentence: Option<&str>) -> Result<Value, Memory
     }
 }
 
-/// What a command printed: its status, the lines, and the sentence that says what to do, or null.
+/// Puts a member behind those of an object.
+fn put(
+    alloc: Global,
+    object: &mut Map<String, Value>,
+    name: &str,
+    value: Value,
+) -> Result<(), Memory> {
+    object.insert(String::from_str(alloc, name)?, value)?;
+    Ok(())
+}
+
+/// Puts a text.
+fn put_text(
+    alloc: Global,
+    object: &mut Map<String, Value>,
+    name: &str,
+    text: &str,
+) -> Result<(), Memory> {
+    put(alloc, object, name, Value::try_from_str(alloc, text)?)
+}
+
+/// Puts what a command printed: its status, the lines, and the sentence that says what to do, or null.
+fn put_said(
+    alloc: Global,
+    object: &mut Map<String, Value>,
+    code: u8,
+    said: &str,
+    sentence: Option<&str>,
+) -> Result<(), Memory> {
+    put(alloc, object, "status", Value::from(code))?;
+    put(alloc, object, "lines", lines(alloc, said)?)?;
+    put(alloc, object, "advice", sentence_value(alloc, sentence)?)
+}
+
+/// What a command printed.
 pub fn said_value(
     alloc: Global,
     code: u8,
     said: &str,
     sentence: Option<&str>,
 ) -> Result<Value, Memory> {
-    let lines = lines(alloc, said)?;
-    let sentence = sentence_value(alloc, sentence)?;
-    Ok(json!(in alloc; {"status": code, "lines": lines, "advice": sentence})?)
+    let mut object = Map::new(alloc);
+    put_said(alloc, &mut object, code, said, sentence)?;
+    Ok(Value::Object(object))
 }
 
 /// The request file of what is asked, where it is to be shown, and else null.
@@ -67,24 +101,29 @@ pub fn refusal_value(
     said: &str,
     sentence: Option<&str>,
 ) -> Result<Value, Memory> {
-    let lines = lines(alloc, said)?;
-    let sentence = sentence_value(alloc, sentence)?;
-    let request = request_value(alloc, asked)?;
-    Ok(json!(in alloc; {"status": code, "lines": lines, "advice": sentence, "request": request})?)
+    let mut object = Map::new(alloc);
+    put_said(alloc, &mut object, code, said, sentence)?;
+    put(alloc, &mut object, "request", request_value(alloc, asked)?)?;
+    Ok(Value::Object(object))
+}
+
+/// Puts whom a payment pays, as a request file names it.
+fn put_payee(alloc: Global, object: &mut Map<String, Value>, payee: &Payee) -> Result<(), Memory> {
+    match payee {
+        Payee::Address(address) => put_text(alloc, object, "address", address.as_str()),
+        Payee::Script(script) => {
+            let script = hex::encode(alloc, script.bytes())?;
+            put_text(alloc, object, "script", script.as_str())
+        }
+    }
 }
 
 /// A recipient, as a request file names it.
 fn recipient_value(alloc: Global, payment: &Payment) -> Result<Value, Memory> {
-    let amount = payment.amount;
-    match &payment.to {
-        Payee::Address(address) => Ok(
-            json!(in alloc; {"address": address.as_str(), "amount": amount})?,
-        ),
-        Payee::Script(script) => {
-            let script = hex::encode(alloc, script.bytes())?;
-            Ok(json!(in alloc; {"script": script.as_str(), "amount": amount})?)
-        }
-    }
+    let mut object = Map::new(alloc);
+    put_payee(alloc, &mut object, &payment.to)?;
+    put(alloc, &mut object, "amount", Value::from(payment.amount))?;
+    Ok(Value::Object(object))
 }
 
 /// The recipients, in their order.
@@ -96,14 +135,66 @@ fn recipients_value(alloc: Global, payments: &[Payment]) -> Result<Value, Memory
     Ok(Value::Array(list))
 }
 
+/// A coin that is spent, and its value.
+fn coin_value(alloc: Global, line: &InLine) -> Result<Value, Memory> {
+    let mut object = Map::new(alloc);
+    let coin = coin_text(alloc, &line.coin)?;
+    put_text(alloc, &mut object, "coin", coin.as_str())?;
+    put(alloc, &mut object, "value", Value::from(line.value))?;
+    Ok(Value::Object(object))
+}
+
 /// The coins that are spent, in the order of the inputs.
 fn coins_value(alloc: Global, coins: &[InLine]) -> Result<Value, Memory> {
     let mut list = Vec::new(alloc);
     for line in coins {
-        let coin = coin_text(alloc, &line.coin)?;
-        list.push(json!(in alloc; {"coin": &coin, "value": line.value})?)?;
+        list.push(coin_value(alloc, line)?)?;
     }
     Ok(Value::Array(list))
+}
+
+/// Puts whom a payment pays, and what it spends.
+fn put_sides(
+    alloc: Global,
+    object: &mut Map<String, Value>,
+    asked: &Asked,
+    report: &FundedReport,
+) -> Result<(), Memory> {
+    put(
+        alloc,
+        object,
+        "recipients",
+        recipients_value(alloc, &asked.payments)?,
+    )?;
+    put(alloc, object, "coins", coins_value(alloc, &report.coins)?)
+}
+
+/// Puts what a payment comes to.
+fn put_figures(
+    alloc: Global,
+    object: &mut Map<String, Value>,
+    report: &FundedReport,
+    listed: Option<bool>,
+) -> Result<(), Memory> {
+    put(alloc, object, "fee", Value::from(report.fee))?;
+    put(alloc, object, "weight", Value::from(report.weight))?;
+    put(alloc, object, "vsize", Value::from(report.vsize))?;
+    put(alloc, object, "change", Value::from(report.change))?;
+    put(alloc, object, "change_listed", Value::from(listed))
+}
+
+/// Puts what the coins of a payment promise, and how they were looked for.
+fn put_choice(
+    alloc: Global,
+    object: &mut Map<String, Value>,
+    asked: &Asked,
+    report: &FundedReport,
+) -> Result<(), Memory> {
+    put_text(alloc, object, "mark", report.mark.word())?;
+    put_text(alloc, object, "choice", mark_sentence(report.mark))?;
+    put(alloc, object, "tries", Value::from(report.tries))?;
+    let seed = hex::encode(alloc, &asked.settings.seed)?;
+    put_text(alloc, object, "seed", seed.as_str())
 }
 
 /// A payment: whom it pays, what it spends, what it comes to, what its coins promise, and its PSBT. `listed` says whether
@@ -115,24 +206,12 @@ pub fn payment_value(
     listed: Option<bool>,
     psbt: &str,
 ) -> Result<Value, Memory> {
-    let recipients = recipients_value(alloc, &asked.payments)?;
-    let coins = coins_value(alloc, &report.coins)?;
-    let request = request_value(alloc, asked)?;
-    let seed = hex::encode(alloc, &asked.settings.seed)?;
-    Ok(json!(in alloc; {
-        "status": 0,
-        "recipients": recipients,
-        "coins": coins,
-        "fee": report.fee,
-        "weight": report.weight,
-        "vsize": report.vsize,
-        "change": report.change,
-        "change_listed": listed,
-        "mark": report.mark.word(),
-        "choice": mark_sentence(report.mark),
-        "tries": report.tries,
-        "seed": seed.as_str(),
-        "request": request,
-        "psbt": psbt
-    })?)
+    let mut object = Map::new(alloc);
+    put(alloc, &mut object, "status", Value::from(0_u8))?;
+    put_sides(alloc, &mut object, asked, report)?;
+    put_figures(alloc, &mut object, report, listed)?;
+    put_choice(alloc, &mut object, asked, report)?;
+    put(alloc, &mut object, "request", request_value(alloc, asked)?)?;
+    put_text(alloc, &mut object, "psbt", psbt)?;
+    Ok(Value::Object(object))
 }

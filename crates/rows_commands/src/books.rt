@@ -176,24 +176,33 @@ fn wallet_in<H: Shelf>(alloc: Global, shelf: &mut H, name: &str) -> Option<Walle
     }
 }
 
-/// What is printed of the files of this name.
-fn row_text<H: Shelf>(alloc: Global, shelf: &mut H, name: &str) -> io::Result<String> {
-    let file = format!(in alloc; "{}.wallet.json", name)?;
-    let Some(wallet) = wallet_in(alloc, shelf, file.as_str()) else {
-        return Ok(format!(in alloc; "{}: no wallet\n", name)?);
-    };
-    let blocks = format!(in alloc; "{}.blocks.dat", name)?;
-    let first = text_of(alloc, shelf, blocks.as_str(), &wallet, true)?;
-    let second = text_of(alloc, shelf, blocks.as_str(), &wallet, false)?;
-    Ok(format!(in alloc;
-        "{}: blocks first\n{}{}: pending first\n{}",
-        name, first, name, second
-    )?)
+/// Prints the book of a wallet, to which its blocks are added before or after what waits.
+fn show_book(rt: &HostRuntime, name: &str, wallet: &Wallet, blocks_first: bool) -> io::Result<()> {
+    let order = if blocks_first { "blocks" } else { "pending" };
+    println!(rt; "{name}: {order} first")?;
+    let blocks = format!(in rt.alloc(); "{name}.blocks.dat")?;
+    let mut shelf = FileShelf::new(rt);
+    let text = text_of(
+        rt.alloc(),
+        &mut shelf,
+        blocks.as_str(),
+        wallet,
+        blocks_first,
+    )?;
+    print!(rt; "{text}")
+}
+
+/// Prints both books of a wallet.
+fn show_books(rt: &HostRuntime, name: &str, wallet: &Wallet) -> io::Result<()> {
+    show_book(rt, name, wallet, true)?;
+    show_book(rt, name, wallet, false)
 }
 
 /// Prints what the files of this name come to.
 pub(crate) fn show(rt: &HostRuntime, name: &str) -> io::Result<()> {
-    let mut shelf = FileShelf::new(rt);
-    let text = row_text(rt.alloc(), &mut shelf, name)?;
-    print!(rt; "{text}")
+    let file = format!(in rt.alloc(); "{name}.wallet.json")?;
+    match wallet_in(rt.alloc(), &mut FileShelf::new(rt), file.as_str()) {
+        Some(wallet) => show_books(rt, name, &wallet),
+        None => println!(rt; "{name}: no wallet"),
+    }
 }

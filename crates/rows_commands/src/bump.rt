@@ -48,6 +48,22 @@ fn by_wallet(alloc: Global, wallet: Wallet, tip: u32, request: &Request) -> Resu
     }
 }
 
+/// What a request comes to by a wallet, both as they are written. None where one of them isn't read.
+fn by_texts(
+    alloc: Global,
+    tip: u32,
+    wallet: &str,
+    request: &str,
+) -> Result<Option<String>, Memory> {
+    let Ok(request) = read_request(alloc, request.as_bytes()) else {
+        return Ok(None);
+    };
+    match read_wallet(alloc, wallet.as_bytes()) {
+        Ok(wallet) => Ok(Some(by_wallet(alloc, wallet, tip, &request)?)),
+        Err(_) => Ok(None),
+    }
+}
+
 /// The label, and then what a request comes to.
 fn answer(
     alloc: Global,
@@ -56,15 +72,14 @@ fn answer(
     wallet: &str,
     request: &str,
 ) -> Result<String, Memory> {
-    let (Ok(tip), Ok(wallet), Ok(request)) = (
-        tip.parse::<u32>(),
-        read_wallet(alloc, wallet.as_bytes()),
-        read_request(alloc, request.as_bytes()),
-    ) else {
-        return Ok(format!(in alloc; "{label}: no wallet or no request\n")?);
+    let told = match tip.parse::<u32>() {
+        Ok(tip) => by_texts(alloc, tip, wallet, request)?,
+        Err(_) => None,
     };
-    let text = by_wallet(alloc, wallet, tip, &request)?;
-    Ok(format!(in alloc; "{label}:\n{text}")?)
+    match told {
+        Some(text) => Ok(format!(in alloc; "{label}:\n{text}")?),
+        None => Ok(format!(in alloc; "{label}: no wallet or no request\n")?),
+    }
 }
 
 /// What a row comes to.

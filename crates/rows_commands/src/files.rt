@@ -6,6 +6,7 @@
 
 use crate::books;
 use crate::shown::show_bytes;
+use command_end::Status;
 use fund_base::{FileShelf, StdSink, read_whole};
 use fund_top::run;
 use keep_sqlite::SqliteKeeper;
@@ -14,9 +15,8 @@ use std::{fs, io};
 
 const JOBS: &str = "fund-jobs.sqlite";
 
-/// The words of one command.
-fn words(alloc: Global, verb: &str, name: &str) -> io::Result<Vec<String>> {
-    let mut words = Vec::new(alloc);
+/// Puts the words of one command.
+fn put_words(alloc: Global, words: &mut Vec<String>, verb: &str, name: &str) -> io::Result<()> {
     let keeps = verb == "keep";
     let command = if keeps { "fund" } else { verb };
     words.push(String::from_str(alloc, command)?)?;
@@ -24,7 +24,7 @@ fn words(alloc: Global, verb: &str, name: &str) -> io::Result<Vec<String>> {
     words.push(format!(in alloc; "{}.blocks.dat", name)?)?;
     if verb == "desk" {
         words.push(format!(in alloc; "{}.script", name)?)?;
-        return Ok(words);
+        return Ok(());
     }
     if verb != "coins" {
         words.push(format!(in alloc; "{}.request.json", name)?)?;
@@ -33,19 +33,30 @@ fn words(alloc: Global, verb: &str, name: &str) -> io::Result<Vec<String>> {
     if keeps || verb == "resume" {
         words.push(String::from_str(alloc, name)?)?;
     }
+    Ok(())
+}
+
+/// The words of one command.
+fn words(alloc: Global, verb: &str, name: &str) -> io::Result<Vec<String>> {
+    let mut words = Vec::new(alloc);
+    put_words(alloc, &mut words, verb, name)?;
     Ok(words)
 }
 
-/// Does a command over the files and the job file of the current folder, and prints what it left.
-fn show(rt: &HostRuntime, words: &Vec<String>) -> io::Result<()> {
-    let alloc = rt.alloc();
+/// Does a command over the files and the job file of the current folder. Its status is the answer.
+fn act(rt: &HostRuntime, words: &Vec<String>) -> Status {
     let mut shelf = FileShelf::new(rt);
     let mut out = StdSink::new(rt);
     let mut keeper = SqliteKeeper::new(rt);
-    let status = run(alloc, words, &mut shelf, &mut out, &mut keeper);
-    println!(rt; "status {}", status.code())?;
+    run(rt.alloc(), words, &mut shelf, &mut out, &mut keeper)
+}
+
+/// Does a command, and prints what it left.
+fn show(rt: &HostRuntime, words: &Vec<String>) -> io::Result<()> {
+    println!(rt; "status {}", act(rt, words).code())?;
     if let Some(log) = words.get(4) {
-        if let Ok(log) = read_whole(alloc, &mut shelf, log.as_str(), 1_048_576) {
+        let mut shelf = FileShelf::new(rt);
+        if let Ok(log) = read_whole(rt.alloc(), &mut shelf, log.as_str(), 1_048_576) {
             show_bytes(rt, &log);
         }
     }

@@ -85,8 +85,23 @@ pub(crate) fn act(
     Ok(())
 }
 
-/// Funds with the job, and goes on with it, over a keeper where loads, parts and saves of these numbers fail, from 0 on; and
-/// prints the job as it is then kept.
+/// A keeper of which the loads, parts and saves of these numbers fail, from 0 on.
+fn keeper(alloc: Global, loads: &[u64], parts: &[u64], saves: &[u64]) -> io::Result<MemKeeper> {
+    let loads = Vec::from_slice(alloc, loads)?;
+    let parts = Vec::from_slice(alloc, parts)?;
+    let saves = Vec::from_slice(alloc, saves)?;
+    Ok(MemKeeper::new(alloc, loads, parts, saves))
+}
+
+/// Funds with the job, and goes on with it, over a keeper; and prints the job as it is then kept.
+fn fund_and_resume(rt: &HostRuntime, keeper: &mut MemKeeper) -> io::Result<()> {
+    let mut shelf = SureShelf::new(rt.alloc(), files(rt)?);
+    act(rt, "fund", &mut shelf, keeper)?;
+    act(rt, "resume", &mut shelf, keeper)?;
+    show_job(rt, keeper)
+}
+
+/// The same over a keeper of which the loads, parts and saves of these numbers fail.
 fn failing(
     rt: &HostRuntime,
     row: &str,
@@ -94,16 +109,9 @@ fn failing(
     parts: &[u64],
     saves: &[u64],
 ) -> io::Result<()> {
-    let alloc = rt.alloc();
-    let loads = Vec::from_slice(alloc, loads)?;
-    let parts = Vec::from_slice(alloc, parts)?;
-    let saves = Vec::from_slice(alloc, saves)?;
-    let mut shelf = SureShelf::new(alloc, files(rt)?);
-    let mut keeper = MemKeeper::new(alloc, loads, parts, saves);
     println!(rt; "{}", row)?;
-    act(rt, "fund", &mut shelf, &mut keeper)?;
-    act(rt, "resume", &mut shelf, &mut keeper)?;
-    show_job(rt, &mut keeper)
+    let mut keeper = keeper(rt.alloc(), loads, parts, saves)?;
+    fund_and_resume(rt, &mut keeper)
 }
 
 /// A job of which each kind of call fails in turn.

@@ -8,7 +8,7 @@ use crate::texts::bytes_in;
 use closing_log::read_sections;
 use fund_base::Memory;
 use hex::FromHex;
-use search_keep::read_saved;
+use search_keep::{Saved, read_saved};
 use search_run::SearchRun;
 use std::alloc::Global;
 
@@ -33,19 +33,28 @@ fn saved(alloc: Global, run: &SearchRun, job: &str, parts: &str) -> Result<Strin
     saved_text(alloc, &saved)
 }
 
+/// Goes on from what was saved and a log's text.
+fn restored_by(
+    alloc: Global,
+    run: &mut SearchRun,
+    saved: &Saved,
+    log: &[u8],
+) -> Result<String, Memory> {
+    let Ok(log) = read_sections(alloc, log) else {
+        return Ok(String::from_str(alloc, "no log text")?);
+    };
+    match run.restore(saved, &log) {
+        Ok(()) => stand_text(alloc, run),
+        Err(why) => refused_text(alloc, why),
+    }
+}
+
 /// Goes on from a saved text and a log's.
 fn restored(alloc: Global, run: &mut SearchRun, saved: &str, log: &str) -> Result<String, Memory> {
     let saved = bytes_in(alloc, saved)?;
-    let log = bytes_in(alloc, log)?;
-    let Ok(saved) = read_saved(alloc, saved.as_slice()) else {
-        return Ok(String::from_str(alloc, "no saved text")?);
-    };
-    let Ok(log) = read_sections(alloc, log.as_slice()) else {
-        return Ok(String::from_str(alloc, "no log text")?);
-    };
-    match run.restore(&saved, &log) {
-        Ok(()) => stand_text(alloc, run),
-        Err(why) => refused_text(alloc, why),
+    match read_saved(alloc, saved.as_slice()) {
+        Ok(saved) => restored_by(alloc, run, &saved, bytes_in(alloc, log)?.as_slice()),
+        Err(_) => Ok(String::from_str(alloc, "no saved text")?),
     }
 }
 

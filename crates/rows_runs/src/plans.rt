@@ -91,19 +91,34 @@ fn plan_text(
     }
 }
 
-/// What the request and the coins come to: a fault, none, or a payment.
-pub fn answer(alloc: Global, request: &str, coins: &str) -> Result<String, Memory> {
-    let Some(candidates) = candidates_in(alloc, coins)? else {
-        return Ok(String::from_str(alloc, "no coins")?);
-    };
-    let Ok(wallet) = read_wallet(alloc, WALLET.as_bytes()) else {
-        return Ok(String::from_str(alloc, "no wallet")?);
-    };
+/// What the candidates come to by the wallet.
+fn by_wallet(alloc: Global, request: &Request, candidates: Vec<Candidate>) -> Result<String, Memory>
+    requires bump { request.now.bump ≡ None }
+    requires candidates { AreCandidates candidates.items }
+{
+    match read_wallet(alloc, WALLET.as_bytes()) {
+        Ok(wallet) => plan_text(alloc, request, &wallet, candidates),
+        Err(_) => Ok(String::from_str(alloc, "no wallet")?),
+    }
+}
+
+/// What the candidates come to by the text of a request, which replaces nothing.
+fn by_request(alloc: Global, request: &str, candidates: Vec<Candidate>) -> Result<String, Memory>
+    requires { AreCandidates candidates.items }
+{
     let Ok(request) = read_request(alloc, request.as_bytes()) else {
         return Ok(String::from_str(alloc, "no request")?);
     };
     if request.bump.is_some() {
         return Ok(String::from_str(alloc, "another request")?);
     }
-    plan_text(alloc, &request, &wallet, candidates)
+    by_wallet(alloc, &request, candidates)
+}
+
+/// What the request and the coins come to: a fault, none, or a payment.
+pub fn answer(alloc: Global, request: &str, coins: &str) -> Result<String, Memory> {
+    match candidates_in(alloc, coins)? {
+        Some(candidates) => by_request(alloc, request, candidates),
+        None => Ok(String::from_str(alloc, "no coins")?),
+    }
 }

@@ -91,26 +91,42 @@ fn piece(alloc: Global, pieces: &mut Pieces, budget: u64) -> Result<Position, Me
     Ok(position)
 }
 
-/// The positions of a search at these numbers of tries, in pieces, and at how many of them it goes on as it does at
-/// once.
-fn pieces_text(alloc: Global, problem: &Problem, budgets: &[u64]) -> Result<String, Memory> {
-    let last = last_of(budgets);
-    let all = whole(alloc, problem, last)?;
-    let mut pieces = Pieces {
+/// A search that is given no tries yet.
+fn begun(alloc: Global, problem: &Problem) -> Result<Pieces, Memory> {
+    let walk = Walk::new(alloc, problem)?;
+    Ok(Pieces {
         text: String::new(alloc),
-        walk: Walk::new(alloc, problem)?,
+        walk,
         granted: 0,
         same: 0,
-    };
+    })
+}
+
+/// Grants tries up to each of these numbers in turn, and counts where the search goes on as the whole one does.
+fn put_pieces(
+    alloc: Global,
+    problem: &Problem,
+    budgets: &[u64],
+    all: &Walk,
+    pieces: &mut Pieces,
+) -> Result<(), Memory> {
     for budget in budgets {
-        let position = piece(alloc, &mut pieces, *budget)?;
-        let left = last.saturating_sub(*budget);
-        if goes_on(alloc, problem, &position, &pieces.walk, left, &all)? {
+        let position = piece(alloc, pieces, *budget)?;
+        let left = last_of(budgets).saturating_sub(*budget);
+        if goes_on(alloc, problem, &position, &pieces.walk, left, all)? {
             pieces.same = pieces.same.saturating_add(1);
         }
     }
-    let (text, same) = (pieces.text, pieces.same);
-    Ok(format!(in alloc; "{text}\nrestored {same}")?)
+    Ok(())
+}
+
+/// The positions of a search at these numbers of tries, in pieces, and at how many of them it goes on as it does at
+/// once.
+fn pieces_text(alloc: Global, problem: &Problem, budgets: &[u64]) -> Result<String, Memory> {
+    let mut pieces = begun(alloc, problem)?;
+    let all = whole(alloc, problem, last_of(budgets))?;
+    put_pieces(alloc, problem, budgets, &all, &mut pieces)?;
+    Ok(format!(in alloc; "{}\nrestored {}", pieces.text, pieces.same)?)
 }
 
 /// The letters as text; a byte that is no text isn't written by a search.
@@ -133,18 +149,28 @@ fn score_text(alloc: Global, problem: &Problem, best: Option<&[u32]>) -> Result<
     }
 }
 
-/// The best and its score after the last of these numbers of tries, the tries made, and the letters.
+/// The best of a search and its score, the tries made, and the letters, behind what its state is called.
+fn stand_text(
+    alloc: Global,
+    problem: &Problem,
+    state: &str,
+    walk: &Walk,
+) -> Result<String, Memory> {
+    let tries = walk.position(alloc)?.tries;
+    let best = best_text(alloc, walk.best())?;
+    let score = score_text(alloc, problem, walk.best())?;
+    let letters = letters_text(alloc, walk.tokens())?;
+    Ok(format!(in alloc; "{state}\t{best}\t{score}\t{tries}\t{letters}")?)
+}
+
+/// Where a search stands after the last of these numbers of tries.
 fn end_text(alloc: Global, problem: &Problem, budgets: &[u64]) -> Result<String, Memory> {
     let mut walk = Walk::new(alloc, problem)?;
     let state = match walk.make(last_of(budgets))? {
         Progress::Done => "done",
         Progress::Open => "open",
     };
-    let best = best_text(alloc, walk.best())?;
-    let score = score_text(alloc, problem, walk.best())?;
-    let tries = walk.position(alloc)?.tries;
-    let letters = letters_text(alloc, walk.tokens())?;
-    Ok(format!(in alloc; "{state}\t{best}\t{score}\t{tries}\t{letters}")?)
+    stand_text(alloc, problem, state, &walk)
 }
 
 /// What a search comes to at these numbers of tries.

@@ -72,52 +72,63 @@ fn name(alloc: Global, name: &str) -> Result<String, Memory> {
     Ok(String::from_str(alloc, name)?)
 }
 
-/// Puts the faults of wallets that tell a name, and then the others.
-fn put_wallets(alloc: Global, text: &mut String) -> Result<(), Memory> {
-    let kind = WalletFault::Kind(name(alloc, "root")?);
-    let member = WalletFault::Member(name(alloc, "scr ipts")?);
-    let missing = WalletFault::Missing(name(alloc, "change")?);
-    let tx = WalletFault::Tx(name(alloc, "earlier")?, 0, TxFault::Truncated(5));
-    let repeat = WalletFault::Repeat(name(alloc, "pending")?, 3);
-    for fault in [kind, member, missing, tx, repeat] {
-        put_line(text, wallet_fault_words(alloc, &fault)?.as_str())?;
-    }
-    for fault in [
-        WalletFault::NotJson,
-        WalletFault::Script(2),
-        WalletFault::Weight(12),
-        WalletFault::ParentLater(1),
-        WalletFault::Memory,
-    ] {
-        put_line(text, wallet_fault_words(alloc, &fault)?.as_str())?;
-    }
-    Ok(())
+/// Puts a fault of a wallet.
+fn put_wallet(alloc: Global, text: &mut String, fault: WalletFault) -> Result<(), Memory> {
+    put_line(text, wallet_fault_words(alloc, &fault)?.as_str())
 }
 
-/// Puts the faults of requests that tell a name, and then the others.
+/// Puts the faults of wallets that tell a name.
+fn put_named_wallets(alloc: Global, text: &mut String) -> Result<(), Memory> {
+    put_wallet(alloc, text, WalletFault::Kind(name(alloc, "root")?))?;
+    put_wallet(alloc, text, WalletFault::Member(name(alloc, "scr ipts")?))?;
+    put_wallet(alloc, text, WalletFault::Missing(name(alloc, "change")?))?;
+    let earlier = name(alloc, "earlier")?;
+    put_wallet(
+        alloc,
+        text,
+        WalletFault::Tx(earlier, 0, TxFault::Truncated(5)),
+    )?;
+    put_wallet(alloc, text, WalletFault::Repeat(name(alloc, "pending")?, 3))
+}
+
+/// Puts the other faults of wallets.
+fn put_wallets(alloc: Global, text: &mut String) -> Result<(), Memory> {
+    put_wallet(alloc, text, WalletFault::NotJson)?;
+    put_wallet(alloc, text, WalletFault::Script(2))?;
+    put_wallet(alloc, text, WalletFault::Weight(12))?;
+    put_wallet(alloc, text, WalletFault::ParentLater(1))?;
+    put_wallet(alloc, text, WalletFault::Memory)
+}
+
+/// Puts a fault of a request.
+fn put_request(alloc: Global, text: &mut String, fault: RequestFault) -> Result<(), Memory> {
+    put_line(text, request_fault_words(alloc, &fault)?.as_str())
+}
+
+/// Puts the faults of requests that tell a name.
+fn put_named_requests(alloc: Global, text: &mut String) -> Result<(), Memory> {
+    put_request(alloc, text, RequestFault::Kind(name(alloc, "recipients")?))?;
+    put_request(alloc, text, RequestFault::Member(name(alloc, "foo")?))?;
+    put_request(alloc, text, RequestFault::Missing(name(alloc, "seed")?))?;
+    put_request(
+        alloc,
+        text,
+        RequestFault::RateRange(name(alloc, "long_term")?),
+    )
+}
+
+/// Puts the other faults of requests.
 fn put_requests(alloc: Global, text: &mut String) -> Result<(), Memory> {
-    let kind = RequestFault::Kind(name(alloc, "recipients")?);
-    let member = RequestFault::Member(name(alloc, "foo")?);
-    let missing = RequestFault::Missing(name(alloc, "seed")?);
-    let range = RequestFault::RateRange(name(alloc, "long_term")?);
-    for fault in [kind, member, missing, range] {
-        put_line(text, request_fault_words(alloc, &fault)?.as_str())?;
-    }
-    for fault in [
-        RequestFault::Address(0, AddrFault::Checksum),
-        RequestFault::NotJson,
-        RequestFault::Script(1),
-        RequestFault::AmountRange(2),
-        RequestFault::Dust(0),
-        RequestFault::SumRange,
-        RequestFault::NoRecipients,
-        RequestFault::TriesRange,
-        RequestFault::Repeat(9),
-        RequestFault::Memory,
-    ] {
-        put_line(text, request_fault_words(alloc, &fault)?.as_str())?;
-    }
-    Ok(())
+    put_request(alloc, text, RequestFault::Address(0, AddrFault::Checksum))?;
+    put_request(alloc, text, RequestFault::NotJson)?;
+    put_request(alloc, text, RequestFault::Script(1))?;
+    put_request(alloc, text, RequestFault::AmountRange(2))?;
+    put_request(alloc, text, RequestFault::Dust(0))?;
+    put_request(alloc, text, RequestFault::SumRange)?;
+    put_request(alloc, text, RequestFault::NoRecipients)?;
+    put_request(alloc, text, RequestFault::TriesRange)?;
+    put_request(alloc, text, RequestFault::Repeat(9))?;
+    put_request(alloc, text, RequestFault::Memory)
 }
 
 /// The faults of transactions, block files, addresses, wallets and requests, a line each.
@@ -126,7 +137,9 @@ pub fn lines(alloc: Global) -> Result<String, Memory> {
     put_transactions(alloc, &mut text)?;
     put_blocks(alloc, &mut text)?;
     put_addresses(alloc, &mut text)?;
+    put_named_wallets(alloc, &mut text)?;
     put_wallets(alloc, &mut text)?;
+    put_named_requests(alloc, &mut text)?;
     put_requests(alloc, &mut text)?;
     Ok(text)
 }

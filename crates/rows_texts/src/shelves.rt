@@ -70,22 +70,33 @@ fn show_write<H: Shelf>(
     }
 }
 
-/// A file of three pieces is read in four calls, the last of them at its end. The calls numbered 4 and 9 fail: the
-/// first of the second reading, and the second of the fourth.
-fn failing_reads(rt: &HostRuntime) -> io::Result<()> {
-    let alloc = rt.alloc();
-    println!(rt; "# the reads numbered 4 and 9 fail")?;
-    let files = vec![in alloc; file_of(alloc, "a", 5)?, file_of(alloc, "b", 300_000)?]?;
+/// Two files, of which one has three pieces, where the reads numbered 4 and 9 fail.
+fn failing_shelf(alloc: Global) -> io::Result<MemShelf> {
+    let mut files = Vec::new(alloc);
+    files.push(file_of(alloc, "a", 5)?)?;
+    files.push(file_of(alloc, "b", 300_000)?)?;
     let fails = vec![in alloc; 4, 9]?;
-    let mut shelf = MemShelf::new(alloc, files, fails, Vec::new(alloc));
-    show_whole(rt, &mut shelf, "b", 300_000)?;
-    show_whole(rt, &mut shelf, "b", 300_000)?;
-    show_whole(rt, &mut shelf, "b", 299_999)?;
-    show_whole(rt, &mut shelf, "b", 300_000)?;
+    Ok(MemShelf::new(alloc, files, fails, Vec::new(alloc)))
+}
+
+/// The file of three pieces is read in four calls, the last of them at its end. The first of the second reading fails, and
+/// the second of the fourth.
+fn show_reads(rt: &HostRuntime, shelf: &mut MemShelf) -> io::Result<()> {
+    show_whole(rt, shelf, "b", 300_000)?;
+    show_whole(rt, shelf, "b", 300_000)?;
+    show_whole(rt, shelf, "b", 299_999)?;
+    show_whole(rt, shelf, "b", 300_000)?;
     show_bytes(rt, "file b", shelf.file("b"))?;
-    show_whole(rt, &mut shelf, "a", 5)?;
-    show_whole(rt, &mut shelf, "a", 4)?;
-    show_whole(rt, &mut shelf, "c", 10)
+    show_whole(rt, shelf, "a", 5)?;
+    show_whole(rt, shelf, "a", 4)?;
+    show_whole(rt, shelf, "c", 10)
+}
+
+/// Reads of which some fail.
+fn failing_reads(rt: &HostRuntime) -> io::Result<()> {
+    println!(rt; "# the reads numbered 4 and 9 fail")?;
+    let mut shelf = failing_shelf(rt.alloc())?;
+    show_reads(rt, &mut shelf)
 }
 
 /// The second write fails, and the file is as before.
