@@ -1,6 +1,6 @@
 //! Files in memory, of which some reads and writes fail.
 
-ghost use Rattle.std.specs.Prelude.{◌≡◌, ◌≢◌, ◌≤◌, ◌+◌, List, ℕ, [], ◌∷◌, ◌++◌, length, option_copied, Err, IfOk, OnOk, OnErr, IsErrOf, IsTrue, IsFalse};
+ghost use Rattle.std.specs.Prelude.{◌≡◌, ◌≢◌, ◌≤◌, ◌+◌, List, ℕ, [], ◌∷◌, ◌++◌, length, option_copied, Some, Err, IfOk, OnOk, OnErr, IsErrOf, IsTrue, IsFalse};
 ghost use Rattle.fund_base.specs.Causes.{Asks, Rose, NeverFall, IsRead, SameElsewhere};
 ghost use Rattle.fund_base.specs.Failures.{is_due, after_call};
 ghost use Rattle.fund_base.specs.Files.{file_of, bytes_of, times};
@@ -78,7 +78,7 @@ fn failure(alloc: Global, names: &mut Vec<String>, name: &str) -> Fault
 }
 
 impl Shelf for MemShelf {
-    ghost use Rattle.fund_base.specs.MemShelf.{view_of, read_plan, write_plan, read_fails};
+    ghost use Rattle.fund_base.specs.MemShelf.{view_of, file_in, read_plan, write_plan, read_fails};
 
     ghost tells = { Unit {0} };
 
@@ -89,6 +89,7 @@ impl Shelf for MemShelf {
         ensures bound { IfOk result (λ n. n ≤ length buf.new) }
         ensures bytes { IfOk result (λ n. IsRead ((view_of self.old).files name.now) at n buf.new) }
         ensures same { (view_of self.new).files ≡ (view_of self.old).files }
+        ensures files { file_in self.new ≡ file_in self.old }
         ensures reads { NeverFall (view_of self.old).reads (view_of self.new).reads }
         ensures writes { (view_of self.new).writes ≡ (view_of self.old).writes }
         ensures cause { IsErrOf result Fault.Failed → Rose ((view_of self.old).reads name.now) ((view_of self.new).reads name.now) }
@@ -133,6 +134,11 @@ impl Shelf for MemShelf {
         ensures failed { IsErrOf result Fault.Failed → IsTrue (is_due (write_plan self.old)) }
         ensures answered { OnOk result (IsFalse (is_due (write_plan self.old))) }
         ensures kept { OnErr result ((view_of self.new).files ≡ (view_of self.old).files) }
+
+        // Which files there are: the one that was written, and those that there were.
+        ensures made { OnOk result (file_in self.new name.now ≡ Some bytes.now) }
+        ensures apart { (other : List ℕ) → other ≢ name.now → file_in self.new other ≡ file_in self.old other }
+        ensures unmade { OnErr result (file_in self.new ≡ file_in self.old) }
         ensures read_plan { read_plan self.new ≡ read_plan self.old }
         ensures write_plan { write_plan self.new ≡ after_call (write_plan self.old) }
     {

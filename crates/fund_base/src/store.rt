@@ -1,8 +1,8 @@
 //! Files in memory, the newest of a name first.
 
-ghost use Rattle.std.specs.Prelude.{◌≡◌, ◌≤◌, [], ◌∷◌, ◌++◌, length, option_copied, OnOk, OnErr};
-ghost use Rattle.fund_base.specs.Causes.{IsRead, SameElsewhere};
-ghost use Rattle.fund_base.specs.Files.{file_of, bytes_of, names_in};
+ghost use Rattle.std.specs.Prelude.{◌≡◌, ◌≢◌, ◌≤◌, List, ℕ, Some, [], ◌∷◌, ◌++◌, length, option_copied, OnOk, OnErr};
+ghost use Rattle.fund_base.specs.Causes.{IsRead};
+ghost use Rattle.fund_base.specs.Files.{file_of, names_in};
 
 use std::alloc::{AllocError, Global};
 
@@ -42,8 +42,8 @@ pub fn replace(
     name: &str,
     bytes: &[u8],
 ) -> Result<(), AllocError>
-    ensures ok { OnOk result (bytes_of files.new.items name.now ≡ bytes.now) }
-    ensures others { SameElsewhere name.now (bytes_of files.old.items) (bytes_of files.new.items) }
+    ensures ok { OnOk result (file_of files.new.items name.now ≡ Some bytes.now) }
+    ensures others { (other : List ℕ) → other ≢ name.now → file_of files.new.items other ≡ file_of files.old.items other }
     ensures err { OnErr result (files.new.items ≡ files.old.items) }
 {
     let name = String::from_str(alloc, name)?;
