@@ -23,8 +23,8 @@ pub fn money_goes_as_asked()
     ensures { (a : Asked) (files after : ShelfView) (f : PlainFunded) (log : List ℕ) → IsOther (string_bytes a.names.wallet) → IsOther (string_bytes a.names.blocks) → IsTaken (Unit {0}) a files after f log → (k : IsAsAsked a files f log) × IsMoneyOf a k.wallet.change f × (f.fee ≤ most_for a) }
 {}
 
-/// The law of failed reads: a run that ends with a failed read has raised the count of the wallet's or of the blocks' at the files
-/// themselves, and any other run has raised none. A call does nothing.
+/// The law of failed reads: where the files are told, a run that ends with a failed read has raised the count of the wallet's or of
+/// the blocks' at the files themselves, and any other run has raised none. A call does nothing.
 pub fn failed_reads_are_counted()
     ensures rose { (a : Asked) (files after : ShelfView) (said log : List ℕ) → IsRun (Unit {0}) a files after Status.ReadFault said log → Rose (files.reads (string_bytes a.names.wallet)) (after.reads (string_bytes a.names.wallet)) ⊎ Rose (files.reads (string_bytes a.names.blocks)) (after.reads (string_bytes a.names.blocks)) }
     ensures none { (a : Asked) (files after : ShelfView) (status : Status) (said log : List ℕ) → IsRun (Unit {0}) a files after status said log → status ≢ Status.ReadFault → (name : List ℕ) → IsOther name → after.reads name ≡ files.reads name }

@@ -14,8 +14,9 @@ use Rattle.fund_top.specs.Words.{Command, Coins, Fund, Resume, Check, Work, Desk
 
 -- The files that its words name are asked for, one after the other, each as often as its reading takes, and no other name is.
 -- The log of a payment isn't: it is written. Where there is a job, the files may be read once more, for its digest; not where one
--- goes on with it and the files come to a refusal. Behind a file that is refused none is asked for. A check asks for its log only beside a report that has one, and for neither report nor log
--- where the payment is refused. A desk asks for its script, and then for the files that the lines of it name.
+-- goes on with it and the files come to a refusal. Behind a file that is refused none is asked for. A check asks for its log
+-- only beside a report that has one, and for neither report nor log where the payment is refused. A desk asks for its script,
+-- and then for the files that the lines of it name.
 abbrev pub AsksFor : Command → ShelfView → ShelfView → Type 0
 AsksFor (Coins s) shelf shelf' =
     Asks (s.wallet ∷ s.blocks ∷ []) shelf.asked shelf'.asked

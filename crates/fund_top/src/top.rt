@@ -162,8 +162,9 @@ pub fn run<H: Shelf, O: Sink, K: Keeper>(
     ensures jobs { K.tells → IfSome (command_of words.now.items) (λ c. KeepsJobs (job_of c) result (K.view keeper.old) (K.view keeper.new)) }
 
     // What is read: only the files that the words name, in their order, and with a job once more in this order, for its digest,
-    // unless it is gone on with and the files are refused; the log of a payment never, and behind a file that is refused none. What the files of a payment come to by themselves is
-    // found by reading them once. A workload is summed up without files: none is asked for or touched.
+    // unless it is gone on with and the files are refused; the log of a payment never, and behind a file that is refused none.
+    // What the files of a payment come to by themselves is found by reading them once. A workload is summed up without files:
+    // none is asked for or touched.
     ensures asked { H.tells → IfSome (command_of words.now.items) (λ c. AsksFor c (H.view shelf.old) (H.view shelf.new)) }
     ensures read_once { H.tells → IsOfTheFiles result → WhereFunding (command_of words.now.items) (λ s p. AsksInOrder s p (H.view shelf.old) (H.view shelf.new)) }
     ensures apart { WhereWorking (command_of words.now.items) (λ number count. (H.view shelf.new) ≡ (H.view shelf.old)) }

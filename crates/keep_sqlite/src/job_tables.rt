@@ -28,8 +28,8 @@ pub struct JobTables<S: Alter + Drop> {
 impl<S: Alter + Drop> JobTables<S> {
     ghost use Rattle.keep_sqlite.specs.JobTables.{held_by, view_of};
 
-    /// The jobs of an open database, without a failure so far. The tables are made by the first `save`. What a call
-    /// answers over a database of anything else, or while a transaction is open, isn't promised: it fails.
+    /// The jobs of an open database, without a failure so far. The tables are made by the first `save`. No clause says
+    /// what a call answers over a database of anything else, or while a transaction is open.
     pub fn adopt(connection: Connection<S>) -> JobTables<S>
         ensures view { view_of result ≡ record { jobs = λ _. None; faults = 0 } }
         ensures held { held_by result ≡ connection }
