@@ -52,7 +52,10 @@ class Node:
                 raise Refused(f"{path} isn't there: the answer of `{' '.join([call, *words])}` wasn't saved")
             with open(path, encoding="utf-8") as file:
                 return json.load(file)
-        run = subprocess.run([*self.command, call, *words], capture_output=True, text=True)
+        try:
+            run = subprocess.run([*self.command, call, *words], capture_output=True, text=True)
+        except OSError as error:
+            raise Refused(f"{self.command[0]} can't be run: {error.strerror} (--cli names another command)")
         if run.returncode != 0 and (unknown is None or unknown not in run.stderr):
             raise Refused(f"`{' '.join([call, *words])}` failed: {run.stderr.strip()}")
         text = run.stdout.strip() if run.returncode == 0 else "null"
@@ -344,12 +347,15 @@ def main():
     parser.add_argument("--block-file", metavar="FILE", required=True, help="the block file to write")
     parser.add_argument("--overwrite", action="store_true", help="replace files that are there")
     options = parser.parse_args()
-    if options.save is not None:
-        os.makedirs(options.save, exist_ok=True)
     try:
+        if options.save is not None:
+            os.makedirs(options.save, exist_ok=True)
         make(options, lambda line: print(line, file=sys.stderr))
     except Refused as refused:
         print(f"core_to_files: {refused}", file=sys.stderr)
+        return 1
+    except OSError as error:
+        print(f"core_to_files: {error.filename}: {error.strerror}", file=sys.stderr)
         return 1
     return 0
 
