@@ -15,7 +15,7 @@ SENTENCES = os.path.join(TOP, "crates/fault_lines/specs/Sentences.antt")
 WORDS = os.path.join(TOP, "crates/pay_words/specs/Sentences.antt")
 PAGE = os.path.join(TOP, "docs/TROUBLES.md")
 HEADING = "## Each fault in a sentence"
-INTRO = "`ninelace` says the sentence of a fault behind its line, and `ninelace explain LINE` says that of any line.\n"
+INTRO = "`ninelace` says the sentence of a fault behind its line, and `ninelace explain LINE` says that of any line in this table.\n"
 WORDS_HEADING = "## Words of `pay`"
 WORDS_INTRO = "`ninelace pay` says the sentence behind the word or the flag that it is about.\n"
 
