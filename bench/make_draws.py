@@ -1,8 +1,8 @@
 #!/usr/bin/env python3
-"""Draws by the definition alone, for the rows of `draws` in crates/rows_parts: words by RFC 8439 with a 64-bit counter and
+"""Draws by the definition alone, for the rows `problem draw` of crates/rows_searches: words by RFC 8439 with a 64-bit counter and
 stream 0, a plain shuffle, and a fold that looks at all kept places.
 
-Usage: bench/make_draws.py < crates/rows_parts/stdin       prints what crates/rows_parts must print of them
+Usage: bench/make_draws.py < crates/rows_searches/stdin       prints what rows_searches must print of them
 """
 import struct, sys
 
@@ -57,20 +57,17 @@ def text(places):
     return " ".join(map(str, places)) or "-"
 
 
-part = None
 for line in sys.stdin:
-    if line.startswith("# "):
-        part = line
-    if part != "# draws\n" or line == part:
+    if not line.startswith("problem\tdraw\t"):
         continue
-    lo, limit, list_text, seed = line.rstrip("\n").split("\t")
+    _, _, _, lo, _, limit, list_text, seed = line.rstrip("\n").split("\t")
     items = [] if list_text == "-" else [tuple(map(int, item.split("/"))) for item in list_text.split(" ")]
     if int(lo) == 0:
-        print("no row")
+        print("no problem")
         continue
     seed = bytes.fromhex(seed)
     found = draw(items, int(lo), int(limit), seed)
     first, word = [], words(seed)
     for _ in range(4):
         first.append("%08x" % next(word))
-    print(" ".join(first), text(order(len(items), seed)), "none" if found is None else text(found), sep="\t")
+    print("words " + " ".join(first), "order " + text(order(len(items), seed)), "found " + ("none" if found is None else text(found)), sep=", ")

@@ -1,13 +1,20 @@
 #!/usr/bin/env bash
-# Times the reading of wallet files of 1, 4 and 16 MiB by crates/bench_all, the best of three each, and prints the
-# seconds, the seconds for a MiB, and the greatest memory. A step that fails ends it with a non-zero status; a time never
-# does.
+# Times the reading of wallet files of 1, 4 and 16 MiB by `coins`, which reads the wallet and then stops, since there is no
+# block file. Prints the best of three each, in seconds, the seconds for a MiB, and the greatest memory. A step that fails
+# ends it with a non-zero status; a time never does.
 #
 # usage: bench/wallet.sh [SEED]
 . "$(dirname "$0")/programs.sh"
 
-# Proves and builds the program, and runs it on the small file of its folder data/.
-stored bench_all wallet data/wallet.json
+# Proves and builds the program, and runs it on the small files of its folder data/.
+built fund_cli coins data/wallet.json data/blocks.dat
+
+# read_wallet FILE: does the command, which must have read the wallet and found no blocks
+read_wallet() {
+    local status=0
+    "$program" coins "$1" "$folder/blocks.dat" >"$folder/printed.txt" || status=$?
+    [ "$status" = 4 ] && grep -q '^fault read ' "$folder/printed.txt" || { cat "$folder/printed.txt" >&2; exit 1; }
+}
 
 load
 for size in 1 4 16; do
@@ -16,15 +23,13 @@ for size in 1 4 16; do
     best=
     for _ in 1 2 3; do
         start=$(date +%s%N)
-        "$program" wallet "$file" >"$folder/printed.txt"
+        read_wallet "$file"
         end=$(date +%s%N)
-        read -r printed <"$folder/printed.txt"
-        [ "$printed" = "$made" ] || { echo "made: $made; read: $printed" >&2; exit 1; }
         if [ -z "$best" ] || [ $((end - start)) -lt "$best" ]; then best=$((end - start)); fi
     done
-    memory=$(python3 - "$program" wallet "$file" <<'PYTHON'
+    memory=$(python3 - "$program" coins "$file" "$folder/blocks.dat" <<'PYTHON'
 import resource, subprocess, sys
-subprocess.run(sys.argv[1:], stdout=subprocess.DEVNULL, check=True)
+subprocess.run(sys.argv[1:], stdout=subprocess.DEVNULL)
 print(resource.getrusage(resource.RUSAGE_CHILDREN).ru_maxrss // 1024)
 PYTHON
 )

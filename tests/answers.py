@@ -4,7 +4,7 @@
     tests/answers.py stored
     tests/answers.py PROGRAM [COUNT] [SEED]
 
-The first looks at what `methods` in rows_commands has to print. PROGRAM is a built fund_cli: COUNT requests (500) of all methods are made
+The first looks at what `methods` in rows_cases has to print. PROGRAM is a built fund_cli: COUNT requests (500) of all methods are made
 from the SEED (1), over wallets of a few coins, some of them pending. What may be spent, and which coins of which row are
 chosen, is worked out as docs/FORMATS.md says, by trying every choice. Each section of LOG is checked as docs/CLOSING_LOG.md
 says: its problem by its digest, its letters one by one. It shares no code with the program, and needs Python alone.
@@ -21,6 +21,8 @@ import subprocess
 import sys
 import tempfile
 import typing
+
+from stored_rows import commands_of, part_of
 
 ALPHABET = "qpzry9x8gf2tvdw0s3jn54khce6mua7l"
 ROWS = [  # number, depth of own and of foreign groups, ancestors, descendants, partial groups, unsafe coins
@@ -618,24 +620,15 @@ def case(r):
     return wallet, request
 
 
-def stored_part(name, file):
-    """A part of rows_commands: its rows, or what is to be printed of them."""
-    folder = os.path.join(os.path.dirname(os.path.abspath(__file__)), "..", "crates", "rows_commands")
-    with open(os.path.join(folder, file), encoding="utf-8") as text:
-        _, *parts = re.split(r"^# (\w+)\n", text.read(), flags=re.MULTILINE)
-    return dict(zip(parts[::2], parts[1::2]))[name]
-
-
 def stored():
-    """Judges the cases of `methods` in rows_commands: the files of its input, and what is to be printed for them."""
-    ends, printed = collections.Counter(), stored_part("methods", "stdout")
-    cases = [line.split("\t") for line in stored_part("methods", "stdin").splitlines()]
-    for name, wallet, blocks, request in reversed(cases):
-        printed, _, told = printed.rpartition(f"{name}: status ")
+    """Judges the cases of `methods` in rows_cases: the files of its input, and what is to be printed for them."""
+    ends, printed, cases = collections.Counter(), part_of("rows_cases", "stdout", "methods"), list(commands_of("methods"))
+    for step in reversed(cases):
+        printed, _, told = printed.rpartition(f"{step.columns[0]}status ")
         status, _, text = told.partition("\n")
         report, mark, log = text.partition("fund-log 1\n")
-        wallet = json.loads(wallet)
-        asked = Request(json.loads(request), wallet, Chain(wallet, bytes.fromhex(blocks)))
+        wallet = json.loads(step.files["wallet.json"])
+        asked = Request(json.loads(step.files["request.json"]), wallet, Chain(wallet, step.files["blocks.dat"]))
         report = report.removesuffix("no log\n")
         end = judge(asked, int(status), report, mark + log if mark else None)
         ends[end] += 1

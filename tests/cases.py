@@ -2,14 +2,13 @@
 makes of them. Nothing that is made is taken as due: it is there to be mutated."""
 
 import json
-import os
 import pathlib
 import re
 
 from kept_jobs import read_jobs
+from stored_rows import files_of as stored_files
 
 TOP = pathlib.Path(__file__).resolve().parent.parent
-DATA = TOP / "crates" / "rows_commands" / "data"
 EXAMPLE = TOP / "crates" / "fund_cli" / "data"
 THREE = ("wallet.json", "blocks.dat", "request.json")
 FUND = ["fund", *THREE, "LOG"]
@@ -84,9 +83,10 @@ def files_of(folder, names):
 
 
 def stored_payments():
-    fronts = [str(path).removesuffix("request.json") for path in sorted(DATA.glob("*.request.json"))]
-    fronts = [front for front in fronts if os.path.exists(front + "wallet.json")] + [str(EXAMPLE) + os.sep] * 5
-    return [{part: pathlib.Path(front + part).read_bytes() for part in THREE} for front in fronts]
+    stored = stored_files("files", "pay")
+    names = sorted(name.removesuffix(".request.json") for name in stored if name.endswith(".request.json"))
+    found = [{part: stored[f"{name}.{part}"] for part in THREE} for name in names]
+    return found + [files_of(EXAMPLE, THREE)] * 5
 
 
 def jobs_of(case):

@@ -1,5 +1,5 @@
 #!/usr/bin/env python3
-"""Makes the rows of `complete` in rows_commands, and what it must print of them; outside the gate.
+"""Makes the rows of `complete` in rows_cases, and what it must print of them; outside the gate.
 
     tests/completions.py FOLDER ROWS EXPECTED
 
@@ -16,7 +16,9 @@ import re
 import sys
 
 from answers import compact, read_tx, size_of
+from stored_rows import column
 
+NAMES = ("wallet.json", "blocks.dat", "psbt")
 CASES = ["120-coins-in-blocks", "ancestors-25", "both-coins-exact", "coinbase-101-deep", "descendants-3",
          "given-auto", "group-full", "mixed-00", "mixed-07", "mixed-13", "mixed-21", "mixed-28", "mixed-36",
          "preset-unconfirmed", "row-1-draw-draw", "row-7-auto-lean-big", "unsafe-left-out"]
@@ -120,15 +122,12 @@ def made_whole(wallet, blocks, text):
 # ---- rows
 
 
-def column(data):
-    if data is None:
-        return ""
-    if isinstance(data, int):
-        return f"#{data}"
-    if not data:
-        return "-"
-    plain = {10: "\\n", 9: "\\t", 92: "\\\\"}
-    return "".join(plain.get(b, chr(b) if 32 <= b < 127 else f"\\x{b:02x}") for b in data)
+def columns_of(data):
+    """The columns of bytes; a number is so many zero bytes."""
+    if not isinstance(data, int):
+        return [column(data)]
+    size = max(n for n in range(1, 65) if data % n == 0)
+    return [column(bytes(size)), str(data // size)]
 
 
 class Rows:
@@ -136,7 +135,11 @@ class Rows:
         self.rows, self.expected = [], []
 
     def add(self, name, wallet, blocks, psbt, due, fails=()):
-        self.rows.append("\t".join([name, column(wallet), column(blocks), column(psbt), *fails]) + "\n")
+        reads, puts = fails or ("", "")
+        rows = [["case", "-", reads, "", puts]]
+        rows += [["file", file, *columns_of(data)] for file, data in zip(NAMES, (wallet, blocks, psbt)) if data is not None]
+        rows.append(["whole", f"{name}: ", "psbt", *NAMES[:2]])
+        self.rows += ["\t".join(row).rstrip("\t") + "\n" for row in rows]
         self.expected.append(f"{name}: status {due[0]}\n{due[1]}")
 
 
@@ -298,7 +301,7 @@ def main():
     assert stated
     open(rows_file, "w").writelines(rows.rows)
     open(expected_file, "w").writelines(rows.expected)
-    print(len(rows.rows), "rows")
+    print(len(rows.expected), "cases")
 
 
 if __name__ == "__main__":

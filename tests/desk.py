@@ -1,5 +1,5 @@
 #!/usr/bin/env python3
-"""Judges what `desk` in rows_commands has to print by docs/FORMATS.md alone; outside the gate.
+"""Judges what `desk` in rows_cases has to print by docs/FORMATS.md alone; outside the gate.
 
     tests/desk.py
 
@@ -18,7 +18,8 @@ import os
 import re
 import sys
 
-from answers import Chain, Request, answer, read_blocks, read_tx, shown_point, stored_part, tell
+from answers import Chain, Request, answer, read_blocks, read_tx, shown_point, tell
+from stored_rows import commands_of, part_of
 from verdicts import meets, psbt_of
 
 NAME = re.compile(rb"[A-Za-z0-9-]{1,32}")
@@ -375,21 +376,6 @@ def judge(files, fails, status, printed, ends):
     assert status == 0 and len(replies) == len(script), f"status {status}, {len(replies)} replies"
 
 
-def cases(text):
-    """Each case's name, its files, the replies at which its output fails, and whether only the digest of it is printed."""
-    name, files = None, {}
-    for line in text.splitlines():
-        words = line.split(" ")
-        if words[0] == "case":
-            name, files = words[1], {}
-        elif words[0] == "file":
-            files[words[1]] = bytes.fromhex(words[2])
-        elif words[0] == "more":
-            files[words[1]] += bytes.fromhex(words[3]) * int(words[2])
-        else:
-            yield name, dict(files), [int(word) for word in words[1:]], words[0] == "sum"
-
-
 def sum_of_turns(files):
     """The output of a script that opens a job and gives it so many turns, each of which uses up its tries."""
     lines, made = lines_of(files["script"]), 0
@@ -402,18 +388,19 @@ def sum_of_turns(files):
 
 def main():
     ends = collections.Counter()
-    stored, printed = list(cases(stored_part("desk", "stdin"))), stored_part("desk", "stdout")
-    for name, files, fails, is_sum in reversed(stored):
-        printed, _, told = printed.rpartition(f"{name}: status ")
+    stored, printed = list(commands_of("desk")), part_of("rows_cases", "stdout", "desk")
+    for step in reversed(stored):
+        name = step.columns[0]
+        printed, _, told = printed.rpartition(f"{name}status ")
         status, _, text = told.partition("\n")
         try:
-            if is_sum:
-                assert status == "0" and text == sum_of_turns(files), text
+            if step.verb == "sum":
+                assert status == "0" and text == sum_of_turns(step.files), text
                 ends["long script"] += 1
             else:
-                judge(files, fails, int(status), text, ends)
+                judge(step.files, step.puts, int(status), text, ends)
         except (AssertionError, TypeError, KeyError) as wrong:
-            print(f"WRONG, {name}: {wrong}")
+            print(f"WRONG, {name}{wrong}")
             return 1
     assert printed == "", printed
     tell(f"{len(stored)} stored cases", ends)

@@ -35,8 +35,9 @@ import sys
 import tempfile
 import typing
 
-from cases import DATA, EXAMPLE, FUND, SCRIPTS, THREE, TOP, with_members
+from cases import EXAMPLE, FUND, SCRIPTS, THREE, TOP, with_members
 from kept_jobs import BESIDE, NAME, read_jobs, write_jobs
+from stored_rows import files_of
 
 PROGRAM = TOP / "crates" / "fund_cli" / "out" / "fund_cli"
 OLD_LOG = b"what stood in the log before\n"
@@ -133,8 +134,11 @@ def is_kept(command):
 # ---- the commands
 
 
+STORED = files_of("files")
+
+
 def stored(name):
-    return {part: (DATA / f"{name}.{part}").read_bytes() for part in THREE}
+    return {part: STORED[f"{name}.{part}"] for part in THREE}
 
 
 def example(**members):

@@ -7,7 +7,7 @@ What is mutated, one to three times a run: the files of `coins`, `fund`, `check`
 script of `desk`, the words of any command, and what `resume` and `fund .. JOB` find in the job file: its saved text, its parts,
 its tables, and its bytes with those of its log. One run in ten is of a job, and `bump` are runs of requests that replace a payment:
 those of tests/bumps.py too. They begin with the stored requests of
-crates/rows_commands/data and the example, and with what the program makes of them; with --cases FOLDER also with those of the
+`files` in crates/rows_cases and the example, and with what the program makes of them; with --cases FOLDER also with those of the
 folders fund, bump, check, resume and desk in it, each of which has a folder for each case, with wallet.json, blocks.dat,
 request.json and, by its command, report and log, script with the files that it names, or N.saved and N.part-M of kept jobs.
 

@@ -14,7 +14,7 @@ FILE is one of tests/people/*.txt, which are all of them where none is named. Ea
     + NAME CONTENT               a file that is there afterwards, its content as a JSON text
 
 and no other file is there or changed afterwards. Each row has a folder of its own, with the files of FILES. The expected text
-doesn't come from the program. Tables, PSBTs and logs are those of the stored runs of rows_commands and fund_cli, put
+doesn't come from the program. Tables, PSBTs and logs are those of the stored runs of rows_cases and fund_cli, put
 into the form of command_pay by hand or by a script. Sentences are those of docs/TROUBLES.md, which is looked at here. It
 shares no code with the program, and needs Python alone.
 """
@@ -26,16 +26,20 @@ import subprocess
 import sys
 import tempfile
 
+from stored_rows import files_of as stored_files
+
 TOP = os.path.dirname(os.path.dirname(os.path.abspath(__file__)))
-# The files of each row: the examples of fund_cli, and all that rows_commands has.
-FILES = {os.path.basename(path): path for path in glob.glob(os.path.join(TOP, "crates/rows_commands/data/*"))}
-FILES.update((name, os.path.join(TOP, "crates/fund_cli/data", name)) for name in os.listdir(os.path.join(TOP, "crates/fund_cli/data")))
-FILES["report.txt"] = os.path.join(TOP, "crates/fund_cli/stdout")
 
 
 def content(path):
     with open(path, "rb") as file:
         return file.read()
+
+
+# The files of each row: those of the commands and payments of rows_cases, and the examples of fund_cli.
+FILES = stored_files("files", "pay")
+FILES.update((name, content(os.path.join(TOP, "crates/fund_cli/data", name))) for name in os.listdir(os.path.join(TOP, "crates/fund_cli/data")))
+FILES["report.txt"] = content(os.path.join(TOP, "crates/fund_cli/stdout"))
 
 
 class Row:
@@ -76,7 +80,7 @@ def rows_of(path):
 
 def files_of(row):
     """The files that are there before the row, by their names."""
-    files = {name: content(path) for name, path in FILES.items()}
+    files = dict(FILES)
     for made in row.made:
         name, _, how = made.partition(" = ")
         origin, old, new = (part.encode().decode("unicode_escape") for part in how.split(" | "))

@@ -27,13 +27,13 @@ fn counts_of<H: Shelf>(alloc: Global, shelf: &mut H, name: &str) -> Result<Count
     Ok(Counts { blocks, txs })
 }
 
-/// Prints how many blocks and transactions a block file has, or the first fault.
+/// Prints how many blocks and transactions a block file has, or that it has a fault.
 pub fn read_blocks(rt: &HostRuntime, name: &str) -> io::Result<bool> {
     let mut shelf = FileShelf::new(rt);
     match counts_of(rt.alloc(), &mut shelf, name) {
         Ok(counts) => println!(rt; "{} blocks, {} transactions", counts.blocks, counts.txs)?,
-        Err(fault) => {
-            println!(rt; "{fault:?}")?;
+        Err(_) => {
+            println!(rt; "there is no such block file")?;
             return Ok(false);
         }
     }

@@ -1,8 +1,6 @@
 //! The calls that the benchmarks time, each a command that prints what it counted, or the first fault:
 //!
 //! - `feed BLOCKS` reads a block file, from 32 zero bytes and height 0 to its end;
-//! - `wallet WALLET` reads a wallet file;
-//! - `coins WALLET BLOCKS` makes the book of a wallet's coins, and adds the blocks of a file that stand after it;
 //! - `walk FILE TRIES ROUNDS` walks the problem of a file ROUNDS times, each with TRIES tries;
 //! - `run FILE TRIES TURN` makes TRIES tries of a run over the problem of a file, TURN of them a turn;
 //! - `log` writes a log of 30,000,021 letters as a text and reads it back, and `log timed` prints the times too;
@@ -13,7 +11,6 @@
 //! Commands are parted by the word `then`. The status is 1 where one of them failed.
 #![tactic(auto)]
 
-mod book;
 mod checker;
 mod draws;
 mod feed;
@@ -21,7 +18,6 @@ mod groups;
 mod logs;
 mod turns;
 mod walk;
-mod wallet;
 
 use std::process::ExitCode;
 use std::{env, io};
@@ -30,8 +26,6 @@ use std::{env, io};
 fn act(rt: &HostRuntime, command: &[&str]) -> io::Result<bool> {
     match command {
         ["feed", blocks] => feed::read_blocks(rt, blocks),
-        ["wallet", wallet] => wallet::read_file(rt, wallet),
-        ["coins", wallet, blocks] => book::fill(rt, wallet, blocks),
         ["walk", file, tries, rounds] => walk::walk_file(rt, file, tries, rounds),
         ["run", file, tries, turn] => turns::run_file(rt, file, tries, turn),
         ["log"] => logs::write_and_read(rt, false),
@@ -43,9 +37,7 @@ fn act(rt: &HostRuntime, command: &[&str]) -> io::Result<bool> {
         ["groups", count] => groups::find(rt, count, false),
         ["groups", count, "timed"] => groups::find(rt, count, true),
         _ => {
-            println!(rt;
-                "feed BLOCKS | wallet WALLET | coins WALLET BLOCKS | groups COUNT [timed]"
-            )?;
+            println!(rt; "feed BLOCKS | groups COUNT [timed]")?;
             println!(rt; "walk FILE TRIES ROUNDS | run FILE TRIES TURN | check FILE [timed]")?;
             println!(rt; "log [timed] | draw ITEMS KEPT SEEDS [timed]")?;
             Ok(false)

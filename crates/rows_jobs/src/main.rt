@@ -1,6 +1,6 @@
 //! Keeps jobs in the job file of the current folder, and prints what is found there. Then it stops saves at each change of a
 //! job's two files, and prints what is found when these are opened again. What it must print follows from the rules of a
-//! keeper; a keeper in memory says what is to be found. By the word `speed` it prints how long calls take.
+//! keeper; a keeper in memory says what is to be found.
 #![tactic(auto)]
 
 mod cases;
@@ -11,12 +11,11 @@ mod keeping;
 mod machine;
 mod saves;
 mod sizes;
-mod speed;
 mod stops;
 mod trouble;
 
 use crate::trouble::Trouble;
-use std::{env, io};
+use std::io;
 
 /// Prints what is found in the job file, of few jobs, of many and of long parts; and after stops.
 fn each(rt: &HostRuntime) -> Result<(), Trouble> {
@@ -26,10 +25,7 @@ fn each(rt: &HostRuntime) -> Result<(), Trouble> {
 }
 
 fn main(rt: HostRuntime) -> io::Result<()> {
-    let shown = match env::args(&rt)?.nth(1) {
-        Some(_) => speed::show(&rt),
-        None => each(&rt),
-    };
+    let shown = each(&rt);
     file::clear(&rt);
     match shown {
         Ok(()) => Ok(()),

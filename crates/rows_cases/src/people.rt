@@ -1,0 +1,166 @@
+//! What is shown to people: payments, what words ask for, and sentences.
+
+use crate::columns::{column, number_of, words_of};
+use crate::shown::{show, show_column, show_count, show_line, show_number};
+use command_pay::{
+    Ending, NewFile, fee_ceiling, high_fee_text, is_fee_taken, table_text, unwritten_text,
+};
+use fault_lines::line_sentence;
+use fund_base::Memory;
+use fund_report::{FundedReport, Report, read_report, write_report};
+use pay_words::{Asked, WordFault, flag_about, flag_word, read_pay, word_place, word_sentence};
+use row_columns::unescaped;
+
+/// Prints the report of a payment, and its log.
+fn show_payment(rt: &HostRuntime, report: FundedReport, log: &[u8]) -> Result<(), Memory> {
+    let text = write_report(rt.alloc(), &Report::Funded(report))?;
+    show(rt, b"paid\n");
+    show(rt, &text);
+    show(rt, log);
+    Ok(())
+}
+
+/// Prints what was said of a payment that was not made, and what to do.
+fn show_unpaid(rt: &HostRuntime, code: u8, said: &[u8]) {
+    show_count(rt, b"status ", code as u64);
+    show(rt, said);
+    match line_sentence(said) {
+        Some(sentence) => show_line(rt, sentence),
+        None => {}
+    }
+}
+
+/// Prints that a fee is above the greatest that is taken.
+fn show_high(rt: &HostRuntime, fee: u64, most: u64) {
+    show_number(rt, b"fee ", fee);
+    show_count(rt, b" above ", most);
+}
+
+/// Prints how a payment ended.
+fn show_ending(rt: &HostRuntime, ending: Ending) -> Result<(), Memory> {
+    match ending {
+        Ending::Paid(report, log) => return show_payment(rt, report, &log),
+        Ending::NotPaid(status, said) => show_unpaid(rt, status.code(), &said),
+        Ending::HighFee(fee, most) => show_high(rt, fee, most),
+        Ending::Unwritten(NewFile::Log) => show(rt, b"log not written\n"),
+        Ending::Unwritten(NewFile::Psbt) => show(rt, b"psbt not written\n"),
+        Ending::Memory => return Err(Memory),
+    }
+    Ok(())
+}
+
+/// Prints how a payment ended, or why its words ask for none.
+pub(crate) fn show_paid(
+    rt: &HostRuntime,
+    ended: Result<(Asked, Ending), WordFault>,
+) -> Result<(), Memory> {
+    match ended {
+        Ok((asked, ending)) => {
+            drop(asked);
+            show_ending(rt, ending)
+        }
+        Err(fault) => {
+            show_line(rt, word_sentence(&fault));
+            Ok(())
+        }
+    }
+}
+
+/// Prints what is wrong with the words of a payment, behind the place or the flag that it is about.
+fn show_fault(rt: &HostRuntime, fault: &WordFault) {
+    if let Some(place) = word_place(fault) {
+        show_number(rt, b"word ", place as u64);
+        show(rt, b": ");
+    }
+    if let Some(flag) = flag_about(fault) {
+        show(rt, flag_word(flag).as_bytes());
+        show(rt, b": ");
+    }
+    show_line(rt, word_sentence(fault));
+}
+
+/// What words ask for, with a drawn seed of zeros. Where they ask for no payment, that is printed.
+fn asked_of(rt: &HostRuntime, columns: &[&str]) -> Result<Option<Asked>, Memory> {
+    let words = words_of(rt.alloc(), columns)?;
+    match read_pay(rt.alloc(), words.as_slice(), [0; 32]) {
+        Ok(asked) => Ok(Some(asked)),
+        Err(fault) => {
+            show_fault(rt, &fault);
+            Ok(None)
+        }
+    }
+}
+
+/// Prints the request of what words ask for.
+pub(crate) fn asked(rt: &HostRuntime, columns: &[&str]) -> Result<(), Memory> {
+    show_column(rt, column(columns, 0))?;
+    if let Some(asked) = asked_of(rt, columns)? {
+        show_line(rt, asked.request(rt.alloc())?.as_str());
+    }
+    Ok(())
+}
+
+/// Prints the greatest fee that is taken, and whether this one is.
+fn show_fee(rt: &HostRuntime, asked: &Asked, fee: u64) {
+    show_number(rt, b"", fee_ceiling(asked.max_fee, &asked.payments));
+    if is_fee_taken(fee, asked.max_fee, &asked.payments) {
+        show(rt, b" taken\n");
+    } else {
+        show(rt, b" refused\n");
+    }
+}
+
+/// Prints the greatest fee that is taken with these words, and whether this one is.
+pub(crate) fn fee(rt: &HostRuntime, columns: &[&str]) -> Result<(), Memory> {
+    if let Some(asked) = asked_of(rt, columns)? {
+        show_fee(rt, &asked, number_of(column(columns, 0), 0));
+    }
+    Ok(())
+}
+
+/// Prints the payment of a report as a table.
+fn show_table(rt: &HostRuntime, asked: &Asked, report: &str) -> Result<(), Memory> {
+    let bytes = unescaped(rt.alloc(), report.as_bytes())?;
+    match read_report(rt.alloc(), &bytes) {
+        Ok(Report::Funded(report)) => {
+            show_line(
+                rt,
+                table_text(rt.alloc(), &asked.payments, &report)?.as_str(),
+            );
+        }
+        _ => show(rt, b"no payment\n"),
+    }
+    Ok(())
+}
+
+/// Prints the payment of a report as a table, beside what these words ask for.
+pub(crate) fn table(rt: &HostRuntime, columns: &[&str]) -> Result<(), Memory> {
+    match asked_of(rt, columns)? {
+        Some(asked) => show_table(rt, &asked, column(columns, 0)),
+        None => Ok(()),
+    }
+}
+
+/// Prints the sentence of a fault line.
+pub(crate) fn explain(rt: &HostRuntime, columns: &[&str]) {
+    match line_sentence(column(columns, 0).as_bytes()) {
+        Some(sentence) => show_line(rt, sentence),
+        None => show(rt, b"no fault line\n"),
+    }
+}
+
+/// Prints what is said of a fee that is too great.
+pub(crate) fn high(rt: &HostRuntime, columns: &[&str]) -> Result<(), Memory> {
+    let fee = number_of(column(columns, 0), 0);
+    let most = number_of(column(columns, 1), 0);
+    show_line(rt, high_fee_text(rt.alloc(), fee, most)?.as_str());
+    Ok(())
+}
+
+/// Prints what is said of a new file that was not written.
+pub(crate) fn unwritten(rt: &HostRuntime, columns: &[&str]) -> Result<(), Memory> {
+    let log_written = column(columns, 1) == "log";
+    let text = unwritten_text(rt.alloc(), column(columns, 0), log_written)?;
+    show_line(rt, text.as_str());
+    Ok(())
+}

@@ -1,7 +1,0 @@
-use Rattle.std.proofs.Common.{◌≡◌}
-use Rattle.rows_commands.proofs.books.add_blocks.Given as goal
-
-abbrev pub invariant-loop-added : goal.invariant-loop-added
-invariant-loop-added g l = record {
-  pending : l.book.pending ≡ l.initial.book.pending;
-}

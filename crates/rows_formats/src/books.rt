@@ -1,0 +1,137 @@
+//! Books of coins, made of a wallet and its blocks.
+
+ghost use Rattle.std.specs.Prelude.{◌≡◌, []};
+
+use crate::answer::Answer;
+use crate::feeds::{FILE, files_of};
+use block_feed::Feed;
+use coin_book::{Book, BookFault, Coin};
+use command_end::coin_text;
+use fund_base::{OutPoint, SureShelf};
+use std::alloc::Global;
+use wallet_text::Wallet;
+
+/// Adds the blocks of the file, which stand after the wallet's height, up to the first fault of either kind.
+fn add_blocks(
+    alloc: Global,
+    shelf: &mut SureShelf,
+    wallet: &Wallet,
+    book: &mut Book,
+) -> Result<(), BookFault>
+    ensures { book.new.pending ≡ book.old.pending }
+{
+    let mut feed = Feed::new(wallet.hash, wallet.height);
+    for added in 0..u64::MAX {
+        let Ok(Some(block)) = feed.next(alloc, shelf, FILE) else {
+            return Ok(());
+        };
+        book.add_block(&block)?;
+    }
+    Ok(())
+}
+
+/// Adds the wallet's pending transactions, up to the first fault.
+fn add_waiting(wallet: &Wallet, book: &mut Book) -> Result<(), BookFault>
+    requires { book.old.pending ≡ [] }
+{
+    for tx in &wallet.pending {
+        book.add_pending(tx)?;
+    }
+    Ok(())
+}
+
+/// Adds the blocks and the wallet's pending transactions, in this order or in the other, up to the first fault.
+fn add_all(
+    alloc: Global,
+    shelf: &mut SureShelf,
+    wallet: &Wallet,
+    blocks_first: bool,
+    book: &mut Book,
+) -> Result<(), BookFault>
+    requires { book.old.pending ≡ [] }
+{
+    if blocks_first {
+        add_blocks(alloc, shelf, wallet, book)?;
+        add_waiting(wallet, book)
+    } else {
+        add_waiting(wallet, book)?;
+        add_blocks(alloc, shelf, wallet, book)
+    }
+}
+
+/// Puts a height, or `none`.
+fn put_height(out: &mut Answer, word: &str, height: Option<u32>) {
+    match height {
+        Some(height) => out.number(word, height as u64),
+        None => {
+            out.word(word);
+            out.word("none");
+        }
+    }
+}
+
+/// Puts a coin with its figures, the height of its txid, and how many outputs its transaction has.
+fn put_coin(out: &mut Answer, book: &Book, coin: &Coin) {
+    out.words("coin ", coin_text(out.alloc, &coin.coin));
+    out.number(" ", coin.value);
+    out.number(" ", coin.weight);
+    put_height(out, " ", coin.height);
+    out.word(if coin.coinbase {
+        " coinbase"
+    } else {
+        " payment"
+    });
+    put_height(out, " height ", book.height(&coin.coin.txid));
+    let outputs = match book.parent(&coin.coin) {
+        Some(tx) => tx.outputs.len(),
+        None => 0,
+    };
+    out.number(" outputs ", outputs as u64);
+    out.word("\n");
+}
+
+/// Puts what spends an outpoint, a line each.
+fn put_spends(out: &mut Answer, book: &Book, point: &OutPoint) {
+    for spend in book.spends(point) {
+        out.shown("spent by ", spend.txid.bytes());
+        out.number(" ", spend.height as u64);
+        out.number(" ", spend.place);
+        out.word("\n");
+    }
+}
+
+/// Puts the coins in order, each with what spends it.
+fn put_coins(out: &mut Answer, book: &Book) {
+    for place in 0..book.len() {
+        if let Some(coin) = book.at(place) {
+            put_coin(out, book, coin);
+            put_spends(out, book, &coin.coin);
+        }
+    }
+}
+
+/// The book of a wallet, to which its blocks are added before or after what waits; or its fault.
+fn book_of(
+    alloc: Global,
+    wallet: &Wallet,
+    blocks: Vec<u8>,
+    blocks_first: bool,
+) -> Result<Book, BookFault> {
+    let Ok(files) = files_of(alloc, blocks) else {
+        return Err(BookFault::Memory);
+    };
+    let mut shelf = SureShelf::new(alloc, files);
+    let mut book = Book::new(alloc, wallet)?;
+    add_all(alloc, &mut shelf, wallet, blocks_first, &mut book)?;
+    Ok(book)
+}
+
+/// Puts the coins of the book of a wallet, or its fault by its name and its coin.
+pub(crate) fn put_book(out: &mut Answer, wallet: &Wallet, blocks: Vec<u8>, blocks_first: bool) {
+    match book_of(out.alloc, wallet, blocks, blocks_first) {
+        Ok(book) => put_coins(out, &book),
+        Err(BookFault::RepeatCoin(point)) => out.words("RepeatCoin ", coin_text(out.alloc, &point)),
+        Err(BookFault::Full) => out.word("Full"),
+        Err(BookFault::Memory) => out.lack(),
+    }
+}

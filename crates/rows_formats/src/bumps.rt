@@ -1,0 +1,64 @@
+//! What replacements are made from, a line each.
+
+ghost use Rattle.std.specs.Prelude.{◌<◌, IsSome};
+ghost use Rattle.fund_files.specs.Chain.{IsHeld};
+
+use crate::answer::Answer;
+use crate::candidates::put_candidates;
+use command_end::bump_fault_words;
+use fee_bump::{BumpFault, BumpTerms, bump_terms};
+use fund_files::{Held, hold};
+use payment_states::{all_states, confirmed_without};
+use request_text::Request;
+use wallet_text::Wallet;
+
+/// Puts the terms.
+fn put_terms(out: &mut Answer, terms: &BumpTerms) {
+    out.number("ok\nburden ", terms.burden);
+    out.number("\nold-fee ", terms.old_fee);
+    out.number("\nold-vsize ", terms.old_vsize);
+    for txid in &terms.replaced {
+        out.shown("\nreplaced ", txid.bytes());
+    }
+    put_candidates(out, "\npreset ", &terms.presets, false);
+    put_candidates(out, "\ncandidate ", &terms.candidates, false);
+}
+
+/// Puts the terms, and the confirmed coins that may be spent without what is replaced.
+fn put_all(out: &mut Answer, held: &Held, tip: u32, terms: &BumpTerms) -> Result<(), BumpFault>
+    requires held { IsHeld held.now }
+    requires tip { tip < 4294967295 }
+{
+    put_terms(out, terms);
+    match confirmed_without(out.alloc, &held.book, &held.wallet, tip, &terms.replaced) {
+        Ok(coins) => put_candidates(out, "\nwithout ", &coins, false),
+        Err(_) => return Err(BumpFault::Memory),
+    }
+    Ok(())
+}
+
+/// Puts what the request's payment comes to, by the wallet's book.
+fn put_held(out: &mut Answer, held: &Held, tip: u32, request: &Request) -> Result<(), BumpFault>
+    requires held { IsHeld held.now }
+    requires tip { tip < 4294967295 }
+    requires bump { IsSome request.now.bump }
+{
+    let Ok(states) = all_states(out.alloc, &held.book, &held.wallet) else {
+        return Err(BumpFault::Memory);
+    };
+    let terms = bump_terms(out.alloc, &held.book, &held.wallet, &states, tip, request)?;
+    put_all(out, held, tip, &terms)
+}
+
+/// Puts what the request's payment comes to.
+pub(crate) fn put_bump(out: &mut Answer, wallet: Wallet, tip: u32, request: &Request) {
+    let Ok(held) = hold(out.alloc, wallet) else {
+        return out.word("no book");
+    };
+    if tip == u32::MAX || request.bump.is_none() {
+        return out.word("no tip or nothing to replace");
+    }
+    if let Err(fault) = put_held(out, &held, tip, request) {
+        out.words("fault ", bump_fault_words(out.alloc, &fault));
+    }
+}

@@ -1,0 +1,71 @@
+//! Wallet files and request files, and what they come to. A label, where it isn't empty, is a line before it.
+//!
+//! - `request LABEL REQUEST`: what a copy of the request holds
+//! - `wallet LABEL WALLET`: what the wallet holds
+//! - `states LABEL WALLET TIP`: the states of a wallet's payments, and what may be spent at this tip
+//! - `bump LABEL WALLET TIP REQUEST`: what a replacement of the payment that the request names is made from, or why there is
+//!   none. The wallet has no blocks.
+//! - `book LABEL WALLET BLOCKS`: the coins of the book of a wallet and its blocks, and what spends them, with the blocks added
+//!   first; `waiting` with the same columns: with the pending transactions first
+
+use crate::answer::Answer;
+use crate::columns::{bytes_of, column, short_number};
+use crate::requests::{put_request, put_wallet};
+use crate::{books, bumps, states};
+use fund_base::Memory;
+use request_text::{Request, read_request};
+use wallet_text::{Wallet, read_wallet};
+
+/// Puts a copy of a request.
+fn put_copy(out: &mut Answer, request: &Request) {
+    match request.copy(out.alloc) {
+        Ok(copy) => put_request(out, &copy),
+        Err(Memory) => out.lack(),
+    }
+}
+
+fn request(out: &mut Answer, text: &str) {
+    match read_request(out.alloc, text.as_bytes()) {
+        Ok(request) => put_copy(out, &request),
+        Err(_) => out.word("no request"),
+    }
+}
+
+fn bump(out: &mut Answer, wallet: Wallet, columns: &[&str]) {
+    match read_request(out.alloc, column(columns, 3).as_bytes()) {
+        Ok(request) => bumps::put_bump(out, wallet, short_number(column(columns, 2)), &request),
+        Err(_) => out.word("no request"),
+    }
+}
+
+fn book(out: &mut Answer, wallet: &Wallet, columns: &[&str], blocks_first: bool) {
+    let blocks = bytes_of(out.alloc, column(columns, 2));
+    books::put_book(out, wallet, blocks, blocks_first);
+}
+
+/// Puts what a verb asks of a wallet.
+fn put_verb(out: &mut Answer, verb: &str, wallet: Wallet, columns: &[&str]) {
+    match verb {
+        "wallet" => put_wallet(out, &wallet),
+        "states" => states::put_states(out, wallet, short_number(column(columns, 2))),
+        "bump" => bump(out, wallet, columns),
+        "book" => book(out, &wallet, columns, true),
+        "waiting" => book(out, &wallet, columns, false),
+        _ => out.word("no such verb"),
+    }
+}
+
+pub(crate) fn row(out: &mut Answer, verb: &str, columns: &[&str]) {
+    let (label, text) = (column(columns, 0), column(columns, 1));
+    if !label.is_empty() {
+        out.word(label);
+        out.word("\n");
+    }
+    if verb == "request" {
+        return request(out, text);
+    }
+    match read_wallet(out.alloc, text.as_bytes()) {
+        Ok(wallet) => put_verb(out, verb, wallet, columns),
+        Err(_) => out.word("no wallet"),
+    }
+}

@@ -1,0 +1,75 @@
+//! The faults of wallets and of requests, told in words. Those that have a name have that of the row.
+
+use crate::answer::Answer;
+use command_end::{request_fault_words, wallet_fault_words};
+use request_text::RequestFault;
+use segwit_addr::AddrFault;
+use tx_codec::TxFault;
+use wallet_text::WalletFault;
+
+/// The fault of a wallet of this kind.
+fn wallet_fault(kind: &str, name: String) -> WalletFault {
+    match kind {
+        "kind" => WalletFault::Kind(name),
+        "member" => WalletFault::Member(name),
+        "missing" => WalletFault::Missing(name),
+        "tx" => WalletFault::Tx(name, 0, TxFault::Truncated(5)),
+        "repeat" => WalletFault::Repeat(name, 3),
+        _ => plain_wallet_fault(kind),
+    }
+}
+
+/// The fault of a wallet of this kind, without a name.
+fn plain_wallet_fault(kind: &str) -> WalletFault {
+    match kind {
+        "json" => WalletFault::NotJson,
+        "script" => WalletFault::Script(2),
+        "weight" => WalletFault::Weight(12),
+        "parent" => WalletFault::ParentLater(1),
+        _ => WalletFault::Memory,
+    }
+}
+
+pub(crate) fn wallet(out: &mut Answer, kind: &str, name: &str) {
+    match String::from_str(out.alloc, name) {
+        Ok(name) => out.words("", wallet_fault_words(out.alloc, &wallet_fault(kind, name))),
+        Err(_) => out.lack(),
+    }
+}
+
+/// The fault of a request of this kind.
+fn request_fault(kind: &str, name: String) -> RequestFault {
+    match kind {
+        "kind" => RequestFault::Kind(name),
+        "member" => RequestFault::Member(name),
+        "missing" => RequestFault::Missing(name),
+        "rate" => RequestFault::RateRange(name),
+        "address" => RequestFault::Address(0, AddrFault::Checksum),
+        "json" => RequestFault::NotJson,
+        "script" => RequestFault::Script(1),
+        _ => plain_request_fault(kind),
+    }
+}
+
+/// The fault of a request of this kind, without a name.
+fn plain_request_fault(kind: &str) -> RequestFault {
+    match kind {
+        "amount" => RequestFault::AmountRange(2),
+        "dust" => RequestFault::Dust(0),
+        "sum" => RequestFault::SumRange,
+        "none" => RequestFault::NoRecipients,
+        "tries" => RequestFault::TriesRange,
+        "repeat" => RequestFault::Repeat(9),
+        _ => RequestFault::Memory,
+    }
+}
+
+pub(crate) fn request(out: &mut Answer, kind: &str, name: &str) {
+    match String::from_str(out.alloc, name) {
+        Ok(name) => out.words(
+            "",
+            request_fault_words(out.alloc, &request_fault(kind, name)),
+        ),
+        Err(_) => out.lack(),
+    }
+}

@@ -1,0 +1,113 @@
+//! PSBTs read and written, as bytes and as text.
+//!
+//! - `read BYTES`, `armored TEXT`: the unsigned transaction and what its inputs spend, or why the PSBT wasn't read
+//! - `again BYTES`: what is written of a PSBT that was read
+//! - `make VALUE SCRIPT ..`: the PSBT, in base64, of a transaction that is made as a row `tx make` says, behind value and script
+//!   of the output that it spends
+//! - `armor BYTES`, `unarmor TEXT`: bytes as base64, and base64 as bytes
+
+use crate::answer::Answer;
+use crate::columns::{bytes_of, column};
+use crate::transactions;
+use command_end::psbt_fault_words;
+use fund_base::Memory;
+use psbt_codec::{Psbt, PsbtFault, Spent, from_text, read_psbt, to_text, write_psbt, write_text};
+use std::alloc::Global;
+use tx_codec::{txid, write_tx};
+
+fn put_fault(out: &mut Answer, fault: &PsbtFault) {
+    out.words("fault ", psbt_fault_words(out.alloc, fault));
+}
+
+/// Puts what is known of a spent output: the txid of the whole transaction, and its value and script. `-` stands for what
+/// isn't known.
+fn put_spent(out: &mut Answer, spent: &Spent) {
+    match &spent.whole {
+        Some(tx) => out.shown(" ", txid(tx).bytes()),
+        None => out.word(" -"),
+    }
+    match &spent.paid {
+        Some(paid) => {
+            out.number(",", paid.value.get());
+            out.digits(":", paid.script.bytes());
+        }
+        None => out.word(",-"),
+    }
+}
+
+/// Puts the unsigned transaction and what its inputs spend.
+fn put_psbt(out: &mut Answer, psbt: &Psbt) {
+    out.written("ok ", write_tx(out.alloc, &psbt.tx));
+    out.word(" inputs");
+    for spent in &psbt.spent {
+        put_spent(out, spent);
+    }
+}
+
+fn read(out: &mut Answer, bytes: &[u8]) {
+    match read_psbt(out.alloc, bytes) {
+        Ok(psbt) => put_psbt(out, &psbt),
+        Err(fault) => put_fault(out, &fault),
+    }
+}
+
+fn armored(out: &mut Answer, text: &str) {
+    match from_text(out.alloc, text.as_bytes()) {
+        Ok(bytes) => read(out, &bytes),
+        Err(fault) => put_fault(out, &fault),
+    }
+}
+
+fn again(out: &mut Answer, bytes: &[u8]) {
+    match read_psbt(out.alloc, bytes) {
+        Ok(psbt) => out.written("", write_psbt(out.alloc, &psbt)),
+        Err(fault) => put_fault(out, &fault),
+    }
+}
+
+fn unarmor(out: &mut Answer, text: &str) {
+    match from_text(out.alloc, text.as_bytes()) {
+        Ok(bytes) => out.digits("", &bytes),
+        Err(fault) => put_fault(out, &fault),
+    }
+}
+
+/// The PSBT of the columns.
+fn made(alloc: Global, columns: &[&str]) -> Result<Psbt, Memory> {
+    let paid = transactions::output(alloc, column(columns, 0), column(columns, 1))?;
+    let mut spent = Vec::new(alloc);
+    spent.push(Spent {
+        whole: None,
+        paid: Some(paid),
+    })?;
+    let tx = transactions::made(alloc, columns.get(2..).unwrap_or(&[]))?;
+    Ok(Psbt { tx, spent })
+}
+
+fn make(out: &mut Answer, columns: &[&str]) {
+    match made(out.alloc, columns) {
+        Ok(psbt) => out.words("", write_text(out.alloc, &psbt)),
+        Err(Memory) => out.lack(),
+    }
+}
+
+fn armor(out: &mut Answer, bytes: &[u8]) {
+    match to_text(out.alloc, bytes) {
+        Ok(text) => out.put(&text),
+        Err(Memory) => out.lack(),
+    }
+}
+
+pub(crate) fn row(out: &mut Answer, verb: &str, columns: &[&str]) {
+    let text = column(columns, 0);
+    let bytes = bytes_of(out.alloc, text);
+    match verb {
+        "read" => read(out, &bytes),
+        "armored" => armored(out, text),
+        "again" => again(out, &bytes),
+        "make" => make(out, columns),
+        "armor" => armor(out, &bytes),
+        "unarmor" => unarmor(out, text),
+        _ => out.word("no such verb"),
+    }
+}

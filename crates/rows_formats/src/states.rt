@@ -1,0 +1,56 @@
+//! What has become of a wallet's payments, and what it may spend. Of each txid the first four digits are put.
+
+ghost use Rattle.std.specs.Prelude.{◌<◌};
+ghost use Rattle.fund_files.specs.Chain.{IsHeld};
+
+use crate::answer::Answer;
+use crate::candidates::{put_candidates, put_txid};
+use fund_base::{Memory, Txid};
+use fund_files::{Held, hold};
+use payment_states::{State, States, all_states, candidates};
+use wallet_text::Wallet;
+
+/// Puts a state, and what it names.
+fn put_state(out: &mut Answer, state: State) {
+    match state {
+        State::Confirmed(height) => out.number("Confirmed ", height as u64),
+        State::Conflicted(by) => put_txid(out, "Conflicted ", &by, true),
+        State::Abandoned => out.word("Abandoned"),
+        State::Replaced(by) => put_txid(out, "Replaced ", &by, true),
+        State::Pending => out.word("Pending"),
+    }
+}
+
+/// Puts the states in order; after one that is found otherwise by its txid stands a question mark. The last is that of a
+/// txid which no payment has: `-` where there is none.
+fn put_payments(out: &mut Answer, states: &States) {
+    for payment in states.payments() {
+        put_state(out, payment.state);
+        let is_found = states.state(&payment.txid) == Some(payment.state);
+        out.word(if is_found { ", " } else { "?, " });
+    }
+    let foreign = states.state(&Txid([9; 32]));
+    out.word(if foreign.is_none() { "-" } else { "?" });
+}
+
+/// Puts the states of the payments of a wallet and what it may spend, by its book. The error is out of memory.
+fn put_held(out: &mut Answer, held: &Held, tip: u32) -> Result<(), Memory>
+    requires held { IsHeld held.now }
+    requires tip { tip < 4294967295 }
+{
+    let states = all_states(out.alloc, &held.book, &held.wallet)?;
+    put_payments(out, &states);
+    let coins = candidates(out.alloc, &held.book, &held.wallet, &states, tip)?;
+    put_candidates(out, "; ", &coins, true);
+    Ok(())
+}
+
+/// Puts the states of a wallet's payments and what it may spend.
+pub(crate) fn put_states(out: &mut Answer, wallet: Wallet, tip: u32) {
+    let Ok(held) = hold(out.alloc, wallet) else {
+        return out.word("no book");
+    };
+    if tip < u32::MAX && put_held(out, &held, tip).is_err() {
+        out.lack();
+    }
+}

@@ -1,0 +1,95 @@
+//! Coins as rows spell them: `COUNT*TXID/VALUE/WEIGHT/SCRIPT/DEPTH/mine/safe/ANCESTORS/DESCENDANTS` each, with blanks
+//! between them, where TXID is one byte of 32 and SCRIPT the second of two. A coin is the output of its place in the
+//! list.
+
+ghost use Rattle.std.specs.Prelude.{◌≤◌, IfOk, IfSome, length};
+ghost use Rattle.fund_base.specs.Candidates.{AreCandidates};
+
+use crate::columns::column;
+use fund_base::{Candidate, MAX_MONEY, Memory, OutPoint, Script, Txid};
+use std::alloc::Global;
+
+/// What tells coins apart in the rows.
+#[derive(Clone, Copy)]
+struct Coin {
+    txid: u8,
+    value: u64,
+    weight: u64,
+    script: u8,
+    depth: u32,
+    mine: bool,
+    safe: bool,
+    ancestors: u32,
+    descendants: u32,
+}
+
+/// The coin of these words.
+fn read_coin(words: &[&str]) -> Option<Coin> {
+    Some(Coin {
+        txid: column(words, 0).parse().ok()?,
+        value: column(words, 1).parse().ok()?,
+        weight: column(words, 2).parse().ok()?,
+        script: column(words, 3).parse().ok()?,
+        depth: column(words, 4).parse().ok()?,
+        mine: column(words, 5) == "mine",
+        safe: column(words, 6) == "safe",
+        ancestors: column(words, 7).parse().ok()?,
+        descendants: column(words, 8).parse().ok()?,
+    })
+}
+
+/// Puts as many coins as the word says after the others, and tells whether it is one that says so.
+fn put_coins(alloc: Global, coins: &mut Vec<Coin>, word: &str) -> Result<bool, Memory> {
+    let Some((count, word)) = word.split_once('*') else {
+        return Ok(false);
+    };
+    let words: Vec<&str> = word.split('/').collect(alloc)?;
+    let (Ok(count), Some(coin)) = (count.parse::<u32>(), read_coin(&words)) else {
+        return Ok(false);
+    };
+    for _ in 0..count {
+        coins.push(coin)?;
+    }
+    Ok(true)
+}
+
+/// The coins as candidates. What no candidate can be is the nearest that one can.
+fn listed(alloc: Global, coins: &[Coin]) -> Result<Vec<Candidate>, Memory>
+    requires { length coins.now ≤ 100_000 }
+    ensures { IfOk result (λ v. AreCandidates v.items) }
+{
+    let mut list = Vec::new(alloc);
+    for (place, coin) in coins.iter().enumerate() {
+        list.push(Candidate {
+            coin: OutPoint {
+                txid: Txid([coin.txid; 32]),
+                index: place as u32,
+            },
+            value: coin.value.min(MAX_MONEY),
+            weight: coin.weight.max(165).min(400_000),
+            script: Script::new(Vec::from_slice(alloc, &[0x6a, coin.script])?),
+            depth: coin.depth,
+            mine: coin.mine,
+            safe: coin.safe,
+            ancestors: coin.ancestors,
+            descendants: coin.descendants,
+        })?;
+    }
+    Ok(list)
+}
+
+/// The candidates of a column; `-` is none. `None` where it isn't spelled so, or has more than 100,000.
+pub(crate) fn candidates_in(alloc: Global, column: &str) -> Result<Option<Vec<Candidate>>, Memory>
+    ensures { IfOk result (λ o. IfSome o (λ v. AreCandidates v.items)) }
+{
+    let mut coins = Vec::new(alloc);
+    for word in column.split(' ') {
+        if word != "-" && !put_coins(alloc, &mut coins, word)? {
+            return Ok(None);
+        }
+    }
+    if coins.len() > 100_000 {
+        return Ok(None);
+    }
+    Ok(Some(listed(alloc, &coins)?))
+}

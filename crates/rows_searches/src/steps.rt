@@ -1,0 +1,125 @@
+//! The steps of a run.
+
+ghost use Rattle.std.specs.Prelude.{◌≤◌, IfOk, IfSome, IsTrue, OnOk};
+ghost use Rattle.std.specs.List.{AllByRecursion};
+ghost use Rattle.search_run.specs.Step.{AreSteps, FitsStage};
+
+use crate::columns::{column, number_in};
+use closing_log::Stage;
+use fund_base::Memory;
+use pick_problem::{Kind, Problem};
+use row_columns::problem_in;
+use search_run::Step;
+use std::alloc::Global;
+use std::rc::Rc;
+
+/// The stage of a word; that of none of the searches where it is no word of theirs.
+fn stage_in(word: &str) -> Stage {
+    match word {
+        "changeless" => Stage::Changeless,
+        "lean-big" => Stage::LeanBig,
+        "draw" => Stage::Draw,
+        "lean-small" => Stage::LeanSmall,
+        _ => Stage::Presets,
+    }
+}
+
+/// Whether a problem is one of a stage.
+fn fits(stage: Stage, problem: &Problem) -> bool
+    ensures { IsTrue result → FitsStage stage problem.now }
+{
+    match stage {
+        Stage::Changeless => problem.kind() == Kind::Changeless,
+        Stage::LeanBig | Stage::Draw | Stage::LeanSmall => problem.kind() == Kind::Lean,
+        Stage::Presets | Stage::Wide => false,
+    }
+}
+
+/// How many coins stand at each place, of a column; `-` is none. A word that is no such number is read as 0.
+fn sizes_in(alloc: Global, column: &str) -> Result<Vec<u8>, Memory> {
+    let mut sizes = Vec::new(alloc);
+    if column == "-" {
+        return Ok(sizes);
+    }
+    for word in column.split(' ') {
+        sizes.push(word.parse().unwrap_or(0))?;
+    }
+    Ok(sizes)
+}
+
+/// Whether no place has more than 100 coins.
+fn are_few(sizes: &[u8]) -> bool
+    ensures { IsTrue result → AllByRecursion (λ n. n ≤ 100) sizes.now }
+{
+    sizes.iter().all(|size| *size <= 100)
+}
+
+/// The step of these parts. `None` where there can't be one.
+fn step_of(
+    row: u8,
+    stage: Stage,
+    problem: Problem,
+    ending: u64,
+    sizes: Rc<Vec<u8>>,
+    last: bool,
+) -> Option<Step> {
+    let items = problem.items().len();
+    if !fits(stage, &problem) || ending > 1_000_000_000_000_000_000 {
+        return None;
+    }
+    if sizes.len() != items || !are_few(sizes.as_slice()) {
+        return None;
+    }
+    Some(Step::new(row, stage, problem, ending, sizes, last))
+}
+
+/// The step of its words. `None` where there can't be one.
+fn step_in(alloc: Global, text: &str) -> Result<Option<Step>, Memory> {
+    let words: Vec<&str> = text.split(';').collect(alloc)?;
+    if words.len() != 10 {
+        return Ok(None);
+    }
+    let Some(problem) = problem_in(alloc, &words[4..9])? else {
+        return Ok(None);
+    };
+    let sizes = Rc::new(alloc, sizes_in(alloc, column(&words, 9))?)?;
+    let row = column(&words, 0).parse().unwrap_or(0);
+    let (stage, ending) = (
+        stage_in(column(&words, 1)),
+        number_in(column(&words, 2), u64::MAX),
+    );
+    Ok(step_of(
+        row,
+        stage,
+        problem,
+        ending,
+        sizes,
+        column(&words, 3) == "last",
+    ))
+}
+
+/// Puts a step after others.
+fn put(steps: &mut Vec<Step>, step: Step) -> Result<(), Memory>
+    ensures { OnOk result (AreSteps steps.old.items → AreSteps steps.new.items) }
+{
+    let _row = step.row();
+    steps.push(step)?;
+    Ok(())
+}
+
+/// The steps of a column, with `|` between them; `-` is none. `None` where there can't be one of them.
+pub(crate) fn steps_in(alloc: Global, column: &str) -> Result<Option<Vec<Step>>, Memory>
+    ensures { IfOk result (λ o. IfSome o (λ s. AreSteps s.items)) }
+{
+    let mut steps = Vec::new(alloc);
+    if column == "-" {
+        return Ok(Some(steps));
+    }
+    for text in column.split('|') {
+        let Some(step) = step_in(alloc, text)? else {
+            return Ok(None);
+        };
+        put(&mut steps, step)?;
+    }
+    Ok(Some(steps))
+}
