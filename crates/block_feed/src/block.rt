@@ -8,7 +8,7 @@ use std::marker::Model;
 use tx_codec::Tx;
 
 /// A block at its height in the chain. It keeps the txids that its Merkle root was tested with.
-#[derive(Debug, Drop)]
+#[derive(Drop)]
 pub struct Block {
     /// Its place in the chain, the first block of all being at 0.
     pub height: u32,

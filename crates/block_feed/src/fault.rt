@@ -10,7 +10,7 @@ use tx_codec::TxFault;
 /// What is wrong with a block file at the place where it is read: the first fault in the order magic,
 /// length, link, count of transactions, transactions, rest of the record, Merkle root, mutated level. A
 /// height is that of the block which would stand there.
-#[derive(Clone, Copy, Debug, PartialEq, Eq)]
+#[derive(Clone, Copy, PartialEq, Eq)]
 pub enum FeedFault {
     /// The four bytes F9 BE B4 D9 do not stand at this place of the file, where a record begins, nor do
     /// zero bytes alone to the file's end.

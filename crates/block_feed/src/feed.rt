@@ -28,7 +28,7 @@ const MAX_HEIGHT: u32 = 4_294_967_294;
 /// low byte first, and the block, with nothing or zero bytes behind the last. It gives one block after
 /// the other, each linked to the one before it. It keeps no bytes of the file: each call reads one record,
 /// from the place behind the one before. Where it is asked to, it computes the file's SHA-256 as it goes.
-#[derive(Debug, Drop)]
+#[derive(Drop)]
 pub struct Feed {
     hash: [u8; 32],
     height: u32,

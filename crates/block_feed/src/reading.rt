@@ -194,6 +194,7 @@ fn whole_block(
 ) -> Result<Block, FeedFault>
     ensures gives { YieldsAll Memory (λ b. b) result (block_at previous.now height (record { rest = bytes.now; place = 0 })) }
     ensures short { result ≡ Err Memory → (80 ≤ length bytes.now) × (previous_of (take 80 bytes.now) ≡ previous.now) }
+    ensures some { result ≡ Err Memory → IsOkAnd (compact_at (after 80 (record { rest = bytes.now; place = 0 }))) (λ count. count.0 ≢ 0) }
     ensures height { IfOk result (λ b. b.height ≡ height) }
     ensures never_read { result ≢ Err Read }
     ensures bytes { IsBytes bytes.now }
@@ -214,6 +215,7 @@ pub fn block_of(
     ensures linked { IfOk result (λ b. IsLinked previous.now height b) }
     ensures gives { YieldsAll Memory (λ b. b) result (block_at previous.now height (record { rest = bytes.now; place = 0 })) }
     ensures short { result ≡ Err Memory → previous_of (take 80 bytes.now) ≡ previous.now }
+    ensures some { result ≡ Err Memory → IsOkAnd (compact_at (after 80 (record { rest = bytes.now; place = 0 }))) (λ count. count.0 ≢ 0) }
     ensures height { IfOk result (λ b. b.height ≡ height) }
     ensures never_read { result ≢ Err Read }
     ensures never_memory { (at : ℕ) → result ≢ Err (OfTx at NoMemory) }

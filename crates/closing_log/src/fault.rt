@@ -7,7 +7,7 @@ ghost use Rattle.closing_log.specs.declared.fault.LogTextFault.TheVariants as fa
 use std::alloc::{AllocError, AllocFailed};
 
 /// Why a part of a text couldn't be read.
-#[derive(Debug, Drop)]
+#[derive(Drop)]
 pub enum LineFault<'a> {
     /// The text leaves its grammar: these bytes are left where no text goes on as they do.
     Form(&'a [u8]),
@@ -40,7 +40,7 @@ impl<'a, T: Drop> From<AllocFailed<T>> for LineFault<'a> {
 }
 
 /// Why bytes weren't read as a log.
-#[derive(Clone, Copy, Debug, PartialEq, Eq)]
+#[derive(Clone, Copy, PartialEq, Eq)]
 pub enum LogTextFault {
     /// The bytes are no text of a log. The place is that of the first byte at which no text goes on as the bytes do,
     /// or their length where they end too early; `sections` counts the sections whose lines all stand before it.

@@ -5,7 +5,7 @@ use fund_base::Places;
 use std::marker::Model;
 
 /// A stage of a request: by the presets alone, one of the searches, the draw, or the wide search.
-#[derive(Clone, Copy, Debug, PartialEq, Eq)]
+#[derive(Clone, Copy, PartialEq, Eq)]
 pub enum Stage {
     Presets,
     Changeless,
@@ -35,7 +35,7 @@ impl Worded for Stage {
 }
 
 /// A search that came to its end.
-#[derive(Debug, Drop)]
+#[derive(Drop)]
 pub struct Section {
     /// The row of the ladder.
     pub row: u8,
@@ -58,7 +58,7 @@ impl Model for Section {
 }
 
 /// A search that goes on.
-#[derive(Debug, Drop)]
+#[derive(Drop)]
 pub struct OpenSection {
     /// The row of the ladder.
     pub row: u8,
@@ -79,7 +79,7 @@ impl Model for OpenSection {
 }
 
 /// The searches of a run, in order. A log that isn't ended has one that goes on.
-#[derive(Debug, Drop)]
+#[derive(Drop)]
 pub struct LogText {
     /// The searches that came to their ends.
     pub closed: Vec<Section>,

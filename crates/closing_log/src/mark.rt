@@ -3,7 +3,7 @@
 use crate::lines::Worded;
 
 /// How the coins of a payment were found, and so what they promise.
-#[derive(Clone, Copy, Debug, PartialEq, Eq)]
+#[derive(Clone, Copy, PartialEq, Eq)]
 pub enum Mark {
     /// By a search that came to its end: none of what may be chosen has a lesser measure.
     Exhausted,

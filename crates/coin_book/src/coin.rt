@@ -3,7 +3,7 @@
 use fund_base::{OutPoint, Script, Txid};
 
 /// An output that pays a listed script.
-#[derive(Debug, Drop)]
+#[derive(Drop)]
 pub struct Coin {
     /// The output that it is.
     pub coin: OutPoint,
@@ -20,7 +20,7 @@ pub struct Coin {
 }
 
 /// A confirmed transaction that spends some outpoint.
-#[derive(Clone, Copy, Debug, PartialEq, Eq)]
+#[derive(Clone, Copy, PartialEq, Eq)]
 pub struct Spend {
     /// Its txid.
     pub txid: Txid,

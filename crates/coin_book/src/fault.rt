@@ -7,7 +7,7 @@ use fund_base::{Memory, OutPoint};
 use std::alloc::{AllocError, AllocFailed};
 
 /// Why a call left the book as it was.
-#[derive(Clone, Copy, Debug, PartialEq, Eq)]
+#[derive(Clone, Copy, PartialEq, Eq)]
 pub enum BookFault {
     /// This outpoint would be a confirmed coin for a second time. It is the first such outpoint in chain order, and
     /// fewer than 100,001 coins stand before it.

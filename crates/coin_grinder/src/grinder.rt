@@ -21,7 +21,7 @@ use walk_engine::Search;
 
 /// A search for the lightest selection that leaves enough for change. Contracts see it as the walk of its problem, with
 /// the letters from before it was restored, and the number of tries for which there is room.
-#[derive(Debug, Drop)]
+#[derive(Drop)]
 pub struct Grinder {
     search: Search,
 }

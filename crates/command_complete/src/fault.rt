@@ -8,7 +8,7 @@ use std::alloc::{AllocError, AllocFailed};
 
 /// Why a PSBT isn't made whole: what is wrong with the first input at which something is, by the input's index, from 0, and
 /// the outpoint that it spends.
-#[derive(Clone, Copy, Debug, PartialEq, Eq)]
+#[derive(Clone, Copy, PartialEq, Eq)]
 pub enum CompleteFault {
     /// No whole transaction stands beside the input, and the book has no coin at the outpoint.
     Missing(u64, OutPoint),

@@ -6,7 +6,7 @@ use fund_files::Stop as ChainStop;
 use psbt_codec::PsbtFault;
 
 /// Why a PSBT file is refused. No fault within it is that there was not enough memory.
-#[derive(Clone, Copy, Debug, PartialEq, Eq)]
+#[derive(Clone, Copy, PartialEq, Eq)]
 pub enum Refusal {
     /// Its text is no PSBT: the first fault.
     Psbt(PsbtFault),

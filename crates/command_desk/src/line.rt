@@ -12,7 +12,7 @@ use std::str;
 
 /// A line: a command, with the names of its files; or any other line. A name is that of a job: 1 to 32 letters, digits and
 /// hyphens.
-#[derive(Clone, Copy, Debug)]
+#[derive(Clone, Copy)]
 pub enum Line<'a> {
     /// `open NAME FILE`: a job for the request in the file.
     Open { name: &'a str, file: &'a str },

@@ -1,7 +1,7 @@
 //! The names of files.
 
 /// The names of the files from which the coins are told.
-#[derive(Clone, Copy, Debug)]
+#[derive(Clone, Copy)]
 pub struct Sources<'a> {
     /// The wallet file.
     pub wallet: &'a str,

@@ -28,7 +28,7 @@ use request_text::Request;
 use std::alloc::Global;
 
 /// The texts of a run that came to its end.
-#[derive(Debug, Drop)]
+#[derive(Drop)]
 pub struct Texts {
     /// The report, which is printed.
     pub report: Vec<u8>,

@@ -1,7 +1,7 @@
 //! The names of the files of a payment.
 
 /// The names of the files of a payment.
-#[derive(Clone, Copy, Debug)]
+#[derive(Clone, Copy)]
 pub struct Payment<'a> {
     /// The request file.
     pub request: &'a str,

@@ -9,7 +9,7 @@ use fund_outside::KeepFault;
 use fund_steps::PlanFault;
 
 /// What is refused.
-#[derive(Debug, Drop)]
+#[derive(Drop)]
 pub enum Refusal {
     /// A file is refused.
     Files(FileRefusal),
@@ -20,7 +20,7 @@ pub enum Refusal {
 }
 
 /// Why the command stops before it writes.
-#[derive(Debug, Drop)]
+#[derive(Drop)]
 pub enum Stop {
     /// A read of the file failed.
     Read(File),

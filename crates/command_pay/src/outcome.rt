@@ -4,7 +4,7 @@ use command_end::Status;
 use fund_report::FundedReport;
 
 /// A new file that is asked for.
-#[derive(Clone, Copy, Debug, PartialEq, Eq)]
+#[derive(Clone, Copy, PartialEq, Eq)]
 pub enum NewFile {
     /// That of the log.
     Log,
@@ -13,7 +13,7 @@ pub enum NewFile {
 }
 
 /// How a payment ends that words ask for.
-#[derive(Debug, Drop)]
+#[derive(Drop)]
 pub enum Ending {
     /// It is paid: its report and its log. The new files that are asked for are written.
     Paid(FundedReport, Vec<u8>),

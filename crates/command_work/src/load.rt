@@ -15,7 +15,7 @@ use std::alloc::Global;
 use wallet_text::{Earlier, Wallet, WalletFault, judge_earlier};
 
 /// A wallet, and what is asked of it.
-#[derive(Debug, Drop)]
+#[derive(Drop)]
 pub struct Workload {
     /// At height 200, with a hash of zeros. It watches three scripts, has a coin for each earlier transaction, and knows
     /// nothing else.

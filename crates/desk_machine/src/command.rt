@@ -3,7 +3,7 @@
 use fund_base::Txid;
 
 /// A command. A name is 1 to 32 of the characters A to Z, a to z, 0 to 9 and `-`.
-#[derive(Debug, Drop)]
+#[derive(Drop)]
 pub enum Command {
     /// Opens a job of this name for the request that a file of these bytes asks for.
     Open { name: String, request: Vec<u8> },

@@ -9,7 +9,7 @@ use request_text::RequestFault;
 use tx_codec::TxFault;
 
 /// Why a request, blocks or a pending transaction are refused.
-#[derive(Debug, Drop)]
+#[derive(Drop)]
 pub enum Refusal {
     /// The request file isn't one: its first fault.
     Request(RequestFault),
@@ -32,7 +32,7 @@ pub enum Refusal {
 }
 
 /// The reply to a command. Unless it says otherwise the desk is as before.
-#[derive(Debug, Drop)]
+#[derive(Drop)]
 pub enum Reply {
     /// A job of this name is open.
     TakenName,

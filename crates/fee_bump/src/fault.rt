@@ -6,7 +6,7 @@ use fund_base::{Memory, OutPoint};
 use payment_states::State;
 
 /// Why the payment that a request names isn't replaced: the first of these that applies, in this order.
-#[derive(Clone, Copy, Debug, PartialEq, Eq)]
+#[derive(Clone, Copy, PartialEq, Eq)]
 pub enum BumpFault {
     /// No transaction of the pending list has its txid, or one has, and this is its state, which isn't Pending.
     NotPending(Option<State>),

@@ -4,7 +4,7 @@ use fund_base::{Candidate, Txid};
 use std::marker::Model;
 
 /// What a replacement is made from.
-#[derive(Debug, Drop)]
+#[derive(Drop)]
 pub struct BumpTerms {
     /// The inputs of the payment that is replaced, as coins, each once, in the order of its inputs. Each replacement spends
     /// them.

@@ -11,7 +11,7 @@ use crate::outputs::compact_len;
 pub const MAX_WEIGHT: u64 = 400_000;
 
 /// The rates of a request, in satoshi per 1,000 virtual bytes, and the change that it aims at.
-#[derive(Clone, Copy, Debug, PartialEq, Eq)]
+#[derive(Clone, Copy, PartialEq, Eq)]
 pub struct Rates {
     /// The rate at which the payment pays its fee.
     pub rate: u64,
@@ -24,7 +24,7 @@ pub struct Rates {
 }
 
 /// What a payment is to carry, before coins are chosen for it.
-#[derive(Clone, Copy, Debug, PartialEq, Eq)]
+#[derive(Clone, Copy, PartialEq, Eq)]
 pub struct Load {
     /// What the recipients get together, in satoshi.
     pub paid: u64,
@@ -52,7 +52,7 @@ pub struct Load {
 }
 
 /// What a search for coins has to meet. Amounts are effective values in satoshi, weights are in weight units.
-#[derive(Clone, Copy, Debug, PartialEq, Eq)]
+#[derive(Clone, Copy, PartialEq, Eq)]
 pub struct Terms {
     /// The weight of the payment without its inputs and without change.
     pub base: u64,

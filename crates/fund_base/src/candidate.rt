@@ -8,7 +8,7 @@ use crate::script::Script;
 use std::alloc::Global;
 
 /// A coin that may be spent, and what the rules of choice need to know of it.
-#[derive(Debug, Drop)]
+#[derive(Drop)]
 pub struct Candidate {
     /// The output that it is.
     pub coin: OutPoint,

@@ -9,7 +9,7 @@ ghost use Rattle.fund_base.specs.Cursor.{IsBytes, Moves, after, take_at, number_
 use std::marker::Model;
 
 /// Why a field couldn't be read: the place is that of its first byte, from 0.
-#[derive(Clone, Copy, Debug, PartialEq, Eq)]
+#[derive(Clone, Copy, PartialEq, Eq)]
 pub enum CutFault {
     /// Fewer bytes are left than the field has.
     Truncated(u64),

@@ -7,7 +7,7 @@ use std::marker::Model;
 
 /// Which calls of one method are to fail, by their numbers from 0, and how many calls were made; at
 /// the greatest `u64` that number stays.
-#[derive(Debug, Drop)]
+#[derive(Drop)]
 pub struct Failures {
     numbers: Vec<u64>,
     next: u64,

@@ -11,7 +11,7 @@ use std::rt::Files;
 
 /// The files of the system, by path. Each call opens the file anew. It tells nothing of their content nor of the names
 /// that were asked for, and each of its two counts stands for every name.
-#[derive(Debug, Drop)]
+#[derive(Drop)]
 pub struct FileShelf<R: Files + Drop> {
     rt: R,
     reads: u64,

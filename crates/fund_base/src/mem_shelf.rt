@@ -12,7 +12,7 @@ use std::alloc::Global;
 
 /// Files in memory whose failures are told beforehand. A read of a missing file fails too. It keeps the name of each
 /// read, for which memory may be short.
-#[derive(Debug, Drop)]
+#[derive(Drop)]
 pub struct MemShelf {
     alloc: Global,
     files: Vec<(String, Vec<u8>)>,

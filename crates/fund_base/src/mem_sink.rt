@@ -10,7 +10,7 @@ use crate::sink::Sink;
 use std::alloc::Global;
 
 /// Bytes put in memory, where failures are told beforehand. It takes a piece whole or not at all.
-#[derive(Debug, Drop)]
+#[derive(Drop)]
 pub struct MemSink {
     written: Vec<u8>,
     puts: Failures,

@@ -8,7 +8,7 @@ use std::marker::Model;
 pub const MAX_MONEY: u64 = 2_100_000_000_000_000;
 
 /// An amount in satoshi, at most [`MAX_MONEY`].
-#[derive(Clone, Copy, Debug, PartialEq, Eq, PartialOrd, Ord, Hash)]
+#[derive(Clone, Copy, PartialEq, Eq, PartialOrd, Ord, Hash)]
 pub struct Sat {
     amount: u64,
 }

@@ -6,7 +6,7 @@ use std::marker::Model;
 
 /// The double SHA-256 of a transaction without its witnesses, its bytes in the order in which a
 /// transaction's text holds them. It is shown with its bytes reversed.
-#[derive(Clone, Copy, Debug, PartialEq, Eq, PartialOrd, Ord, Hash)]
+#[derive(Clone, Copy, PartialEq, Eq, PartialOrd, Ord, Hash)]
 pub struct Txid(pub [u8; 32]);
 
 impl Model for Txid {
@@ -31,7 +31,7 @@ impl Txid {
 
 /// An output of a transaction: the transaction's txid, and the output's place in it, from 0.
 /// Outpoints are ordered by the bytes of the txid as stored, then by index.
-#[derive(Clone, Copy, Debug, PartialEq, Eq, PartialOrd, Ord, Hash)]
+#[derive(Clone, Copy, PartialEq, Eq, PartialOrd, Ord, Hash)]
 pub struct OutPoint {
     /// The txid of the transaction.
     pub txid: Txid,

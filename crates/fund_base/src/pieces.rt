@@ -12,7 +12,7 @@ use std::alloc::{AllocError, Global};
 const PIECE: usize = 131_072;
 
 /// Why a whole file was not read.
-#[derive(Clone, Copy, Debug, PartialEq, Eq)]
+#[derive(Clone, Copy, PartialEq, Eq)]
 pub enum ReadError {
     /// A read failed, and the count of reads of that file that failed rose.
     Failed,
@@ -46,7 +46,7 @@ impl From<AllocError> for ReadError {
 }
 
 /// The first bytes of a file, and whether it has more than these.
-#[derive(Debug, Drop)]
+#[derive(Drop)]
 pub struct Front {
     /// The first bytes, in the file's order.
     pub bytes: Vec<u8>,

@@ -7,7 +7,7 @@ use std::alloc::Global;
 use std::marker::Model;
 
 /// The bytes of a script: of an output, what it pays to, and of an input, what it gives in answer.
-#[derive(Debug, Drop)]
+#[derive(Drop)]
 pub struct Script {
     bytes: Vec<u8>,
 }

@@ -6,7 +6,7 @@ ghost use Rattle.fund_base.specs.Causes.{ShelfView, Asks, Rose, NeverFall, IsRea
 use std::alloc::AllocError;
 
 /// Why an object of the outside did not do as it was asked.
-#[derive(Clone, Copy, Debug, PartialEq, Eq)]
+#[derive(Clone, Copy, PartialEq, Eq)]
 pub enum Fault {
     /// It failed, and its count of failures rose in this call.
     Failed,

@@ -8,7 +8,7 @@ use crate::sink::Sink;
 use crate::system::told;
 
 /// The standard output. It doesn't tell what was written.
-#[derive(Debug, Drop)]
+#[derive(Drop)]
 pub struct StdSink<R: Print + Drop> {
     rt: R,
     faults: u64,

@@ -10,7 +10,7 @@ use std::alloc::Global;
 
 /// Files in memory. It never fails, and its counts of failures are always 0; a missing file is read as
 /// an empty one. It keeps the name of each read, for which memory may be short, as for a file that is written.
-#[derive(Debug, Drop)]
+#[derive(Drop)]
 pub struct SureShelf {
     alloc: Global,
     files: Vec<(String, Vec<u8>)>,

@@ -7,7 +7,7 @@ use crate::sink::Sink;
 use std::alloc::Global;
 
 /// Bytes put in memory. It never fails, and its count of failures is always 0; memory may be short.
-#[derive(Debug, Drop)]
+#[derive(Drop)]
 pub struct SureSink {
     written: Vec<u8>,
     refusals: u64,

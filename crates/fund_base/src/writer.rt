@@ -35,7 +35,7 @@ impl Writer for Vec<u8> {
 }
 
 /// Counts bytes. A greater number than 18,446,744,073,709,551,615 counts as that number.
-#[derive(Clone, Copy, Debug, PartialEq, Eq)]
+#[derive(Clone, Copy, PartialEq, Eq)]
 pub struct Length {
     count: u64,
 }

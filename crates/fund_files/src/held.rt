@@ -13,7 +13,7 @@ use std::alloc::Global;
 use wallet_text::Wallet;
 
 /// Where a chain ends.
-#[derive(Clone, Copy, Debug)]
+#[derive(Clone, Copy)]
 pub struct Tip {
     /// The height of the last block.
     pub height: u32,

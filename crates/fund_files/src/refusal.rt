@@ -6,7 +6,7 @@ use request_text::RequestFault;
 use wallet_text::WalletFault;
 
 /// A file that is read.
-#[derive(Clone, Copy, Debug, PartialEq, Eq)]
+#[derive(Clone, Copy, PartialEq, Eq)]
 pub enum File {
     Wallet,
     Blocks,
@@ -14,7 +14,7 @@ pub enum File {
 }
 
 /// Why a file is refused.
-#[derive(Debug, Drop)]
+#[derive(Drop)]
 pub enum FileRefusal {
     /// The file is longer than its limit: 16,777,216 bytes of a wallet, 1,073,741,824 of blocks, 1,048,576 of a request.
     TooLong(File),

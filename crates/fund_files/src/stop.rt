@@ -3,7 +3,7 @@
 use crate::refusal::{File, FileRefusal};
 
 /// Why the reading of files stops.
-#[derive(Debug, Drop)]
+#[derive(Drop)]
 pub enum Stop {
     /// A read of the file failed.
     Read(File),

@@ -8,7 +8,7 @@ ghost use Rattle.fund_outside.specs.Kept.{SameForOthers, after_save, part_in, pa
 use std::alloc::{AllocError, Global};
 
 /// A kept job.
-#[derive(Debug, Drop)]
+#[derive(Drop)]
 pub(crate) struct Job {
     name: String,
     saved: Vec<u8>,

@@ -7,7 +7,7 @@ ghost use Rattle.fund_outside.specs.Kept.{KeeperView, SameForOthers, after_save,
 use std::alloc::AllocError;
 
 /// Why a keeper did not do as it was asked.
-#[derive(Clone, Copy, Debug, PartialEq, Eq)]
+#[derive(Clone, Copy, PartialEq, Eq)]
 pub enum KeepFault {
     /// It failed, and its count of failures rose in this call.
     Failed,

@@ -12,7 +12,7 @@ use std::alloc::Global;
 
 /// Jobs kept in memory, where failures are told beforehand. A job that is saved again takes the place of what was
 /// kept of it.
-#[derive(Debug, Drop)]
+#[derive(Drop)]
 pub struct MemKeeper {
     alloc: Global,
     jobs: Vec<Job>,

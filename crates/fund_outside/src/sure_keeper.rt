@@ -10,7 +10,7 @@ use std::alloc::Global;
 
 /// Jobs kept in memory. It never fails, and its count of failures is always 0; memory may be short. A job that is saved
 /// again takes the place of what was kept of it.
-#[derive(Debug, Drop)]
+#[derive(Drop)]
 pub struct SureKeeper {
     alloc: Global,
     jobs: Vec<Job>,

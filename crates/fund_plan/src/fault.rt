@@ -8,7 +8,7 @@ use search_keep::SavedFault;
 use search_run::{RestoreRefused, VerifyFault};
 
 /// What is the matter with a section of a log.
-#[derive(Clone, Copy, Debug, PartialEq, Eq)]
+#[derive(Clone, Copy, PartialEq, Eq)]
 pub enum CheckAt {
     /// The section at this index isn't that of the search to which the run comes there: its row, its stage or its
     /// digest is another. An open section comes after the closed ones; it is also wrong where there is none, and
@@ -22,7 +22,7 @@ pub enum CheckAt {
 
 /// Why a plan can't go on from a saved position and a log. Of several reasons the first is told: the job's digest, its
 /// tries, a section, the position, an answer.
-#[derive(Clone, Copy, Debug, PartialEq, Eq)]
+#[derive(Clone, Copy, PartialEq, Eq)]
 pub enum PlanSavedFault {
     /// What is saved is of another job, has no tries left, or is no position of the open search.
     Saved(SavedFault),

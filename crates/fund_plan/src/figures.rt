@@ -12,7 +12,7 @@ use fund_steps::{paid, value};
 use request_text::Request;
 
 /// What a payment comes to.
-#[derive(Clone, Copy, Debug, PartialEq, Eq)]
+#[derive(Clone, Copy, PartialEq, Eq)]
 pub struct Figures {
     /// The declared weight of the payment, in weight units: that of its base, of its inputs as the wallet declares them,
     /// and of its change output.

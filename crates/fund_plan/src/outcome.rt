@@ -5,7 +5,7 @@ use fund_base::Candidate;
 use std::marker::Model;
 
 /// Where a plan stands.
-#[derive(Clone, Copy, Debug, PartialEq, Eq)]
+#[derive(Clone, Copy, PartialEq, Eq)]
 pub struct Place {
     /// The row of the ladder.
     pub row: u8,
@@ -14,7 +14,7 @@ pub struct Place {
 }
 
 /// A payment: coins that pay, and the change.
-#[derive(Debug, Drop)]
+#[derive(Drop)]
 pub struct Funded {
     /// What its coins promise.
     pub mark: Mark,
@@ -43,7 +43,7 @@ impl Model for Funded {
 }
 
 /// What a plan comes to.
-#[derive(Debug, Drop)]
+#[derive(Drop)]
 pub enum Outcome {
     /// These coins pay what is asked.
     Funded(Funded),

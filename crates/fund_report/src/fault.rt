@@ -6,7 +6,7 @@ ghost use Rattle.fund_report.specs.declared.fault.ReportFault.TheVariants as fau
 use std::alloc::{AllocError, AllocFailed};
 
 /// Why bytes weren't read as a report.
-#[derive(Clone, Copy, Debug, PartialEq, Eq)]
+#[derive(Clone, Copy, PartialEq, Eq)]
 pub enum ReportFault {
     /// The bytes are no report. The place is that of the first byte at which no report goes on as the bytes do, or
     /// their length where they end too early.

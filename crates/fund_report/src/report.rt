@@ -5,7 +5,7 @@ use fund_base::OutPoint;
 use std::marker::Model;
 
 /// A coin that a payment spends.
-#[derive(Clone, Copy, Debug, PartialEq, Eq)]
+#[derive(Clone, Copy, PartialEq, Eq)]
 pub struct InLine {
     /// The output that is spent.
     pub coin: OutPoint,
@@ -14,7 +14,7 @@ pub struct InLine {
 }
 
 /// A payment that was found.
-#[derive(Debug, Drop)]
+#[derive(Drop)]
 pub struct FundedReport {
     /// What its coins promise.
     pub mark: Mark,
@@ -49,7 +49,7 @@ impl Model for FundedReport {
 }
 
 /// What a run came to.
-#[derive(Debug, Drop)]
+#[derive(Drop)]
 pub enum Report {
     /// A payment.
     Funded(FundedReport),

@@ -4,7 +4,7 @@ use fund_base::Candidate;
 use std::marker::Model;
 
 /// What a payment that replaces another is given (BIP 125, 'Implementation Details', rules 3 and 4).
-#[derive(Debug, Drop)]
+#[derive(Drop)]
 pub struct BumpInput {
     /// The coins that the replaced payment spends, each outpoint once, in any order. Each payment spends all of them.
     pub presets: Vec<Candidate>,

@@ -5,7 +5,7 @@ ghost use Rattle.std.specs.Prelude.{◌≡◌};
 use fund_base::{Memory, OutPoint};
 
 /// Why no plan is made for a request.
-#[derive(Clone, Copy, Debug, PartialEq, Eq)]
+#[derive(Clone, Copy, PartialEq, Eq)]
 pub enum PlanFault {
     /// The candidates and the coins of a replaced payment are together worth this much, in satoshi, which is more than
     /// 21,000,000 bitcoin.

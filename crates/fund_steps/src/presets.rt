@@ -8,7 +8,7 @@ use fee_rates::{Load, MAX_WEIGHT, Rates, Terms};
 use fund_base::MAX_MONEY;
 
 /// Whether given coins pay, and how.
-#[derive(Clone, Copy, Debug, PartialEq, Eq)]
+#[derive(Clone, Copy, PartialEq, Eq)]
 pub enum Presets {
     /// They don't pay.
     Short,

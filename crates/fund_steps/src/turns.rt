@@ -12,7 +12,7 @@ use fee_rates::{Load, Terms};
 use request_text::{Method, Request};
 
 /// A stage of a row, and whether it is the last one of its column.
-#[derive(Clone, Copy, Debug, PartialEq, Eq)]
+#[derive(Clone, Copy, PartialEq, Eq)]
 pub struct Turn {
     /// The stage.
     pub stage: Stage,

@@ -8,7 +8,7 @@ use std::alloc::{AllocError, AllocFailed, Global};
 use std::marker::Model;
 
 /// The name of a member of an object, or the name under which a whole file is reported.
-#[derive(Debug, Drop)]
+#[derive(Drop)]
 pub struct Name {
     text: String,
 }
@@ -46,7 +46,7 @@ impl Name {
 }
 
 /// What is wrong with a JSON file, in the order in which it is tested.
-#[derive(Debug, Drop)]
+#[derive(Drop)]
 pub enum FieldFault {
     /// `serde_json` doesn't take the bytes.
     NotJson,

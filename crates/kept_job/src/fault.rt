@@ -14,7 +14,7 @@ use std::alloc::{AllocError, AllocFailed};
 
 /// Why a kept job isn't gone on with. Of several reasons the first in this order is told; that the keeper failed is told
 /// where it did.
-#[derive(Clone, Copy, Debug, PartialEq, Eq)]
+#[derive(Clone, Copy, PartialEq, Eq)]
 pub enum KeptFault {
     /// There is no job of this name.
     NoJob,

@@ -15,7 +15,7 @@ use search_keep::write_saved;
 use std::alloc::Global;
 
 /// What is kept of a log already: its first bytes, in so many parts. None is kept of a plan that is saved for the first time.
-#[derive(Clone, Copy, Debug)]
+#[derive(Clone, Copy)]
 pub struct Behind {
     /// How many parts are kept.
     pub parts: u32,

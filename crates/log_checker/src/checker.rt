@@ -20,7 +20,7 @@ use std::marker::Model;
 /// Reads a closing log in pieces, and says whether it proves that its answer is the best selection of its problem, or,
 /// made without an answer, that no selection is admissible. Contracts see the problem, the answer, where the reading of
 /// the tree stands, how many letters were fed, and the fault that was found.
-#[derive(Debug, Drop)]
+#[derive(Drop)]
 pub struct Checker {
     claim: Claim,
     reading: Reading,

@@ -57,7 +57,6 @@ fn has_plain_costs(problem: &Problem) -> bool
 }
 
 /// A problem, and the answer that is claimed to be its best; without one, that no selection is admissible.
-#[derive(Debug)]
 pub struct Claim {
     problem: Problem,
     // its items once more: each letter looks at one

@@ -8,7 +8,7 @@ use std::alloc::{AllocError, AllocFailed};
 
 /// Why a log doesn't prove its answer. Places count the letters from 0, from the checker's start; a place that doesn't
 /// fit is the greatest `u64`. Of two faults at one letter the one that stands first here is named.
-#[derive(Clone, Copy, Debug, PartialEq, Eq)]
+#[derive(Clone, Copy, PartialEq, Eq)]
 pub enum LogFault {
     /// The byte at this place is no letter of a log.
     UnknownToken(u64),

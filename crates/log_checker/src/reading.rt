@@ -10,7 +10,7 @@ use fund_base::Memory;
 use std::alloc::Global;
 
 /// The chosen places with their sums, the next place, whether the tree is closed, and whether the answer was met.
-#[derive(Debug, Drop)]
+#[derive(Drop)]
 pub struct Reading {
     /// The chosen places, rising.
     pub places: Vec<u32>,

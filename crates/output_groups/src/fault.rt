@@ -7,7 +7,7 @@ use fund_base::Memory;
 use std::alloc::{AllocError, AllocFailed};
 
 /// Why there is no pool of a row.
-#[derive(Clone, Copy, Debug, PartialEq, Eq)]
+#[derive(Clone, Copy, PartialEq, Eq)]
 pub enum PoolFault {
     /// The row keeps this many groups, which are more than 10,000.
     TooMany(u64),

@@ -6,7 +6,7 @@ use fund_base::Candidate;
 use std::marker::Model;
 
 /// Coins that are used together or not at all. It is seen as the list of its coins.
-#[derive(Debug, Drop)]
+#[derive(Drop)]
 pub struct Group {
     items: Vec<Candidate>,
 }

@@ -50,7 +50,7 @@ impl<'a> Model for Groups<'a> {
 }
 
 /// What a search sees of a row's pool: beside the item of each group how many coins it has.
-#[derive(Debug, Drop)]
+#[derive(Drop)]
 pub struct RowItems {
     /// The item of each group, in the order of the pool.
     pub items: Vec<Item>,

@@ -18,7 +18,7 @@ use std::alloc::Global;
 use std::marker::Model;
 
 /// The groups of a row's pool, in order, and beside each, at the same place, the item that a search sees of it.
-#[derive(Debug, Drop)]
+#[derive(Drop)]
 pub struct RowPool {
     /// The item of each group.
     pub items: Vec<Item>,

@@ -8,7 +8,7 @@ use fund_base::Candidate;
 /// Which groups of coins may be used. The rows are tried one after another, each laxer than those before it. They and
 /// their numbers are this project's own, in the manner of Bitcoin Core's eligibility filters
 /// (`CoinEligibilityFilter`).
-#[derive(Clone, Copy, Debug, PartialEq, Eq)]
+#[derive(Clone, Copy, PartialEq, Eq)]
 pub struct Row {
     /// Its number, from 1.
     pub number: u8,

@@ -22,7 +22,7 @@ use request_making::{Payment, Settings, request_text};
 use std::alloc::Global;
 
 /// The names of files.
-#[derive(Debug, Drop)]
+#[derive(Drop)]
 pub struct Names {
     /// The wallet file.
     pub wallet: String,
@@ -35,7 +35,7 @@ pub struct Names {
 }
 
 /// What the words of `pay` ask for.
-#[derive(Debug, Drop)]
+#[derive(Drop)]
 pub struct Asked {
     /// The files that are read and written.
     pub names: Names,

@@ -11,7 +11,7 @@ use std::alloc::{AllocError, AllocFailed};
 /// Why the words of `pay` ask for no payment. A place counts the words behind `pay` from 0. The first three are told in
 /// the order of the words. Then come the others: of the name of each file, wallet, blocks, PSBT and log; of names that are
 /// alike; of the recipients in order, the fee rate, the later rate, the method, the tries, the seed, and the greatest fee.
-#[derive(Clone, Copy, Debug)]
+#[derive(Clone, Copy)]
 pub enum WordFault {
     /// The word at this place is no flag.
     Unknown(usize),

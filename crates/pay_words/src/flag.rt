@@ -4,7 +4,7 @@ ghost use Rattle.std.specs.Prelude.{◌≡◌, bytes_eq, find};
 ghost use Rattle.pay_words.specs.Flags.{flag_of, flag_word, is_same, may_repeat, takes_value};
 
 /// A flag. All but the last seven take a value: the word behind them.
-#[derive(Clone, Copy, Debug)]
+#[derive(Clone, Copy)]
 pub enum Flag {
     /// The name of the wallet file.
     Wallet,

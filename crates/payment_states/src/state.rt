@@ -5,7 +5,7 @@ use fund_base::Txid;
 /// What has become of a transaction of the pending list, from the whole chain and the whole list. The first that
 /// applies holds. Ancestors are the transactions of the pending list that are reached through inputs and aren't
 /// confirmed; no way to them passes a confirmed one.
-#[derive(Clone, Copy, Debug, PartialEq, Eq)]
+#[derive(Clone, Copy, PartialEq, Eq)]
 pub enum State {
     /// A transaction of its txid is confirmed; the first in chain order stands at this height.
     Confirmed(u32),
@@ -23,7 +23,7 @@ pub enum State {
 }
 
 /// A transaction of the pending list and its state.
-#[derive(Clone, Copy, Debug, PartialEq, Eq)]
+#[derive(Clone, Copy, PartialEq, Eq)]
 pub struct Payment {
     /// The txid of the transaction.
     pub txid: Txid,

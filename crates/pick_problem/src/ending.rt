@@ -4,7 +4,7 @@ ghost use Rattle.std.specs.Prelude.{◌≡◌, ◌+ℤ◌, ◌≤ℤ◌, pos, ne
 ghost use Rattle.pick_problem.specs.Waste.{IsEnding, ending_of};
 
 /// How a payment ends.
-#[derive(Clone, Copy, Debug, PartialEq, Eq)]
+#[derive(Clone, Copy, PartialEq, Eq)]
 pub enum Ending {
     /// Without change: what it brings above what it needs, in satoshi, goes to the fee.
     Excess(u128),

@@ -5,7 +5,7 @@ ghost use Rattle.std.specs.List.{AllAdjacentBelow};
 ghost use Rattle.pick_problem.specs.Pool.{AreItems, IsInOrder, IsItem};
 
 /// What may be chosen: a group of coins, seen as numbers alone.
-#[derive(Clone, Copy, Debug, PartialEq, Eq)]
+#[derive(Clone, Copy, PartialEq, Eq)]
 pub struct Item {
     /// What it brings when it is spent, in satoshi.
     pub value: u64,
@@ -16,7 +16,7 @@ pub struct Item {
 }
 
 /// Which selections a search looks for.
-#[derive(Clone, Copy, Debug, PartialEq, Eq)]
+#[derive(Clone, Copy, PartialEq, Eq)]
 pub enum Kind {
     /// Those that need no change, with the least waste.
     Changeless,

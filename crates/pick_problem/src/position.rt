@@ -7,7 +7,7 @@ use fund_base::{Memory, Places};
 use std::alloc::{AllocError, AllocFailed};
 
 /// Where a search stands after some tries.
-#[derive(Debug, Drop)]
+#[derive(Drop)]
 pub struct Position {
     /// The chosen places, rising.
     pub chosen: Places,
@@ -22,7 +22,7 @@ pub struct Position {
 }
 
 /// How far a search has come.
-#[derive(Clone, Copy, Debug, PartialEq, Eq)]
+#[derive(Clone, Copy, PartialEq, Eq)]
 pub enum Progress {
     /// There are tries left to make.
     Open,
@@ -31,7 +31,7 @@ pub enum Progress {
 }
 
 /// Why a search can't go on from a position.
-#[derive(Clone, Copy, Debug, PartialEq, Eq)]
+#[derive(Clone, Copy, PartialEq, Eq)]
 pub enum RestoreFault {
     /// No search of the problem with these tokens may stand at such a position.
     IllFormed,

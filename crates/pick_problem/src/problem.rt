@@ -10,7 +10,7 @@ use std::marker::Model;
 use std::rc::Rc;
 
 /// A pool of items, and what a selection of its places is to reach. Problems may share their items.
-#[derive(Debug, Drop)]
+#[derive(Drop)]
 pub struct Problem {
     items: Rc<Vec<Item>>,
     lo: u64,

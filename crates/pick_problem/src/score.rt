@@ -6,7 +6,7 @@ ghost use Rattle.pick_problem.specs.Score.{IsBelow, IsSame};
 /// How good an admissible selection is: the lower the better. Scores are compared by the first number, then by the
 /// second. Without change it is the waste in satoshi, and 0; else the weight in weight units, then the value in
 /// satoshi.
-#[derive(Clone, Copy, Debug, PartialEq, Eq, PartialOrd, Ord)]
+#[derive(Clone, Copy, PartialEq, Eq, PartialOrd, Ord)]
 pub struct Score {
     /// The waste or the weight.
     pub first: i128,

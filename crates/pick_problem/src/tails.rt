@@ -13,7 +13,7 @@ use std::alloc::Global;
 use std::marker::Model;
 
 /// What a pool has from a place on.
-#[derive(Clone, Copy, Debug, PartialEq, Eq)]
+#[derive(Clone, Copy, PartialEq, Eq)]
 pub struct Tail {
     /// The values of the place and of all later ones, in satoshi.
     pub value: u128,
@@ -81,7 +81,7 @@ fn run_end(problem: &Problem, t: u32, end: u32) -> u32
 
 /// What a pool has from each of its places on. It is made once, from the last place to the first, and then answers
 /// without a loop.
-#[derive(Debug, Drop)]
+#[derive(Drop)]
 pub struct Tails {
     rows: Vec<Tail>,
 }

@@ -4,7 +4,7 @@ ghost use Rattle.std.specs.Prelude.{◌≡◌, IfSome};
 ghost use Rattle.pick_problem.specs.Tokens.{letter_of, token_of};
 
 /// Why a branch of a closing tree is closed.
-#[derive(Clone, Copy, Debug, PartialEq, Eq)]
+#[derive(Clone, Copy, PartialEq, Eq)]
 pub enum Reason {
     /// S: with all that is left it doesn't reach `lo`.
     Short,
@@ -25,7 +25,7 @@ pub enum Reason {
 }
 
 /// One letter of a closing log.
-#[derive(Clone, Copy, Debug, PartialEq, Eq)]
+#[derive(Clone, Copy, PartialEq, Eq)]
 pub enum Token {
     /// I: the selections with the next place, and after them those without it.
     Enter,

@@ -10,7 +10,7 @@ use tx_codec::TxFault;
 
 /// What is wrong with the bytes of a PSBT: the first fault in reading order. A place counts from the
 /// PSBT's first byte.
-#[derive(Clone, Copy, Debug, PartialEq, Eq)]
+#[derive(Clone, Copy, PartialEq, Eq)]
 pub enum PsbtFault {
     /// The bytes don't begin with the five of every PSBT.
     Magic,

@@ -8,7 +8,7 @@ use tx_codec::{Tx, TxOut};
 /// It is a PSBT of version 0 where the transaction has a text, its inputs have empty scripts and no witnesses,
 /// `spent` has an entry for each input, and each `whole` has a text, the txid that its input spends and an
 /// output of the index that its input spends.
-#[derive(Debug, Drop)]
+#[derive(Drop)]
 pub struct Psbt {
     /// The unsigned transaction.
     pub tx: Tx,
@@ -17,7 +17,7 @@ pub struct Psbt {
 }
 
 /// What is known of the output that an input spends.
-#[derive(Debug, Drop)]
+#[derive(Drop)]
 pub struct Spent {
     /// The whole transaction that has the output.
     pub whole: Option<Tx>,

@@ -9,7 +9,7 @@ use psbt_codec::PsbtFault;
 
 /// The first rule that a report breaks, in the order in which they stand here; but that the tries are tested after
 /// `Log` and before `Answer`.
-#[derive(Clone, Copy, Debug, PartialEq, Eq)]
+#[derive(Clone, Copy, PartialEq, Eq)]
 pub enum CheckFault {
     /// The report isn't in its grammar, from this place on; or its tries aren't those of the log, and this is where
     /// their line begins.

@@ -1,7 +1,7 @@
 //! Why a text is no amount and no rate.
 
 /// Why a text is no amount or no rate. A place counts the bytes of the text from 0.
-#[derive(Clone, Copy, Debug, PartialEq, Eq)]
+#[derive(Clone, Copy, PartialEq, Eq)]
 pub enum SpellingFault {
     /// A digit has to stand at this place: at the beginning, or right behind the point.
     Digit(usize),

@@ -3,7 +3,7 @@
 use fund_base::Script;
 
 /// To whom is paid.
-#[derive(Debug, Drop)]
+#[derive(Drop)]
 pub enum Payee {
     /// An address, as it was given; it is judged where the request is read.
     Address(String),
@@ -12,7 +12,7 @@ pub enum Payee {
 }
 
 /// One payment: an output that is asked for.
-#[derive(Debug, Drop)]
+#[derive(Drop)]
 pub struct Payment {
     /// To whom.
     pub to: Payee,

@@ -6,7 +6,7 @@ ghost use Rattle.request_making.specs.Asked.{plain_settings};
 use request_text::Method;
 
 /// The settings of a request, each as a request file has it. Rates are in satoshi per 1,000 virtual bytes.
-#[derive(Clone, Copy, Debug)]
+#[derive(Clone, Copy)]
 pub struct Settings {
     /// The fee rate.
     pub rate: u64,

@@ -12,7 +12,7 @@ use std::alloc::{AllocError, AllocFailed};
 
 /// Why a request file is refused: the first of its faults, as docs/FORMATS.md orders them. An index counts the entries
 /// of a list from 0; one above 4,294,967,295 counts as that number.
-#[derive(Debug, Drop)]
+#[derive(Drop)]
 pub enum RequestFault {
     /// `serde_json` doesn't take the bytes.
     NotJson,

@@ -7,7 +7,7 @@ use std::alloc::Global;
 use std::marker::Model;
 
 /// How coins are chosen.
-#[derive(Clone, Copy, Debug, PartialEq, Eq)]
+#[derive(Clone, Copy, PartialEq, Eq)]
 pub enum Method {
     /// The searches for a payment without change, then for a light one, with a draw beside them.
     Auto,
@@ -22,7 +22,7 @@ pub enum Method {
 }
 
 /// An output that is asked for.
-#[derive(Debug, Drop)]
+#[derive(Drop)]
 pub struct Recipient {
     /// What is paid to, 1 to 10,000 bytes.
     pub script: Script,
@@ -45,7 +45,7 @@ impl Recipient {
 
 /// What a request file asks for. Each request keeps the rules of the file (`IsRequest`), which
 /// [`Request::keeps_rules`] states.
-#[derive(Debug, Drop)]
+#[derive(Drop)]
 pub struct Request {
     /// The outputs that are asked for, in order: at least one, together at most 21,000,000 bitcoin.
     pub recipients: Vec<Recipient>,

@@ -9,7 +9,7 @@ use pick_problem::RestoreFault;
 use std::alloc::{AllocError, AllocFailed};
 
 /// Why a saved text wasn't read, or why its search can't go on. Of several reasons the first in this order is told.
-#[derive(Clone, Copy, Debug, PartialEq, Eq)]
+#[derive(Clone, Copy, PartialEq, Eq)]
 pub enum SavedFault {
     /// The bytes are no saved text. The place is that of the first byte at which no text goes on as the bytes do, or
     /// their length where they end too early.

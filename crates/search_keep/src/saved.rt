@@ -5,7 +5,7 @@ use fund_base::Places;
 use std::marker::Model;
 
 /// Where a job stands: at a search that goes on.
-#[derive(Debug, Drop)]
+#[derive(Drop)]
 pub struct Saved {
     /// The digest of the job.
     pub job: [u8; 32],

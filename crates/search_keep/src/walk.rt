@@ -18,7 +18,7 @@ use pick_problem::{Kind, Position, Problem, Progress, RestoreFault};
 use std::alloc::Global;
 
 /// The search of a problem: without change by branch and bound, else for the lightest selection.
-#[derive(Debug, Drop)]
+#[derive(Drop)]
 pub enum Walk {
     Bnb(Bnb),
     Grinder(Grinder),

@@ -3,7 +3,7 @@
 use crate::found::Found;
 
 /// What a run comes to, as far as its tries led.
-#[derive(Debug, Drop)]
+#[derive(Drop)]
 pub enum End {
     /// It came to its end: the result that was taken, or `None` where no step has one.
     Ended(Option<Found>),

@@ -9,7 +9,7 @@ use log_checker::LogFault;
 use std::alloc::{AllocError, AllocFailed};
 
 /// Why a run can't go on from a saved position and a log. Of several reasons the first in this order is told.
-#[derive(Clone, Copy, Debug, PartialEq, Eq)]
+#[derive(Clone, Copy, PartialEq, Eq)]
 pub enum RestoreRefused {
     /// The section at this index isn't that of the search to which the run comes there: its row, its stage or its
     /// digest is another. An open section comes after the closed ones; it is also wrong where there is none, and
@@ -48,7 +48,7 @@ impl<T: Drop> From<AllocFailed<T>> for RestoreRefused {
 }
 
 /// Why the log of a run isn't accepted.
-#[derive(Clone, Copy, Debug, PartialEq, Eq)]
+#[derive(Clone, Copy, PartialEq, Eq)]
 pub enum VerifyFault {
     /// The section at this index, the first one that is refused, with its first fault.
     Log(u64, LogFault),

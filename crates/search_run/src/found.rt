@@ -13,7 +13,7 @@ use std::alloc::Global;
 use std::marker::Model;
 
 /// A result of a step: an admissible selection.
-#[derive(Debug, Drop)]
+#[derive(Drop)]
 pub struct Found {
     /// The row of the ladder.
     pub row: u8,

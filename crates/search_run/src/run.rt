@@ -32,7 +32,6 @@ const MOST_RESERVED: u64 = 65_536;
 /// A run over steps: it makes their searches and draws one after another, within the tries that it is given. Contracts
 /// see its seed, its steps, and where it stands. After [`Memory`] a run may stand at a step whose walk is done, or
 /// not begun; the next `go`, of no tries too, passes it.
-#[derive(Debug)]
 pub struct SearchRun {
     alloc: Global,
     seed: [u8; 32],

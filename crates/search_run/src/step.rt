@@ -11,7 +11,7 @@ use std::rc::Rc;
 /// A search or a draw of a problem, in a row of the ladder and a stage. Runs make one step after another. Steps up to
 /// a last one are a column: their results are compared with each other. Steps may share their sizes, and the items of
 /// their problems.
-#[derive(Debug, Drop)]
+#[derive(Drop)]
 pub struct Step {
     row: u8,
     stage: Stage,

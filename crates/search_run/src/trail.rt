@@ -11,7 +11,6 @@ use fund_base::Memory;
 use std::marker::Model;
 
 /// The results of the column that a run is in, the finished searches, and the tries made.
-#[derive(Debug)]
 pub(crate) struct Trail {
     pub(crate) found: Vec<Found>,
     pub(crate) closed: Vec<Section>,

@@ -7,7 +7,7 @@ use std::alloc::{AllocError, AllocFailed};
 
 /// Why a text is no address: the first of these that holds, tested as Length of the text, Case, Separator, Letter,
 /// Checksum, Network, Version, Padding, and Length of the program.
-#[derive(Clone, Copy, Debug, PartialEq, Eq)]
+#[derive(Clone, Copy, PartialEq, Eq)]
 pub enum AddrFault {
     /// It has both an upper case and a lower case letter of ASCII.
     Case,

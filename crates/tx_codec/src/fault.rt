@@ -8,7 +8,7 @@ use fund_base::CutFault;
 use std::alloc::{AllocError, AllocFailed};
 
 /// What is wrong with a transaction's text: the first fault in reading order.
-#[derive(Clone, Copy, Debug, PartialEq, Eq)]
+#[derive(Clone, Copy, PartialEq, Eq)]
 pub enum TxFault {
     /// The bytes end within the field that begins at this place.
     Truncated(u64),

@@ -325,6 +325,8 @@ fn legacy_tx_of(alloc: Global, cursor: &mut Cursor) -> Result<Tx, TxFault>
 
 fn whole_legacy_of(alloc: Global, bytes: &[u8]) -> Result<Tx, TxFault>
     ensures exact { YieldsAll Memory (λ t. t) result (whole_of Trailing (legacy_tx_at (record { rest = bytes.now; place = 0 }))) }
+    ensures short { result ≡ Err Memory → IsOk (number_at w32 (record { rest = bytes.now; place = 0 })) }
+    ensures some { result ≡ Err Memory → IsOkAnd (number_at w32 (record { rest = bytes.now; place = 0 })) (λ version. IsOkAnd (compact_at version.1) (λ count. count.0 ≢ 0)) }
     ensures bytes { IsBytes bytes.now }
 {
     let mut cursor = Cursor::new(bytes);
@@ -344,6 +346,10 @@ pub fn read_whole_legacy_tx(alloc: Global, bytes: &[u8]) -> Result<Tx, TxFault>
     ensures exact { YieldsAll Memory (λ t. t) result (whole_of Trailing (legacy_tx_at (record { rest = bytes.now; place = 0 }))) }
     ensures trailing { (place : ℕ) → result ≡ Err (Trailing place) → IsFollowed IsLegacy bytes.now place }
     ensures followed { (place : ℕ) → IsFollowed IsLegacy bytes.now place → MatchResult result (λ _. ⊥) (λ e. e ≢ Memory → e ≡ Trailing place) }
+
+    // Memory is taken behind the version and the number of inputs, which isn't 0.
+    ensures short { result ≡ Err Memory → IsOk (number_at w32 (record { rest = bytes.now; place = 0 })) }
+    ensures some { result ≡ Err Memory → IsOkAnd (number_at w32 (record { rest = bytes.now; place = 0 })) (λ version. IsOkAnd (compact_at version.1) (λ count. count.0 ≢ 0)) }
 {
     whole_legacy_of(alloc, bytes)
 }

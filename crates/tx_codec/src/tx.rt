@@ -8,7 +8,7 @@ use std::alloc::Global;
 use std::marker::Model;
 
 /// The witness of an input: a stack of byte strings, the first at the bottom (BIP 141).
-#[derive(Debug, Drop)]
+#[derive(Drop)]
 pub struct Witness {
     items: Vec<Vec<u8>>,
 }
@@ -50,7 +50,7 @@ impl Witness {
 }
 
 /// An input of a transaction.
-#[derive(Debug, Drop)]
+#[derive(Drop)]
 pub struct TxIn {
     /// The output that it spends.
     pub prev: OutPoint,
@@ -79,7 +79,7 @@ impl TxIn {
 }
 
 /// An output of a transaction.
-#[derive(Debug, Drop)]
+#[derive(Drop)]
 pub struct TxOut {
     /// What it pays, in satoshi.
     pub value: Sat,
@@ -101,7 +101,7 @@ impl TxOut {
 }
 
 /// A transaction.
-#[derive(Debug, Drop)]
+#[derive(Drop)]
 pub struct Tx {
     /// The version (BIP 68 gives a meaning to sequences from version 2 on).
     pub version: u32,

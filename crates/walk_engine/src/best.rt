@@ -18,7 +18,7 @@ use std::alloc::Global;
 
 /// The waste of a selection without change, in satoshi; its weight, in weight units; and what its value is above the
 /// least value that is looked for, in satoshi.
-#[derive(Clone, Copy, Debug)]
+#[derive(Clone, Copy)]
 pub(crate) struct Sums {
     pub(crate) waste: i128,
     pub(crate) weight: u64,
@@ -26,7 +26,7 @@ pub(crate) struct Sums {
 }
 
 /// The best selection so far, if one was found, with its sums.
-#[derive(Debug, Drop)]
+#[derive(Drop)]
 pub(crate) struct Best {
     pub(crate) found: bool,
     pub(crate) places: Vec<u32>,

@@ -14,7 +14,7 @@ use std::alloc::Global;
 use std::marker::Model;
 
 /// A problem, its tails, and whether no cost of its pool is negative. Contracts see the problem alone.
-#[derive(Debug, Drop)]
+#[derive(Drop)]
 pub(crate) struct Prepared {
     problem: Problem,
     tails: Tails,

@@ -23,7 +23,6 @@ const MOST_TRIES: u64 = 3_074_457_345_618_258_602;
 
 /// A walk of a problem, try by try, with the letters that it writes. Tries are made in room that was reserved before:
 /// none of them takes memory.
-#[derive(Debug)]
 pub struct Search {
     pub(crate) prepared: Prepared,
     pub(crate) stack: Stack,

@@ -11,7 +11,7 @@ use std::alloc::Global;
 
 /// The chosen places, rising, with what their value lacks of the least value that is looked for, and with their weight
 /// and cost.
-#[derive(Debug, Drop)]
+#[derive(Drop)]
 pub(crate) struct Stack {
     pub(crate) places: Vec<u32>,
     pub(crate) gap: u64,

@@ -12,7 +12,7 @@ use tx_codec::TxFault;
 
 /// What is wrong with a wallet file: the first in the order in which it is tested. An index above 4,294,967,295 counts
 /// as that number.
-#[derive(Debug, Drop)]
+#[derive(Drop)]
 pub enum WalletFault {
     /// `serde_json` doesn't take the bytes.
     NotJson,

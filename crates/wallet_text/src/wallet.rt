@@ -10,7 +10,7 @@ use std::rc::Rc;
 use tx_codec::{Tx, txid};
 
 /// A script that the wallet owns.
-#[derive(Debug, Drop)]
+#[derive(Drop)]
 pub struct Watch {
     /// 1 to 10,000 bytes.
     pub script: Script,
@@ -19,7 +19,7 @@ pub struct Watch {
 }
 
 /// A transaction that the chain holds before the block file begins. It keeps its txid, which is computed once.
-#[derive(Debug, Drop)]
+#[derive(Drop)]
 pub struct Earlier {
     /// The transaction, for others to share.
     pub tx: Rc<Tx>,
@@ -59,7 +59,7 @@ impl Earlier {
 }
 
 /// A wallet that only watches, at a height of the chain. Every wallet keeps the rules that stand with its fields.
-#[derive(Debug, Drop)]
+#[derive(Drop)]
 pub struct Wallet {
     /// The chain's height before the block file, at most 100,000,000.
     pub height: u32,
