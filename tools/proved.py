@@ -256,6 +256,29 @@ class Definition:
     def __init__(self, crate, file, name, text, imports):
         self.crate, self.file, self.name, self.text, self.imports = crate, file, name, text, imports
         self.key = (crate, file, name)
+        self.head, self.fields, self.doc = "", [], ""
+
+
+def read_record(one, text):
+    """Gives the definition of a record its fields as clauses, where each of them has a sentence of its own over it."""
+    head, *lines = text.split("\n")
+    if not head.rstrip().endswith("where"):
+        return
+    one.head = " ".join([one.name] + [name for group in re.findall(r"\(([^:()]+) :", head) for name in group.split()])
+    fields, sentences = [], []
+    for line in lines:
+        if line and not line.startswith("  "):
+            break
+        if line.startswith("  -- "):
+            sentences.append(line[5:])
+        elif line.startswith("  pub "):
+            name, inner = line[6:].split(" : ", 1)
+            fields.append(Clause("", name, inner, (False, sentences)))
+            sentences = []
+        elif line.strip() and fields:
+            fields[-1].text += " " + line.strip()
+    if fields and all(field.heads[1] for field in fields):
+        one.fields = fields
 
 
 DEFINITION = re.compile(r"^(?:abbrev |unfoldable )*pub (?:record |data )?([^\s:({]+)", re.M)
@@ -267,7 +290,8 @@ def definitions_of(crate):
     folder = TOP / "crates" / crate / "specs"
     for path in sorted(folder.rglob("*.antt")) if folder.is_dir() else []:
         file = ".".join(path.relative_to(folder).with_suffix("").parts)
-        lines = [line for line in path.read_text().splitlines() if not line.lstrip().startswith("--")]
+        whole = path.read_text()
+        lines = [line for line in whole.splitlines() if not line.lstrip().startswith("--")]
         imports = {}
         for line in lines:
             if line.startswith("use "):
@@ -276,6 +300,10 @@ def definitions_of(crate):
         places = [(m.start(), m.group(1)) for m in DEFINITION.finditer(text)]
         for (start, name), (stop, _) in zip(places, places[1:] + [(len(text), "")]):
             found[(crate, file, name)] = Definition(crate, file, name, text[start:stop], imports)
+        for match in re.finditer(r"((?:^-- .*\n)*)^pub record ([^\s:({]+)", whole, re.M):
+            one = found[(crate, file, match.group(2))]
+            one.doc = " ".join(line[3:] for line in match.group(1).splitlines())
+            read_record(one, whole[match.start(2) :])
     return found
 
 
@@ -288,6 +316,23 @@ def named_in(text, crate, file, imports, known):
         if key in known and key not in keys:
             keys.append(key)
     return keys
+
+
+def told_by(clause, imports, known):
+    """The record that a clause is, if that has fields with sentences."""
+    word = NAME.match(clause.text)
+    keys = named_in(word.group(), "", "", imports, known) if word else []
+    return known[keys[0]] if keys and known[keys[0]].fields else None
+
+
+def names_of(entry, known):
+    """The clauses of an entry and the fields of the records that they are, each with the definitions that it names."""
+    imports = entry.call.imports if entry.call else {}
+    for clause in entry.clauses:
+        yield clause, named_in(clause.text, "", "", imports, known)
+        one = told_by(clause, imports, known)
+        for field in one.fields if one else []:
+            yield field, named_in(field.text, one.crate, one.file, one.imports, known)
 
 
 # ---- a crate as its caller sees it
@@ -453,9 +498,8 @@ def reach(crates):
     direct = OrderedDict()
     for crate in crates:
         for entry in crate.calls + crate.laws:
-            imports = entry.call.imports if entry.call else {}
-            for clause in entry.clauses:
-                for key in named_in(clause.text, "", "", imports, known):
+            for clause, keys in names_of(entry, known):
+                for key in keys:
                     place = f"{crate.name} `{entry.title}`" + (f": `{clause.name}`" if clause.name else "")
                     direct.setdefault(key, []).append(place)
     through = {key: None for key in direct}
@@ -532,8 +576,19 @@ def entry_lines(entry, known):
     if entry.clauses:
         head = [] if entry.call is None or entry.call.is_law else signature_lines(entry.call.signature) + [""]
         lines += ["```text"] + head + clause_lines(entry.clauses) + ["```", ""]
+        lines += record_lines(entry, known)
     else:
         lines += ["No clause.", ""]
+    return lines
+
+
+def record_lines(entry, known):
+    """The fields of the records that clauses of the entry are."""
+    lines = []
+    for clause in entry.clauses:
+        one = told_by(clause, entry.call.imports if entry.call else {}, known)
+        if one:
+            lines += textwrap.wrap(f"`{one.head}`: {one.doc}", WIDTH) + ["", "```text"] + clause_lines(one.fields) + ["```", ""]
     return lines
 
 
@@ -541,9 +596,8 @@ def homes(entries, known):
     """The definitions that the clauses name, by file."""
     files = OrderedDict()
     for entry in entries:
-        imports = entry.call.imports if entry.call else {}
-        for clause in entry.clauses:
-            for crate, file, name in named_in(clause.text, "", "", imports, known):
+        for _, keys in names_of(entry, known):
+            for crate, file, name in keys:
                 if f"`{name}`" not in files.setdefault((crate, file), []):
                     files[(crate, file)].append(f"`{name}`")
     return files

@@ -8,15 +8,15 @@ use Rattle.fund_outside.specs.Kept.{KeeperView}
 use Rattle.request_making.specs.Asked.{asked_of}
 use Rattle.request_making.specs.Written.{request_bytes}
 use Rattle.request_text.specs.RequestText.{request_of}
-use Rattle.command_end.specs.Lines.{GotLine, fault_line}
 use Rattle.command_end.specs.Names.{Sources}
-use Rattle.command_end.specs.Printed.{TellsWhole, TookAll}
 use Rattle.command_end.specs.declared.status.Status.{Status}
 use Rattle.command_end.specs.declared.status.Status.TheVariants as statuses
 use Rattle.command_fund.specs.Names.{Payment}
-use Rattle.command_fund.specs.Statuses.{EndsFunded, IsBeforeTheLog}
+use Rattle.command_fund.specs.Statuses.{EndsFunded}
 use Rattle.fund_top.specs.Asked.{AsksFor}
 use Rattle.fund_top.specs.Due.{ComesTo, IsRefusal, IsTold, Outcome}
+use Rattle.fund_top.specs.Outside.{Outside, outside}
+use Rattle.fund_top.specs.Run.{EndsByStatus, LeavesOthers, ReadsInOrder, RefusesFirst, TellsDue, TellsFailures, TellsUsage}
 use Rattle.fund_top.specs.Statuses.{Ends, EndsBroken, EndsInput, EndsLimited, EndsNotFunded, EndsNotKept, EndsUnfinished, EndsUnkept, EndsUnread, EndsUnwritten, EndsWithoutMemory, KeepsOthers, NoneFailed, NoneUnkept, NoneUnread, WhereFunding, status_of}
 use Rattle.fund_top.specs.Words.{Command, Fund, command_of, names_stand, payment, sources, where_stands}
 use Rattle.pay_words.specs.declared.asked.Asked.{Asked}
@@ -34,49 +34,34 @@ fund_words_are v w b r l s p verb wallet blocks request log =
     ap (λ (x : List ℕ). cond (bytes_eq x (codes "fund")) (put (sources w b) (payment r l)) None) verb ∙ ap (λ (x : Sources). put x (payment r l)) s_is ∙ ap (put s) p_is
 
 -- what `run` promises, by what its words are
-pub record Promises (told : Type 0) (o : Option Command) (shelf shelf' : ShelfView) (sink sink' : SinkView) (keeper keeper' : KeeperView) (result : Status) : Type 0 where
-  pub usage : (result ≡ statuses.Usage) ↔ (o ≡ None)
-  pub usage_line : result ≡ statuses.Usage → GotLine (fault_line (codes "usage")) sink sink'
-  pub done : result ≡ statuses.Done → WhereFunding o (λ s p. EndsFunded told (Unit {0}) s p shelf shelf' sink sink')
-  pub none : result ≡ statuses.NoSelection → IfSome o (λ c. EndsNotFunded told (Unit {0}) (Unit {0}) c shelf shelf' sink sink' keeper)
-  pub unfinished : result ≡ statuses.Unfinished → IfSome o (λ c. EndsUnfinished told (Unit {0}) (Unit {0}) c shelf shelf' sink sink' keeper keeper')
-  pub input : result ≡ statuses.Input → IfSome o (λ c. EndsInput told (Unit {0}) c shelf sink sink')
-  pub limit : result ≡ statuses.Limit → IfSome o (λ c. EndsLimited told (Unit {0}) (Unit {0}) c shelf shelf' sink sink' keeper)
-  pub saved : result ≡ statuses.Saved → IfSome o (λ c. EndsNotKept told (Unit {0}) (Unit {0}) c shelf sink sink' keeper)
-  pub check_refused : result ≡ statuses.CheckRefused → IfSome o (λ c. EndsBroken told (Unit {0}) c shelf sink sink')
-  pub read_fault : result ≡ statuses.ReadFault → IfSome o (λ c. EndsUnread told (Unit {0}) c shelf shelf' sink sink')
-  pub write_fault : result ≡ statuses.WriteFault → IfSome o (λ c. EndsUnwritten told (Unit {0}) (Unit {0}) c shelf shelf' sink sink' keeper keeper')
-  pub keep_fault : result ≡ statuses.KeepFault → IfSome o (λ c. EndsUnkept told (Unit {0}) c shelf sink sink' keeper keeper')
-  pub memory : result ≡ statuses.Memory → IfSome o (λ c. EndsWithoutMemory told (Unit {0}) (Unit {0}) c shelf shelf' sink sink' keeper keeper')
-  pub asked : told → IfSome o (λ c. AsksFor c shelf shelf')
-  pub refused : IfSome o (λ c. told → NoneUnread c shelf shelf' → (due : Outcome) → IsRefusal due → NoneUnkept (Unit {0}) due keeper keeper' → ComesTo shelf.files keeper.jobs c due → (result ≡ status_of due) ⊎ (result ≡ statuses.Memory))
-  pub complete : IfSome o (λ c. IsTold told (Unit {0}) c → NoneFailed c shelf shelf' sink sink' keeper keeper' → (due : Outcome) → ComesTo shelf.files keeper.jobs c due → (result ≡ status_of due) ⊎ (result ≡ statuses.Memory))
-  pub untouched : result ≡ statuses.Usage → shelf' ≡ shelf
-  pub others : told → IfSome o (λ c. KeepsOthers c shelf.files shelf'.files)
-  pub kept : told → IsBeforeTheLog result → shelf'.files ≡ shelf.files
-  pub all_read : result ≢ statuses.ReadFault → shelf'.reads ≡ shelf.reads
-  pub all_written : result ≢ statuses.WriteFault → shelf'.writes ≡ shelf.writes
-  pub all_put : TellsWhole result → TookAll sink sink'
+pub record Promises (v : Outside) (o : Option Command) (result : Status) : Type 0 where
+  pub usage : TellsUsage v o result
+  pub ends : EndsByStatus v o result
+  pub honest : TellsFailures v result
+  pub stays : LeavesOthers v o result
+  pub reads : ReadsInOrder v o result
+  pub refused : RefusesFirst v o result
+  pub complete : TellsDue v o result
 
 -- the promise of the command that the words are
 held : (P : Command → Type 0) (o : Option Command) (c : Command) → o ≡ Some c → IfSome o P → P c
 held P o c is h = subst (λ (x : Option Command). IfSome x P) is h
 
 -- by the status
-ends_by : (told : Type 0) (s : Sources) (p : Payment) (o : Option Command) (shelf shelf' : ShelfView) (sink sink' : SinkView) (keeper keeper' : KeeperView) (result : Status) → o ≡ Some (Fund s p None) → Promises told o shelf shelf' sink sink' keeper keeper' result
+ends_by : (told : Type 0) (s : Sources) (p : Payment) (o : Option Command) (shelf shelf' : ShelfView) (sink sink' : SinkView) (keeper keeper' : KeeperView) (result : Status) → o ≡ Some (Fund s p None) → Promises (outside told (Unit {0}) (Unit {0}) shelf shelf' sink sink' keeper keeper') o result
     → Ends told (Unit {0}) (Unit {0}) (Fund s p None) shelf shelf' sink sink' keeper keeper' result
-ends_by told s p o shelf shelf' sink sink' keeper keeper' statuses.Usage is h = absurd (let is_none = h.usage.0 refl in cc)
-ends_by told s p o shelf shelf' sink sink' keeper keeper' statuses.Done is h = subst (λ (x : Option Command). WhereFunding x (λ s p. EndsFunded told (Unit {0}) s p shelf shelf' sink sink')) is (h.done refl)
-ends_by told s p o shelf shelf' sink sink' keeper keeper' statuses.NoSelection is h = held (λ c. EndsNotFunded told (Unit {0}) (Unit {0}) c shelf shelf' sink sink' keeper) o (Fund s p None) is (h.none refl)
-ends_by told s p o shelf shelf' sink sink' keeper keeper' statuses.Unfinished is h = held (λ c. EndsUnfinished told (Unit {0}) (Unit {0}) c shelf shelf' sink sink' keeper keeper') o (Fund s p None) is (h.unfinished refl)
-ends_by told s p o shelf shelf' sink sink' keeper keeper' statuses.Input is h = held (λ c. EndsInput told (Unit {0}) c shelf sink sink') o (Fund s p None) is (h.input refl)
-ends_by told s p o shelf shelf' sink sink' keeper keeper' statuses.Limit is h = held (λ c. EndsLimited told (Unit {0}) (Unit {0}) c shelf shelf' sink sink' keeper) o (Fund s p None) is (h.limit refl)
-ends_by told s p o shelf shelf' sink sink' keeper keeper' statuses.Saved is h = held (λ c. EndsNotKept told (Unit {0}) (Unit {0}) c shelf sink sink' keeper) o (Fund s p None) is (h.saved refl)
-ends_by told s p o shelf shelf' sink sink' keeper keeper' statuses.CheckRefused is h = held (λ c. EndsBroken told (Unit {0}) c shelf sink sink') o (Fund s p None) is (h.check_refused refl)
-ends_by told s p o shelf shelf' sink sink' keeper keeper' statuses.ReadFault is h = held (λ c. EndsUnread told (Unit {0}) c shelf shelf' sink sink') o (Fund s p None) is (h.read_fault refl)
-ends_by told s p o shelf shelf' sink sink' keeper keeper' statuses.WriteFault is h = held (λ c. EndsUnwritten told (Unit {0}) (Unit {0}) c shelf shelf' sink sink' keeper keeper') o (Fund s p None) is (h.write_fault refl)
-ends_by told s p o shelf shelf' sink sink' keeper keeper' statuses.KeepFault is h = held (λ c. EndsUnkept told (Unit {0}) c shelf sink sink' keeper keeper') o (Fund s p None) is (h.keep_fault refl)
-ends_by told s p o shelf shelf' sink sink' keeper keeper' statuses.Memory is h = held (λ c. EndsWithoutMemory told (Unit {0}) (Unit {0}) c shelf shelf' sink sink' keeper keeper') o (Fund s p None) is (h.memory refl)
+ends_by told s p o shelf shelf' sink sink' keeper keeper' statuses.Usage is h = absurd (let is_none = h.usage.usage.0 refl in cc)
+ends_by told s p o shelf shelf' sink sink' keeper keeper' statuses.Done is h = subst (λ (x : Option Command). WhereFunding x (λ s p. EndsFunded told (Unit {0}) s p shelf shelf' sink sink')) is (h.ends.done refl)
+ends_by told s p o shelf shelf' sink sink' keeper keeper' statuses.NoSelection is h = held (λ c. EndsNotFunded told (Unit {0}) (Unit {0}) c shelf shelf' sink sink' keeper) o (Fund s p None) is (h.ends.none refl)
+ends_by told s p o shelf shelf' sink sink' keeper keeper' statuses.Unfinished is h = held (λ c. EndsUnfinished told (Unit {0}) (Unit {0}) c shelf shelf' sink sink' keeper keeper') o (Fund s p None) is (h.ends.unfinished refl)
+ends_by told s p o shelf shelf' sink sink' keeper keeper' statuses.Input is h = held (λ c. EndsInput told (Unit {0}) c shelf sink sink') o (Fund s p None) is (h.ends.input refl)
+ends_by told s p o shelf shelf' sink sink' keeper keeper' statuses.Limit is h = held (λ c. EndsLimited told (Unit {0}) (Unit {0}) c shelf shelf' sink sink' keeper) o (Fund s p None) is (h.ends.limit refl)
+ends_by told s p o shelf shelf' sink sink' keeper keeper' statuses.Saved is h = held (λ c. EndsNotKept told (Unit {0}) (Unit {0}) c shelf sink sink' keeper) o (Fund s p None) is (h.ends.saved refl)
+ends_by told s p o shelf shelf' sink sink' keeper keeper' statuses.CheckRefused is h = held (λ c. EndsBroken told (Unit {0}) c shelf sink sink') o (Fund s p None) is (h.ends.check_refused refl)
+ends_by told s p o shelf shelf' sink sink' keeper keeper' statuses.ReadFault is h = held (λ c. EndsUnread told (Unit {0}) c shelf shelf' sink sink') o (Fund s p None) is (h.ends.read_fault refl)
+ends_by told s p o shelf shelf' sink sink' keeper keeper' statuses.WriteFault is h = held (λ c. EndsUnwritten told (Unit {0}) (Unit {0}) c shelf shelf' sink sink' keeper keeper') o (Fund s p None) is (h.ends.write_fault refl)
+ends_by told s p o shelf shelf' sink sink' keeper keeper' statuses.KeepFault is h = held (λ c. EndsUnkept told (Unit {0}) c shelf sink sink' keeper keeper') o (Fund s p None) is (h.ends.keep_fault refl)
+ends_by told s p o shelf shelf' sink sink' keeper keeper' statuses.Memory is h = held (λ c. EndsWithoutMemory told (Unit {0}) (Unit {0}) c shelf shelf' sink sink' keeper keeper') o (Fund s p None) is (h.ends.memory refl)
 
 -- where the words aren't refused they are the command
 is_command : (b : Bool) (c : Command) (o : Option Command) (result : Status) → o ≡ where_stands b c → (o ≡ None → result ≡ statuses.Usage) → result ≢ statuses.Usage → o ≡ Some c
@@ -111,15 +96,15 @@ none_unwritten told a true o shelf shelf' sink sink' keeper keeper' result is no
 none_unwritten told a false o shelf shelf' sink sink' keeper keeper' result is none old new before after lost = λ e. absurd (let usage = none is in cc)
 
 -- The whole.
-pub is_run : (told : Type 0) (a : Asked) (files after : ShelfView) (request said log : List ℕ) (o : Option Command) (shelf shelf' : ShelfView) (sink sink' : SinkView) (keeper keeper' : KeeperView) (result : Status) → Promises told o shelf shelf' sink sink' keeper keeper' result
+pub is_run : (told : Type 0) (a : Asked) (files after : ShelfView) (request said log : List ℕ) (o : Option Command) (shelf shelf' : ShelfView) (sink sink' : SinkView) (keeper keeper' : KeeperView) (result : Status) → Promises (outside told (Unit {0}) (Unit {0}) shelf shelf' sink sink' keeper keeper') o result
     → o ≡ where_stands (names_stand (sources_of a) held_names) (command_for a) → shelf ≡ beside files request → sink ≡ empty_sink → keeper ≡ no_jobs → request_of request ≡ asked_of a.payments.items a.coins.items a.settings → request ≡ request_bytes a.payments.items a.coins.items a.settings → said ≡ sink'.written → log ≡ shelf'.files log_name → result ≢ statuses.WriteFault
     → sink'.faults ≡ 0 → keeper'.faults ≡ 0 → IsBeside after shelf' → IsRun told a files after result said log
 is_run told a files after request said log o shelf shelf' sink sink' keeper keeper' result promises words shelf_is sink_is keeper_is asks bytes said_is log_is unlost sink_sound keeper_sound left =
-    let by_shelf : Promises told o (beside files request) shelf' sink sink' keeper keeper' result = subst (λ (x : ShelfView). Promises told o x shelf' sink sink' keeper keeper' result) shelf_is promises in
-    let by_sink : Promises told o (beside files request) shelf' empty_sink sink' keeper keeper' result = subst (λ (x : SinkView). Promises told o (beside files request) shelf' x sink' keeper keeper' result) sink_is by_shelf in
-    let h : Promises told o (beside files request) shelf' empty_sink sink' no_jobs keeper' result = subst (λ (x : KeeperView). Promises told o (beside files request) shelf' empty_sink sink' x keeper' result) keeper_is by_sink in
+    let by_shelf : Promises (outside told (Unit {0}) (Unit {0}) (beside files request) shelf' sink sink' keeper keeper') o result = subst (λ (x : ShelfView). Promises (outside told (Unit {0}) (Unit {0}) x shelf' sink sink' keeper keeper') o result) shelf_is promises in
+    let by_sink : Promises (outside told (Unit {0}) (Unit {0}) (beside files request) shelf' empty_sink sink' keeper keeper') o result = subst (λ (x : SinkView). Promises (outside told (Unit {0}) (Unit {0}) (beside files request) shelf' x sink' keeper keeper') o result) sink_is by_shelf in
+    let h : Promises (outside told (Unit {0}) (Unit {0}) (beside files request) shelf' empty_sink sink' no_jobs keeper') o result = subst (λ (x : KeeperView). Promises (outside told (Unit {0}) (Unit {0}) (beside files request) shelf' empty_sink sink' x keeper') o result) keeper_is by_sink in
     let c : Command = command_for a in
-    let found : result ≢ statuses.Usage → o ≡ Some c = is_command (names_stand (sources_of a) held_names) c o result words h.usage.1 in
+    let found : result ≢ statuses.Usage → o ≡ Some c = is_command (names_stand (sources_of a) held_names) c o result words h.usage.usage.1 in
     record {
       request = request;
       asks = asks;
@@ -128,19 +113,19 @@ is_run told a files after request said log o shelf shelf' sink sink' keeper keep
       sink = sink';
       keeper = keeper';
       left = left;
-      usage = is_usage (names_stand (sources_of a) held_names) c o result words h.usage;
-      usage_line = h.usage_line;
+      usage = is_usage (names_stand (sources_of a) held_names) c o result words h.usage.usage;
+      usage_line = h.usage.usage_line tt;
       ends = λ apart. ends_by told (sources_of a) held_names o (beside files request) shelf' empty_sink sink' no_jobs keeper' result (found apart) h;
-      asked = λ apart told. held (λ c. AsksFor c (beside files request) shelf') o c (found apart) (h.asked told);
-      refused = λ apart. held (λ c. told → NoneUnread c (beside files request) shelf' → (due : Outcome) → IsRefusal due → NoneUnkept (Unit {0}) due no_jobs keeper' → ComesTo (beside files request).files no_jobs.jobs c due → (result ≡ status_of due) ⊎ (result ≡ statuses.Memory)) o c (found apart) h.refused;
-      complete = λ apart. held (λ c. IsTold told (Unit {0}) c → NoneFailed c (beside files request) shelf' empty_sink sink' no_jobs keeper' → (due : Outcome) → ComesTo (beside files request).files no_jobs.jobs c due → (result ≡ status_of due) ⊎ (result ≡ statuses.Memory)) o c (found apart) h.complete;
-      untouched = h.untouched;
-      others = λ apart told. held (λ c. KeepsOthers c (beside files request).files shelf'.files) o c (found apart) (h.others told);
-      kept = h.kept;
-      all_read = h.all_read;
+      asked = λ apart told. held (λ c. AsksFor c (beside files request) shelf') o c (found apart) (h.reads.asked told);
+      refused = λ apart. held (λ c. told → NoneUnread c (beside files request) shelf' → (due : Outcome) → IsRefusal due → NoneUnkept (Unit {0}) due no_jobs keeper' → ComesTo (beside files request).files no_jobs.jobs c due → (result ≡ status_of due) ⊎ (result ≡ statuses.Memory)) o c (found apart) h.refused.refused;
+      complete = λ apart. held (λ c. IsTold told (Unit {0}) c → NoneFailed c (beside files request) shelf' empty_sink sink' no_jobs keeper' → (due : Outcome) → ComesTo (beside files request).files no_jobs.jobs c due → (result ≡ status_of due) ⊎ (result ≡ statuses.Memory)) o c (found apart) h.complete.complete;
+      untouched = h.usage.untouched;
+      others = λ apart told. held (λ c. KeepsOthers c (beside files request).files shelf'.files) o c (found apart) (h.stays.others told);
+      kept = h.stays.kept;
+      all_read = h.honest.all_read;
       none_unwritten = unlost;
-      all_written = h.all_written unlost;
-      all_put = h.all_put;
+      all_written = h.honest.all_written unlost;
+      all_put = h.honest.all_put;
       sink_sound = sink_sound;
       keeper_sound = keeper_sound;
       said_is = said_is;

@@ -1,5 +1,5 @@
 -- How a command ends whose files, sink and keeper are in memory and never fail.
-use Rattle.std.specs.Prelude.{ℕ, ◌≡◌, List, ◌++◌}
+use Rattle.std.specs.Prelude.{ℕ, ◌≡◌, ◌≢◌, ◌⊎◌, List, ◌++◌, Option, IfSome}
 use Rattle.fund_base.specs.Causes.{ShelfView, SinkView}
 use Rattle.fund_files.specs.Chain.{held_of}
 use Rattle.fund_outside.specs.Kept.{KeeperView}
@@ -20,6 +20,9 @@ use Rattle.desk_machine.specs.State.{PlainDesk, new_desk}
 use Rattle.command_desk.specs.Script.{lines_of}
 use Rattle.command_desk.specs.Course.{Course}
 use Rattle.command_desk.specs.Starts.{AreInputs}
+use Rattle.fund_top.specs.Due.{ComesTo, Outcome}
+use Rattle.fund_top.specs.Outside.{Outside}
+use Rattle.fund_top.specs.Statuses.{GoesOnUninterrupted, WhereChecking, WhereDesk, WhereFunding, WhereListing, WhereResuming, WhereWorking, status_of}
 use Rattle.fund_top.specs.Words.{Command, Coins, Fund, Resume, Check, Work, Desk}
 
 -- the listing is printed whole
@@ -73,3 +76,32 @@ FundsOpen (Resume s p job) shelf shelf' sink sink' keeper keeper' =
 FundsOpen (Check s p report) shelf shelf' sink sink' keeper keeper' = ⊥
 FundsOpen (Work number count) shelf shelf' sink sink' keeper keeper' = Sums statuses.Unfinished number count sink sink'
 FundsOpen (Desk s script) shelf shelf' sink sink' keeper keeper' = ⊥
+
+-- What is true of a run over files, an output and jobs in memory that never fail.
+pub record RunsInMemory (v : Outside) (words : Option Command) (status : Status) : Type 0 where
+  -- No read fails.
+  pub read : status ≢ statuses.ReadFault
+  -- No write fails.
+  pub written : status ≢ statuses.WriteFault
+  -- No keeping of a job fails.
+  pub kept : status ≢ statuses.KeepFault
+  -- Done, with a payment: the log is written, and its report is printed whole.
+  pub done : status ≡ statuses.Done → WhereFunding words (λ s p. Funds s p v.shelf v.shelf' v.sink v.sink')
+  -- Done, where a job was gone on with: the same.
+  pub resumed : status ≡ statuses.Done → WhereResuming words (λ s p job. Resumes s p job v.shelf v.shelf' v.sink v.sink' v.keeper)
+  -- Done, where coins are listed: the listing is printed whole.
+  pub listed : status ≡ statuses.Done → WhereListing words (λ s. Lists s v.shelf v.sink v.sink')
+  -- Done, where a report is checked: that it is accepted is printed whole.
+  pub accepted : status ≡ statuses.Done → WhereChecking words (λ s p report. Accepts s p report v.shelf v.sink v.sink')
+  -- Done, where a script is run at a desk: each reply is printed whole.
+  pub replied : status ≡ statuses.Done → WhereDesk words (λ s script. Replies s script v.shelf v.sink v.sink')
+  -- Done, where a workload is summed up: the summary is printed whole.
+  pub summed : status ≡ statuses.Done → WhereWorking words (λ number count. Sums statuses.Done number count v.sink v.sink')
+  -- Unfinished: no file is written, a job is kept, and the report is printed whole.
+  pub unfinished : status ≡ statuses.Unfinished → IfSome words (λ c. FundsOpen c v.shelf v.shelf' v.sink v.sink' v.keeper v.keeper')
+  -- No selection: the log is written, and the report is printed whole.
+  pub none : status ≡ statuses.NoSelection → IfSome words (λ c. FundsNot c v.shelf v.shelf' v.sink v.sink' v.keeper)
+  -- Going on gives the answer of a run without a stop.
+  pub uninterrupted : WhereResuming words (λ s p job. GoesOnUninterrupted s p job v.shelf v.shelf' v.sink v.sink' v.keeper v.keeper' status)
+  -- The status is that of what the files and the job come to, or out of memory.
+  pub complete : IfSome words (λ c. (due : Outcome) → ComesTo v.shelf.files v.keeper.jobs c due → (status ≡ status_of due) ⊎ (status ≡ statuses.Memory))

@@ -2,5 +2,8 @@ pub mod Asked
 pub mod Command
 pub mod Due
 pub mod InMemory
+pub mod Outside
+pub mod Run
 pub mod Statuses
+pub mod Stored
 pub mod Words

@@ -4,33 +4,27 @@ ghost use Rattle.std.specs.Prelude.{◌≡◌, ◌↔◌, ◌≤◌, ◌<◌, �
 ghost use Rattle.std.specs.Fmt.{decimal};
 ghost use Rattle.std.specs.declared.alloc.Global.{Global};
 ghost use Rattle.block_feed.specs.Block.{ChainBlock};
-ghost use Rattle.fund_plan.specs.Outcome.{outcome_at, tries_at};
 ghost use Rattle.fund_plan.specs.Selection.{PlainFunded};
 ghost use Rattle.fund_plan.specs.declared.outcome.Outcome.TheVariants as answers;
-ghost use Rattle.fund_steps.specs.Plan.{IsPlan};
-ghost use Rattle.request_text.specs.PlainRequest.{PlainRequest};
 ghost use Rattle.wallet_text.specs.PlainWallet.{PlainWallet};
-ghost use Rattle.fund_files.specs.Chain.{held_of, history_of};
+ghost use Rattle.fund_files.specs.Chain.{held_of};
 ghost use Rattle.fund_files.specs.Contents.{HasChain};
-ghost use Rattle.fund_payment.specs.Report.{report_of};
 ghost use Rattle.command_end.specs.Names.{Sources};
 ghost use Rattle.command_check.specs.Due as checks;
 ghost use Rattle.command_desk.specs.Due as desks;
 ghost use Rattle.command_coins.specs.Due.{listing_in};
 ghost use Rattle.command_fund.specs.Cause.{Cause};
-ghost use Rattle.command_fund.specs.Due.{log_text_at, none_report_at, open_report_at, plan_of};
-ghost use Rattle.command_fund.specs.Inputs.{AreInputs};
+ghost use Rattle.command_fund.specs.Due.{none_report_at, open_report_at};
 ghost use Rattle.command_fund.specs.Names.{Payment};
-ghost use Rattle.wallet_text.specs.WalletRules.{AreDistinctEarlier};
-ghost use Rattle.command_work.specs.Load.{earlier_of, request_of, wallet_of};
 ghost use Rattle.command_work.specs.Summary.{summary_text};
 ghost use Rattle.fund_outside.specs.Kept.{KeptJob};
 ghost use Rattle.kept_job.specs.declared.fault.KeptFault.{KeptFault};
 ghost use Rattle.command_end.specs.declared.status.Status.TheVariants as statuses;
 ghost use Rattle.command_fund.specs.Due as dues;
 ghost use Rattle.command_resume.specs.Due.{IsGone, IsNotKept};
-ghost use Rattle.command_work.specs.Due.{load_of, load_plan};
+ghost use Rattle.command_work.specs.Due.{load_plan};
 ghost use Rattle.fund_top.specs.Due.{Refused, NotKept, Listed, Unfinished, NoSelection, Funded, Summed, ComesTo, IsMeant, Outcome, check_outcome, desk_outcome, payment_outcome};
+ghost use Rattle.fund_top.specs.Stored.{HaveStored, IsLoad, Stored, answer_in, load_answer, load_report, log_in, plan_in, report_in};
 ghost use Rattle.fund_top.specs.Words.{Command, Coins, Fund, Resume, Check, Work, Desk, command_of};
 
 /// The law of what the files of a command and the jobs of a keeper come to: to one outcome at most. A cause for a refusal which
@@ -43,16 +37,16 @@ pub fn outcomes_are_due()
     ensures one { (files : List ℕ → List ℕ) (jobs : List ℕ → Option KeptJob) (c : Command) (a b : Outcome) → ComesTo files jobs c a → ComesTo files jobs c b → a ≡ b }
     ensures refused { (files : List ℕ → List ℕ) (jobs : List ℕ → Option KeptJob) (c : Command) (cause : Cause) → IsMeant files c cause → ComesTo files jobs c (Refused cause) }
     ensures listed { (files : List ℕ → List ℕ) (jobs : List ℕ → Option KeptJob) (s : Sources) (w : PlainWallet) (blocks : List ChainBlock) → HasChain (files s.wallet) (files s.blocks) w blocks → ComesTo files jobs (Coins s) (Listed (listing_in (held_of w blocks))) }
-    ensures funded { (files : List ℕ → List ℕ) (jobs : List ℕ → Option KeptJob) (s : Sources) (p : Payment) (job : Option (List ℕ)) (w : PlainWallet) (blocks : List ChainBlock) (r : PlainRequest) (f : PlainFunded) → AreInputs files s p w blocks r → IsPlan (plan_of (held_of w blocks) r) → outcome_at (plan_of (held_of w blocks) r) r.tries ≡ answers.Funded f → ComesTo files jobs (Fund s p job) (Funded (report_of (history_of w blocks) r w.change (tries_at (plan_of (held_of w blocks) r) r.tries) f) (log_text_at (plan_of (held_of w blocks) r) r.tries)) }
-    ensures none { (files : List ℕ → List ℕ) (jobs : List ℕ → Option KeptJob) (s : Sources) (p : Payment) (job : Option (List ℕ)) (w : PlainWallet) (blocks : List ChainBlock) (r : PlainRequest) → AreInputs files s p w blocks r → IsPlan (plan_of (held_of w blocks) r) → outcome_at (plan_of (held_of w blocks) r) r.tries ≡ answers.NoSelection → ComesTo files jobs (Fund s p job) (NoSelection (none_report_at (plan_of (held_of w blocks) r) r.tries) (log_text_at (plan_of (held_of w blocks) r) r.tries)) }
-    ensures unfinished { (files : List ℕ → List ℕ) (jobs : List ℕ → Option KeptJob) (s : Sources) (p : Payment) (job : Option (List ℕ)) (w : PlainWallet) (blocks : List ChainBlock) (r : PlainRequest) → AreInputs files s p w blocks r → IsPlan (plan_of (held_of w blocks) r) → outcome_at (plan_of (held_of w blocks) r) r.tries ≡ answers.Unfinished → ComesTo files jobs (Fund s p job) (Unfinished (open_report_at (plan_of (held_of w blocks) r) r.tries)) }
+    ensures funded { (files : List ℕ → List ℕ) (jobs : List ℕ → Option KeptJob) (s : Sources) (p : Payment) (job : Option (List ℕ)) (k : Stored) (f : PlainFunded) → HaveStored files s p k → answer_in k ≡ answers.Funded f → ComesTo files jobs (Fund s p job) (Funded (report_in k f) (log_in k)) }
+    ensures none { (files : List ℕ → List ℕ) (jobs : List ℕ → Option KeptJob) (s : Sources) (p : Payment) (job : Option (List ℕ)) (k : Stored) → HaveStored files s p k → answer_in k ≡ answers.NoSelection → ComesTo files jobs (Fund s p job) (NoSelection (none_report_at (plan_in k) k.asked.tries) (log_in k)) }
+    ensures unfinished { (files : List ℕ → List ℕ) (jobs : List ℕ → Option KeptJob) (s : Sources) (p : Payment) (job : Option (List ℕ)) (k : Stored) → HaveStored files s p k → answer_in k ≡ answers.Unfinished → ComesTo files jobs (Fund s p job) (Unfinished (open_report_at (plan_in k) k.asked.tries)) }
     ensures gone { (files : List ℕ → List ℕ) (jobs : List ℕ → Option KeptJob) (s : Sources) (p : Payment) (job : List ℕ) (due : dues.Outcome) → IsGone files s p (jobs job) due → ComesTo files jobs (Resume s p job) (payment_outcome due) }
     ensures not_kept { (files : List ℕ → List ℕ) (jobs : List ℕ → Option KeptJob) (s : Sources) (p : Payment) (job : List ℕ) (fault : KeptFault) → IsNotKept files s p (jobs job) fault → ComesTo files jobs (Resume s p job) (NotKept fault) }
     ensures judged { (files : List ℕ → List ℕ) (jobs : List ℕ → Option KeptJob) (s : Sources) (p : Payment) (report : List ℕ) (due : checks.Outcome) → checks.ComesTo files s p report due → ComesTo files jobs (Check s p report) (check_outcome due) }
     ensures ran { (files : List ℕ → List ℕ) (jobs : List ℕ → Option KeptJob) (s : Sources) (script : List ℕ) → ComesTo files jobs (Desk s script) (desk_outcome (desks.due_of files s script)) }
-    ensures summed { (files : List ℕ → List ℕ) (jobs : List ℕ → Option KeptJob) (number count : ℕ) (f : PlainFunded) → 1 ≤ count → count ≤ 10_000 → AreDistinctEarlier (earlier_of number count) → outcome_at (load_plan number count) 100_000 ≡ answers.Funded f → ComesTo files jobs (Work number count) (Summed statuses.Done (summary_text number count (report_of (load_of number count).book (request_of number count) (wallet_of number count).change (tries_at (load_plan number count) 100_000) f))) }
-    ensures summed_none { (files : List ℕ → List ℕ) (jobs : List ℕ → Option KeptJob) (number count : ℕ) → 1 ≤ count → count ≤ 10_000 → AreDistinctEarlier (earlier_of number count) → outcome_at (load_plan number count) 100_000 ≡ answers.NoSelection → ComesTo files jobs (Work number count) (Summed statuses.NoSelection (summary_text number count (none_report_at (load_plan number count) 100_000))) }
-    ensures summed_open { (files : List ℕ → List ℕ) (jobs : List ℕ → Option KeptJob) (number count : ℕ) → 1 ≤ count → count ≤ 10_000 → AreDistinctEarlier (earlier_of number count) → outcome_at (load_plan number count) 100_000 ≡ answers.Unfinished → ComesTo files jobs (Work number count) (Summed statuses.Unfinished (summary_text number count (open_report_at (load_plan number count) 100_000))) }
+    ensures summed { (files : List ℕ → List ℕ) (jobs : List ℕ → Option KeptJob) (number count : ℕ) (f : PlainFunded) → IsLoad number count → load_answer number count ≡ answers.Funded f → ComesTo files jobs (Work number count) (Summed statuses.Done (summary_text number count (load_report number count f))) }
+    ensures summed_none { (files : List ℕ → List ℕ) (jobs : List ℕ → Option KeptJob) (number count : ℕ) → IsLoad number count → load_answer number count ≡ answers.NoSelection → ComesTo files jobs (Work number count) (Summed statuses.NoSelection (summary_text number count (none_report_at (load_plan number count) 100_000))) }
+    ensures summed_open { (files : List ℕ → List ℕ) (jobs : List ℕ → Option KeptJob) (number count : ℕ) → IsLoad number count → load_answer number count ≡ answers.Unfinished → ComesTo files jobs (Work number count) (Summed statuses.Unfinished (summary_text number count (open_report_at (load_plan number count) 100_000))) }
 {}
 
 /// The law of the words of a workload: they ask for one exactly where the second is the decimal spelling of a number below

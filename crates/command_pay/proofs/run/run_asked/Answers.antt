@@ -5,6 +5,7 @@ use Rattle.fund_base.specs.SureSink.{view_of as sink_view}
 use Rattle.fund_outside.specs.Kept.{KeeperView}
 use Rattle.fund_outside.specs.SureKeeper.{view_of as keeper_view}
 use Rattle.command_end.specs.declared.status.Status.TheVariants as statuses
+use Rattle.fund_top.specs.Outside.{outside}
 use Rattle.fund_top.specs.Words.{Command, command_of, names_stand}
 use Rattle.command_pay.specs.Held.{IsBeside, held_view}
 use Rattle.pay_words.specs.declared.asked.Asked.{Asked}
@@ -27,31 +28,9 @@ returns-clause-run g c =
     let keeper' : KeeperView = keeper_view c.run-status.new.keeper in
     let o : Option Command = command_of c.in-Ok.due.words.items in
     let e = c.run-status.ensures in
-    let promises : Promises g.H.Shelf.tells o shelf shelf' sink sink' keeper keeper' c.run-status.result = record {
-      usage = e.usage;
-      usage_line = e.usage_line tt;
-      done = e.done;
-      none = e.none;
-      unfinished = e.unfinished;
-      input = e.input;
-      limit = e.limit;
-      saved = e.saved;
-      check_refused = e.check_refused;
-      read_fault = e.read_fault;
-      write_fault = e.write_fault;
-      keep_fault = e.keep_fault;
-      memory = e.memory;
-      asked = e.asked;
-      refused = e.refused;
-      complete = e.complete;
-      untouched = e.untouched;
-      others = e.others;
-      kept = e.kept;
-      all_read = e.all_read;
-      all_written = e.all_written;
-      all_put = e.all_put;
-    } in
-    let apart : c.run-status.result ≢ statuses.WriteFault = none_unwritten g.H.Shelf.tells asked (names_stand (sources_of asked) held_names) o shelf shelf' sink sink' keeper keeper' c.run-status.result c.in-Ok.ensures.words e.usage.1 refl refl refl refl e.write_fault in
+    let promises : Promises (outside g.H.Shelf.tells (Unit {0}) (Unit {0}) shelf shelf' sink sink' keeper keeper') o c.run-status.result =
+    record { usage = e.usage; ends = e.ends; honest = e.honest; stays = e.stays; reads = e.reads; refused = e.refused; complete = e.complete } in
+    let apart : c.run-status.result ≢ statuses.WriteFault = none_unwritten g.H.Shelf.tells asked (names_stand (sources_of asked) held_names) o shelf shelf' sink sink' keeper keeper' c.run-status.result c.in-Ok.ensures.words e.usage.usage.1 refl refl refl refl e.ends.write_fault in
     let after : ShelfView = g.H.Shelf.view c.into_files.result in
     let left : IsBeside after shelf' = record {
       request = s'.request.items;
@@ -78,16 +57,16 @@ returns-clause-files g c =
     let files : ShelfView = g.H.Shelf.view c.args.files in
     let given_back : g.H.Shelf.view c.into_files.result ≡ g.H.Shelf.view s'.shelf = c.into_files.ensures in
     let e = c.run-status.ensures in
-    let apart : c.run-status.result ≢ statuses.WriteFault = none_unwritten g.H.Shelf.tells asked (names_stand (sources_of asked) held_names) o shelf shelf' sink sink' keeper keeper' c.run-status.result c.in-Ok.ensures.words e.usage.1 refl refl refl refl e.write_fault in
+    let apart : c.run-status.result ≢ statuses.WriteFault = none_unwritten g.H.Shelf.tells asked (names_stand (sources_of asked) held_names) o shelf shelf' sink sink' keeper keeper' c.run-status.result c.in-Ok.ensures.words e.usage.usage.1 refl refl refl refl e.ends.write_fault in
     let stays : KeepsFiles g.H.Shelf.tells files (g.H.Shelf.view s'.shelf) = record {
       files = λ told name other.
           sym (other_file (g.H.Shelf.view s'.shelf).files s'.request.items s'.log.items name other)
-          ∙ keeps_others g.H.Shelf.tells asked (names_stand (sources_of asked) held_names) o shelf.files shelf'.files c.in-Ok.ensures.words (λ none. ap (λ (v : ShelfView). v.files) (e.untouched (e.usage.1 none))) e.others told name other.1
+          ∙ keeps_others g.H.Shelf.tells asked (names_stand (sources_of asked) held_names) o shelf.files shelf'.files c.in-Ok.ensures.words (λ none. ap (λ (v : ShelfView). v.files) (e.usage.untouched (e.usage.usage.1 none))) e.stays.others told name other.1
           ∙ ap (λ (v : ShelfView). v.files name) c.new-shelf.ensures
           ∙ other_file files.files c.in-Ok.due.request.items [] name other;
       writes = λ name other.
           sym (other_count (g.H.Shelf.view s'.shelf).writes name other)
-          ∙ ap (λ (f : List ℕ → ℕ). f name) (e.all_written apart)
+          ∙ ap (λ (f : List ℕ → ℕ). f name) (e.honest.all_written apart)
           ∙ ap (λ (v : ShelfView). v.writes name) c.new-shelf.ensures
           ∙ other_count files.writes name other;
     } in

@@ -1,0 +1,118 @@
+-- What is true of a run, by the command that its words are, its outside and its status.
+use Rattle.std.specs.Prelude.{◌≡◌, ◌≢◌, ◌↔◌, ◌⊎◌, Option, None, codes, IfSome}
+use Rattle.command_end.specs.Lines.{GotLine, fault_line}
+use Rattle.command_end.specs.Printed.{TellsWhole, TookAll}
+use Rattle.command_end.specs.declared.status.Status.{Status}
+use Rattle.command_end.specs.declared.status.Status.TheVariants as statuses
+use Rattle.command_check.specs.Statuses.{EndsAccepted}
+use Rattle.command_coins.specs.Statuses.{EndsListed}
+use Rattle.command_desk.specs.Statuses.{EndsRunning}
+use Rattle.command_fund.specs.Inputs.{AsksInOrder}
+use Rattle.command_fund.specs.Jobs.{KeepsJobs}
+use Rattle.command_fund.specs.Statuses.{EndsFunded, IsBeforeTheLog, IsOfTheFiles}
+use Rattle.command_resume.specs.Statuses.{EndsFunded as EndsResumed}
+use Rattle.command_work.specs.Statuses.{EndsSummed}
+use Rattle.fund_top.specs.Asked.{AsksFor}
+use Rattle.fund_top.specs.Due.{ComesTo, IsRefusal, IsTold, Outcome}
+use Rattle.fund_top.specs.Outside.{Outside}
+use Rattle.fund_top.specs.Statuses.{EndsBroken, EndsInput, EndsLimited, EndsNotFunded, EndsNotKept, EndsUnfinished, EndsUnkept, EndsUnread, EndsUnwritten, EndsWithoutMemory, GoesOnUninterrupted, KeepsOthers, NoneFailed, NoneUnkept, NoneUnread, WhereChecking, WhereDesk, WhereFunding, WhereListing, WhereResuming, WhereWorking, job_of, status_of}
+use Rattle.fund_top.specs.Words.{Command}
+
+-- What is told of words that are no command.
+pub record TellsUsage (v : Outside) (words : Option Command) (status : Status) : Type 0 where
+  -- Usage comes exactly where the words are no command.
+  pub usage : (status ≡ statuses.Usage) ↔ (words ≡ None)
+  -- Its line is put.
+  pub usage_line : v.tells_output → status ≡ statuses.Usage → GotLine (fault_line (codes "usage")) v.sink v.sink'
+  -- No file is touched.
+  pub untouched : status ≡ statuses.Usage → v.shelf' ≡ v.shelf
+  -- No job is touched.
+  pub unkept : status ≡ statuses.Usage → v.keeper' ≡ v.keeper
+
+-- How the command ends, by each other status.
+pub record EndsByStatus (v : Outside) (words : Option Command) (status : Status) : Type 0 where
+  -- Done, with a payment: its coins may be spent, the transaction pays each recipient exactly and at least the fee, the log is
+  -- written, and the report is printed. Where the request names a payment, this one replaces it by BIP 125. An exhausted payment
+  -- is the best of its row and stage, and its log is accepted.
+  pub done : status ≡ statuses.Done → WhereFunding words (λ s p. EndsFunded v.tells_files v.tells_output s p v.shelf v.shelf' v.sink v.sink')
+  -- Done, where a job was gone on with: the same holds, whatever the keeper returned.
+  pub resumed : status ≡ statuses.Done → WhereResuming words (λ s p job. EndsResumed v.tells_files v.tells_output v.tells_jobs s p job v.shelf v.shelf' v.sink v.sink' v.keeper)
+  -- No selection: no search and no draw has a result, which the log proves, and the presets alone don't pay.
+  pub none : status ≡ statuses.NoSelection → IfSome words (λ c. EndsNotFunded v.tells_files v.tells_output v.tells_jobs c v.shelf v.shelf' v.sink v.sink' v.keeper)
+  -- Unfinished: each try was made of the request's, and of those that the job had left, the next step is a try, and nothing is
+  -- taken. No file is written, and where there is a job, the run is kept as that.
+  pub unfinished : status ≡ statuses.Unfinished → IfSome words (λ c. EndsUnfinished v.tells_files v.tells_output v.tells_jobs c v.shelf v.shelf' v.sink v.sink' v.keeper v.keeper')
+  -- Done, where coins are listed: the states and the candidates are printed, and nothing else.
+  pub listed : status ≡ statuses.Done → WhereListing words (λ s. EndsListed v.tells_files v.tells_output s v.shelf v.sink v.sink')
+  -- Done, where a report is checked: it is accepted with its log, so it vouches for the answer that it names. That and its first
+  -- line are printed, and nothing else.
+  pub accepted : status ≡ statuses.Done → WhereChecking words (λ s p report. EndsAccepted v.tells_files v.tells_output s p report v.shelf v.sink v.sink')
+  -- Done, where a workload is summed up: the same is true of the payment from it as of one from files, and the summary of its
+  -- report is printed, and nothing else.
+  pub summed : status ≡ statuses.Done → WhereWorking words (λ number count. EndsSummed v.tells_output number count statuses.Done v.sink v.sink')
+  -- Done, where a script is run at a desk: what is printed is the machine's reply to each of its lines, and nothing else.
+  pub replied : status ≡ statuses.Done → WhereDesk words (λ s script. EndsRunning v.tells_files v.tells_output s script v.shelf v.shelf' v.sink v.sink' statuses.Done)
+  -- Input: the first rule that a file breaks is told.
+  pub input : status ≡ statuses.Input → IfSome words (λ c. EndsInput v.tells_files v.tells_output c v.shelf v.sink v.sink')
+  -- Limit: the first limit of a file is told, or that of the kept job.
+  pub limit : status ≡ statuses.Limit → IfSome words (λ c. EndsLimited v.tells_files v.tells_output v.tells_jobs c v.shelf v.shelf' v.sink v.sink' v.keeper)
+  -- Saved: the first rule that the kept job breaks is told, after those of the files.
+  pub saved : status ≡ statuses.Saved → IfSome words (λ c. EndsNotKept v.tells_files v.tells_output v.tells_jobs c v.shelf v.sink v.sink' v.keeper)
+  -- A check that refuses: the first rule that the report breaks is told, after those of the files.
+  pub check_refused : status ≡ statuses.CheckRefused → IfSome words (λ c. EndsBroken v.tells_files v.tells_output c v.shelf v.sink v.sink')
+  -- A read fault comes only where the count of a file's failed reads rose.
+  pub read_fault : status ≡ statuses.ReadFault → IfSome words (λ c. EndsUnread v.tells_files v.tells_output c v.shelf v.shelf' v.sink v.sink')
+  -- A write fault comes only where that of the log's failed writes rose, or that of the output's failures.
+  pub write_fault : status ≡ statuses.WriteFault → IfSome words (λ c. EndsUnwritten v.tells_files v.tells_output v.tells_jobs c v.shelf v.shelf' v.sink v.sink' v.keeper v.keeper')
+  -- A keep fault comes only where that of the keeper's failures rose.
+  pub keep_fault : status ≡ statuses.KeepFault → IfSome words (λ c. EndsUnkept v.tells_files v.tells_output c v.shelf v.sink v.sink' v.keeper v.keeper')
+  -- Memory: its line is put, or the output found none and has got a part of what is due.
+  pub memory : status ≡ statuses.Memory → IfSome words (λ c. EndsWithoutMemory v.tells_files v.tells_output v.tells_jobs c v.shelf v.shelf' v.sink v.sink' v.keeper v.keeper')
+
+-- No failure is told as something else.
+pub record TellsFailures (v : Outside) (status : Status) : Type 0 where
+  -- A read that failed is told as a read fault.
+  pub all_read : status ≢ statuses.ReadFault → v.shelf'.reads ≡ v.shelf.reads
+  -- A write of the log that failed is told as a write fault.
+  pub all_written : status ≢ statuses.WriteFault → v.shelf'.writes ≡ v.shelf.writes
+  -- An output that failed is never told as success: as done, no selection or unfinished.
+  pub all_put : TellsWhole status → TookAll v.sink v.sink'
+  -- A keeper that failed is told as a keep fault.
+  pub unfailed : status ≢ statuses.KeepFault → v.keeper'.faults ≡ v.keeper.faults
+
+-- What stays as it was.
+pub record LeavesOthers (v : Outside) (words : Option Command) (status : Status) : Type 0 where
+  -- Every file stays but the log of a payment.
+  pub others : v.tells_files → IfSome words (λ c. KeepsOthers c v.shelf.files v.shelf'.files)
+  -- The log stays too before it is written.
+  pub kept : v.tells_files → IsBeforeTheLog status → v.shelf'.files ≡ v.shelf.files
+  -- Every job stays but the one that the words name, and that one too unless the run is unfinished, or was, and its report wasn't
+  -- printed whole.
+  pub jobs : v.tells_jobs → IfSome words (λ c. KeepsJobs (job_of c) status v.keeper v.keeper')
+
+-- What is read.
+pub record ReadsInOrder (v : Outside) (words : Option Command) (status : Status) : Type 0 where
+  -- Only the files that the words name are read, in their order, and with a job once more in this order, for its digest, unless it
+  -- is gone on with and the files are refused; the log of a payment never, and behind a file that is refused none.
+  pub asked : v.tells_files → IfSome words (λ c. AsksFor c v.shelf v.shelf')
+  -- What the files of a payment come to by themselves is found by reading them once.
+  pub read_once : v.tells_files → IsOfTheFiles status → WhereFunding words (λ s p. AsksInOrder s p v.shelf v.shelf')
+  -- A workload is summed up without files: none is asked for or touched.
+  pub apart : WhereWorking words (λ number count. v.shelf' ≡ v.shelf)
+
+-- Going on gives the uninterrupted answer.
+pub record GoesOn (v : Outside) (words : Option Command) (status : Status) : Type 0 where
+  -- Where unfinished runs of the same files left the job after n tries, it ends as a run of n tries and the request's together
+  -- does, in report and log byte for byte. It refuses neither the files nor the job, but for one that has made all its tries.
+  pub uninterrupted : v.tells_files → v.tells_output → v.tells_jobs → WhereResuming words (λ s p job. GoesOnUninterrupted s p job v.shelf v.shelf' v.sink v.sink' v.keeper v.keeper' status)
+
+-- A refusal is told whatever the output does.
+pub record RefusesFirst (v : Outside) (words : Option Command) (status : Status) : Type 0 where
+  -- Where the files are refused, the kept job, or the report that is checked, and none of these failed to be read, the status is
+  -- that of the refusal, even if the output fails, or out of memory.
+  pub refused : IfSome words (λ c. v.tells_files → NoneUnread c v.shelf v.shelf' → (due : Outcome) → IsRefusal due → NoneUnkept v.tells_jobs due v.keeper v.keeper' → ComesTo v.shelf.files v.keeper.jobs c due → (status ≡ status_of due) ⊎ (status ≡ statuses.Memory))
+
+-- What is due is told where nothing fails.
+pub record TellsDue (v : Outside) (words : Option Command) (status : Status) : Type 0 where
+  -- Where no count rose, the status is that of what the files and the job come to, or out of memory.
+  pub complete : IfSome words (λ c. IsTold v.tells_files v.tells_jobs c → NoneFailed c v.shelf v.shelf' v.sink v.sink' v.keeper v.keeper' → (due : Outcome) → ComesTo v.shelf.files v.keeper.jobs c due → (status ≡ status_of due) ⊎ (status ≡ statuses.Memory))
