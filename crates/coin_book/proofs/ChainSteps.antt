@@ -172,14 +172,17 @@ chain_more weigh before behind base old new c held spend under h is made coins g
 
 -- ---- faults after two ledgers
 
-pub held_points : (weigh : List ℕ → Option ℕ) (before behind : List Confirmed) (base old : Ledger) (c : Confirmed) (held : List Held) → HoldsChain weigh [] before base → HoldsChain weigh before behind old → map held_made held ≡ made_by weigh c
-    → fault_behind (keys_of base.coins.entries ++ keys_of old.coins.entries) (map held_point held) ≡ fault_behind (points_in weigh before ++ points_in weigh behind) (points (made_by weigh c))
-held_points weigh before behind base old c held under h is =
-    λ k. fault_behind (under.coins.keys_are k ++ h.coins.keys_are k) ((sym (entries_points held) ∙ keys_entries held ∙ ap points is) k)
+-- the outpoints of coins that are held
+pub points_of : (held : List Held) (made : List Made) → map held_made held ≡ made → map held_point held ≡ points made
+points_of held made is = sym (entries_points held) ∙ keys_entries held ∙ ap points is
   where
     entries_points : (held : List Held) → keys_of (map entry_of held) ≡ map held_point held
     entries_points [] = refl
     entries_points (x ∷ xs) = ap (λ (l : List OutPoint). held_point x ∷ l) (entries_points xs)
+
+pub held_points : (weigh : List ℕ → Option ℕ) (before behind : List Confirmed) (base old : Ledger) (c : Confirmed) (held : List Held) → HoldsChain weigh [] before base → HoldsChain weigh before behind old → map held_made held ≡ made_by weigh c
+    → fault_behind (keys_of base.coins.entries ++ keys_of old.coins.entries) (map held_point held) ≡ fault_behind (points_in weigh before ++ points_in weigh behind) (points (made_by weigh c))
+held_points weigh before behind base old c held under h is = λ k. fault_behind (under.coins.keys_are k ++ h.coins.keys_are k) (points_of held (made_by weigh c) is k)
 
 -- ---- chains
 

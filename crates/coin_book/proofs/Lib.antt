@@ -11,6 +11,7 @@ pub mod MergeSteps
 pub mod OutputSteps
 pub mod PendingSteps
 pub mod RepeatSteps
+pub mod ShortSteps
 pub mod ShownCoins
 pub mod SpendSteps
 pub mod Started

@@ -16,7 +16,7 @@ use Rattle.coin_book.specs.Coins.{Made, coin_at, coin_of, coins_below, made_in}
 use Rattle.coin_book.specs.Outputs.{IsCoinOf}
 use Rattle.coin_book.proofs.SpendSteps.{some_is}
 
-abbrev index_of : Made → ℕ
+abbrev pub index_of : Made → ℕ
 index_of m = m.coin.coin.index
 
 -- ---- one output
@@ -35,7 +35,7 @@ this_output weigh height t n output m le at is = by (weigh output.script) refl i
         subst (λ (x : Made). IsCoinOf weigh height t x × (index_of x ≡ n)) same
         (record { output = output; stands = at; within = le; listed = e; txid = refl; value = refl; script = refl; height_is = refl; coinbase = refl; maker = refl }, refl)
 
-at_index : (weigh : List ℕ → Option ℕ) (height : Option ℕ) (t : Transaction) (n : ℕ) (m : Made) → coin_at weigh height t n ≡ Some m → IsCoinOf weigh height t m × (index_of m ≡ n)
+pub at_index : (weigh : List ℕ → Option ℕ) (height : Option ℕ) (t : Transaction) (n : ℕ) (m : Made) → coin_at weigh height t n ≡ Some m → IsCoinOf weigh height t m × (index_of m ≡ n)
 unfolding coin_at
 at_index weigh height t n m is = by (nat_le n 4294967295) refl is
   where

@@ -1,5 +1,5 @@
 -- The coins of a history, in order of creation.
-use Rattle.std.specs.Prelude.{ℕ, zero, suc, List, [], ◌++◌, length, map, filter, flat_map, bytes_eq, slice_get, find, is_none, nat_le, Bool, Option, Some, None, option_map, option_and_then, if◌then◌else◌}
+use Rattle.std.specs.Prelude.{ℕ, zero, suc, ◌≡◌, ◌<◌, false, true, is_some, List, [], ◌++◌, length, map, filter, flat_map, bytes_eq, slice_get, find, is_none, nat_le, Bool, Option, Some, None, option_map, option_and_then, if◌then◌else◌}
 use Rattle.std.specs.Option.{option_to_list}
 use Rattle.fund_base.specs.Outpoints.{same_outpoint}
 use Rattle.fund_base.specs.declared.outpoint.OutPoint.{OutPoint}
@@ -44,6 +44,15 @@ coin_at weigh height t index = if nat_le index 4294967295 then option_and_then (
 unfoldable pub coins_below : (ℕ → Option Made) → ℕ → List Made
 coins_below coin zero = []
 coins_below coin (suc n) = coins_below coin n ++ option_to_list (coin n)
+
+-- no coin stands at the places below this one
+abbrev pub NoneBelow : (ℕ → Option Made) → ℕ → Type 0
+NoneBelow coin n = (k : ℕ) → k < n → is_some (coin k) ≡ false
+
+-- the first place below the end at which a coin stands, or none
+abbrev pub IsFirstPlace : (ℕ → Option Made) → ℕ → Option ℕ → Type 0
+IsFirstPlace coin end None = NoneBelow coin end
+IsFirstPlace coin end (Some place) = (place < end) × NoneBelow coin place × (is_some (coin place) ≡ true)
 
 -- the coins of a transaction
 unfoldable pub made_in : (List ℕ → Option ℕ) → Option ℕ → Transaction → List Made

@@ -8,4 +8,5 @@ pub mod Invariant
 pub mod Merging
 pub mod Outputs
 pub mod Repeats
+pub mod Short
 pub mod Spends

@@ -1,20 +1,22 @@
 //! Transactions added to a ledger.
 
-ghost use Rattle.std.specs.Prelude.{ℕ, ◌≡◌, ◌+◌, ◌<◌, ◌^◌, ◌++◌, ◌∷◌, [], IfOk, IfSome, List, OnErr, OnOk, Some, bytes_eq, false, is_some, length, map, not, if◌then◌else◌};
-ghost use Rattle.std.specs.Map.{lookup};
+ghost use Rattle.std.specs.Prelude.{ℕ, ◌≡◌, ◌+◌, ◌<◌, ◌^◌, ◌++◌, ◌∷◌, [], Err, IfOk, IfSome, List, None, OnErr, OnOk, Option, Some, bytes_eq, false, is_some, length, map, not, take, unwrap_or, if◌then◌else◌};
+ghost use Rattle.std.specs.Map.{keys_of, lookup};
 ghost use Rattle.fund_base.specs.declared.outpoint.OutPoint.{OutPoint};
 ghost use Rattle.tx_codec.specs.Txid.{txid_of};
-ghost use Rattle.coin_book.specs.Coins.{made_by};
+ghost use Rattle.coin_book.specs.Coins.{made_by, made_in};
 ghost use Rattle.coin_book.specs.Faults.{points, fault_behind};
 ghost use Rattle.coin_book.specs.History.{Confirmed, confirmed_at};
 ghost use Rattle.coin_book.specs.Invariant.{HoldsChain, is_known, points_in, weigher};
 ghost use Rattle.coin_book.specs.Spends.{has_input};
 ghost use Rattle.coin_book.specs.Merging.{Meets, spends_in};
+ghost use Rattle.coin_book.specs.Short.{StopsAt};
+ghost use Rattle.coin_book.specs.declared.fault.BookFault.TheVariants.{Memory as NoMemory};
 
 use crate::coin::Spend;
 use crate::fault::BookFault;
-use crate::ledger::{Ledger, Weights, add_coins, add_spends};
-use crate::making::held_in;
+use crate::ledger::{Ledger, Weights, add_coins, add_spends, point_fault};
+use crate::making::{first_point, held_in};
 use fund_base::{Memory, Txid};
 use indexmap::IndexMap;
 use indexmap::map::Entry;
@@ -48,6 +50,18 @@ fn add_height(heights: &mut IndexMap<Txid, u32>, txid: Txid, height: u32) -> Res
     }
 }
 
+/// What is told of a transaction of this txid where memory is short before its coins are added: the fault of its first coin,
+/// or else that memory is short.
+fn fault_or_short(base: &Ledger, own: &Ledger, weights: &Weights, tx: &Tx, txid: Txid) -> BookFault
+    requires { txid ≡ txid_of tx.now }
+    ensures { (height : Option ℕ) → result ≡ unwrap_or (fault_behind (keys_of base.now.coins.entries ++ keys_of own.now.coins.entries) (take 1 (points (made_in (weigher weights.now.entries) height tx.now)))) NoMemory }
+{
+    match first_point(weights, tx, txid) {
+        Some(point) => point_fault(&base.coins, &own.coins, point).unwrap_or(BookFault::Memory),
+        None => BookFault::Memory,
+    }
+}
+
 impl Ledger {
     /// Adds the height and the spends of a transaction of this txid, unless one stands here or in the other ledger: then
     /// it takes no memory.
@@ -76,7 +90,8 @@ impl Ledger {
 
     /// Adds the transaction that stands after these and those of `base`, with its txid, height and place. Its coins share
     /// the one that is shared, if there is one, and otherwise a copy of it. RepeatCoin or Full comes exactly where an
-    /// outpoint would be a coin twice or a coin be number 100,001, by the first coin of which this is so.
+    /// outpoint would be a coin twice or a coin be number 100,001, by the first coin of which this is so. When out of memory,
+    /// its first coin is none of which this is so.
     pub fn add(
         &mut self,
         alloc: Global,
@@ -92,8 +107,14 @@ impl Ledger {
             → OnOk result (HoldsChain (weigher weights.now.entries) before (behind ++ confirmed_at spend.now.height tx.now ∷ []) self.new) }
         ensures exact { (before behind : List Confirmed) → HoldsChain (weigher weights.now.entries) [] before base.now → HoldsChain (weigher weights.now.entries) before behind self.old
             → Meets result (fault_behind (points_in (weigher weights.now.entries) before ++ points_in (weigher weights.now.entries) behind) (points (made_by (weigher weights.now.entries) (confirmed_at spend.now.height tx.now)))) }
+        ensures short { (before behind : List Confirmed) → HoldsChain (weigher weights.now.entries) [] before base.now → HoldsChain (weigher weights.now.entries) before behind self.old → result ≡ Err NoMemory
+            → fault_behind (points_in (weigher weights.now.entries) before ++ points_in (weigher weights.now.entries) behind) (take 1 (points (made_by (weigher weights.now.entries) (confirmed_at spend.now.height tx.now)))) ≡ None }
     {
-        let held = held_in(alloc, weights, tx, shared, spend.txid, Some(spend.height))?;
+        let height = Some(spend.height);
+        let held = match held_in(alloc, weights, tx, shared, spend.txid, height) {
+            Ok(held) => held,
+            Err(_) => return Err(fault_or_short(base, self, weights, tx, spend.txid)),
+        };
         match add_coins(&mut self.coins, &base.coins, held) {
             Ok(()) => {}
             Err(fault) => return Err(fault),
@@ -105,7 +126,7 @@ impl Ledger {
 
 /// A ledger of transactions of these txids at one height, which stand after those of `base`, the first at this place.
 /// RepeatCoin or Full comes exactly where an outpoint would be a coin twice or a coin be number 100,001, by the first
-/// coin of which this is so.
+/// coin of which this is so. When out of memory, no coin is one of which this is so up to the first coin of a transaction.
 pub fn ledger_behind(
     alloc: Global,
     base: &Ledger,
@@ -121,6 +142,8 @@ pub fn ledger_behind(
         → IfOk result (λ l. HoldsChain (weigher weights.now.entries) before (map (confirmed_at height) txs.now) l) }
     ensures exact { (before : List Confirmed) → HoldsChain (weigher weights.now.entries) [] before base.now → first ≡ length before
         → Meets result (fault_behind (points_in (weigher weights.now.entries) before) (points_in (weigher weights.now.entries) (map (confirmed_at height) txs.now))) }
+    ensures short { (before : List Confirmed) → HoldsChain (weigher weights.now.entries) [] before base.now → first ≡ length before → result ≡ Err NoMemory
+        → StopsAt (weigher weights.now.entries) before (map (confirmed_at height) txs.now) }
 {
     let mut ledger = Ledger::new(alloc);
     for index in 0..txs.len() {

@@ -13,6 +13,7 @@ ghost use Rattle.coin_book.specs.Coins.{coins_of, parent_of};
 ghost use Rattle.coin_book.specs.Faults.{Answers, fault_of, points};
 ghost use Rattle.coin_book.specs.History.{start_of, with_block, with_pending};
 ghost use Rattle.coin_book.specs.Invariant.{made_at};
+ghost use Rattle.coin_book.specs.Short.{IsShortFor};
 ghost use Rattle.coin_book.specs.Spends.{height_of, spends_of};
 ghost use Rattle.coin_book.specs.declared.fault.BookFault.TheVariants.{Full, Memory};
 ghost use Rattle.coin_book.specs.declared.held.Held.{Held};
@@ -119,6 +120,9 @@ impl Book {
         requires texts { All IsTransaction block.now.txs }
         ensures added { OnOk result (self.new ≡ with_block self.old block.now) }
         ensures exact { Answers result (with_block self.old block.now) }
+        // Out of memory comes where no coin is at fault up to the first coin of some transaction of the block, or of all of
+        // them. So what is wrong with the first coin of its first transaction is never told as that.
+        ensures short { result ≡ Err Memory → IsShortFor self.old block.now }
         ensures kept { OnErr result (self.new ≡ self.old) }
     {
         let Some(count) = self.count.checked_add(block.txs.len() as u64) else {

@@ -140,6 +140,23 @@ fn fault_beside(
     }
 }
 
+/// The fault of a coin at this outpoint that would stand after those of the two maps, if it has one.
+pub fn point_fault(
+    base: &IndexMap<OutPoint, Held>,
+    coins: &IndexMap<OutPoint, Held>,
+    point: OutPoint,
+) -> Option<BookFault>
+    ensures { result ≡ fault_behind (keys_of base.now.entries ++ keys_of coins.now.entries) (point ∷ []) }
+{
+    if !has_room(base, coins) {
+        return Some(fault_beside(base, coins, point));
+    }
+    if stands(base, coins, &point) {
+        return Some(BookFault::RepeatCoin(point));
+    }
+    None
+}
+
 /// Adds a coin after the others, which stand after those of `base`. RepeatCoin comes exactly where its outpoint
 /// stands there, and Full where it doesn't and the coin would be number 100,001.
 fn add_coin(

@@ -1,9 +1,11 @@
 //! The coins of a transaction.
 
-ghost use Rattle.std.specs.Prelude.{◌≡◌, ◌++◌, ◌∷◌, [], ◌<◌, IfOk, IfSome, None, OnErr, OnOk, is_some, length, map, true};
+ghost use Rattle.std.specs.Prelude.{◌≡◌, ◌++◌, ◌∷◌, [], ◌<◌, IfOk, IfSome, None, OnErr, OnOk, Option, is_some, length, map, take, true, ℕ};
+ghost use Rattle.std.specs.Option.{option_to_list};
 ghost use Rattle.tx_codec.specs.Txid.{txid_of};
-ghost use Rattle.coin_book.specs.Coins.{Made, coin_at, coin_of, coins_below, made_in};
+ghost use Rattle.coin_book.specs.Coins.{IsFirstPlace, Made, coin_at, coin_of, coins_below, made_in};
 ghost use Rattle.coin_book.specs.declared.coin.Coin.{Coin};
+ghost use Rattle.coin_book.specs.Faults.{points};
 ghost use Rattle.coin_book.specs.Invariant.{coin_made, held_made, weigher};
 
 use crate::coin::Coin;
@@ -78,7 +80,7 @@ fn coin_at(
 #[tactic(auto, unfolding(crate::specs::Coins::coin_at, crate::specs::Coins::coin_of))]
 fn is_coin(weights: &Weights, tx: &Tx, index: usize) -> bool
     requires { index < length tx.now.outputs }
-    ensures { result ≡ is_some (coin_at (weigher weights.now.entries) None tx.now index) }
+    ensures { (height : Option ℕ) → result ≡ is_some (coin_at (weigher weights.now.entries) height tx.now index) }
 {
     index <= u32::MAX as usize && weights.contains_key(tx.outputs[index].script.bytes())
 }
@@ -94,6 +96,30 @@ pub fn count_in(weights: &Weights, tx: &Tx) -> usize
         }
     }
     count
+}
+
+/// The place of the first output of the transaction that is a coin. None exactly where it has no coin.
+fn first_place(weights: &Weights, tx: &Tx) -> Option<usize>
+    ensures { (height : Option ℕ) → IsFirstPlace (coin_at (weigher weights.now.entries) height tx.now) (length tx.now.outputs) result }
+{
+    for index in 0..tx.outputs.len() {
+        if is_coin(weights, tx, index) {
+            return Some(index);
+        }
+    }
+    None
+}
+
+/// The outpoint of the first coin of the transaction of this txid. None exactly where it has no coin.
+pub fn first_point(weights: &Weights, tx: &Tx, txid: Txid) -> Option<OutPoint>
+    requires { txid ≡ txid_of tx.now }
+    ensures { (height : Option ℕ) → option_to_list result ≡ take 1 (points (made_in (weigher weights.now.entries) height tx.now)) }
+{
+    let place = first_place(weights, tx)?;
+    Some(OutPoint {
+        txid,
+        index: place as u32,
+    })
 }
 
 /// The coins of the transaction, in order. It takes memory only where there is one.

@@ -55,22 +55,17 @@ module _ (told_files told : Type 0) (s : Sources) (p : Payment) (report : List �
 
   payment_ends : (stop : PaymentStop) (result : Status) → payment_stops.StopsFor told_files s p shelf shelf' stop → payment_words.IsStopped told s p stop sink sink' result → EndsAs result
   unfolding EndsAs
-  payment_ends (payments.Read file) result h (inl a) = subst EndsAs (sym a.0) (inl (file, h.0, h.1, a.1))
-  payment_ends (payments.Read file) result h (inr w) = wanting_ends result w
-  payment_ends (payments.Refused refusal) result h (inl a) = subst EndsAs (sym a.0) (refused_ends refusal h a.1 (refusal_status (cause_of refusal)))
-  payment_ends (payments.Refused refusal) result h (inr w) = wanting_ends result w
+  payment_ends (payments.Read file) result h a = subst EndsAs (sym a.0) (inl (file, h.0, h.1, a.1))
+  payment_ends (payments.Refused refusal) result h a = subst EndsAs (sym a.0) (refused_ends refusal h a.1 (refusal_status (cause_of refusal)))
   payment_ends payments.Keep result h w = absurd h
   payment_ends payments.Memory result h w = wanting_ends result w
 
   pub stop_ends : (stop : Stop) (result : Status) → StopsFor told_files s p report shelf shelf' stop → IsStopped told s p report stop sink sink' result → Ends told_files told s p report shelf shelf' sink sink' result
   unfolding EndsAs
   stop_ends (stops.Payment stop) result h a = payment_ends stop result h a
-  stop_ends (stops.Read file) result h (inl a) = subst EndsAs (sym a.0) (inr (file, h.0, h.1, a.1))
-  stop_ends (stops.Read file) result h (inr w) = wanting_ends result w
-  stop_ends (stops.TooLong file) result h (inl a) = subst EndsAs (sym a.0) (inr (file, h, a.1))
-  stop_ends (stops.TooLong file) result h (inr w) = wanting_ends result w
-  stop_ends (stops.Broken fault) result h (inl a) = subst EndsAs (sym a.0) (fault, h.0, h.1, a.1)
-  stop_ends (stops.Broken fault) result h (inr w) = wanting_ends result w
+  stop_ends (stops.Read file) result h a = subst EndsAs (sym a.0) (inr (file, h.0, h.1, a.1))
+  stop_ends (stops.TooLong file) result h a = subst EndsAs (sym a.0) (inr (file, h, a.1))
+  stop_ends (stops.Broken fault) result h a = subst EndsAs (sym a.0) (fault, h.0, h.1, a.1)
   stop_ends stops.Memory result h w = wanting_ends result w
 
   -- ---- what is due

@@ -10,7 +10,7 @@ use Rattle.fund_report.specs.declared.report.Report as reports
 use Rattle.fund_report.specs.declared.report.Report.TheVariants.{Funded, NoSelection, Unfinished}
 use Rattle.report_check.specs.declared.fault.CheckFault.{CheckFault}
 use Rattle.report_check.specs.declared.fault.CheckFault.TheVariants as faults
-use Rattle.command_end.specs.AnswerLines.{IsAnswered, IsWanting}
+use Rattle.command_end.specs.AnswerLines.{IsAnswered}
 use Rattle.command_end.specs.Names.{Sources}
 use Rattle.command_end.specs.declared.status.Status.{Status}
 use Rattle.command_end.specs.declared.status.Status.TheVariants as statuses
@@ -57,10 +57,22 @@ pub record StartsWithLine (bytes first : List ℕ) : Type 0 where
 unfoldable pub accepted_text : reports.Report → List ℕ
 accepted_text r = codes "accepted\n" ++ first_line r
 
--- the answer to a stop
+-- the status of a stop
+abbrev pub stop_status : Stop → Status
+stop_status (stops.Payment stop) = payments.stop_status stop
+stop_status (stops.Read file) = statuses.ReadFault
+stop_status (stops.TooLong file) = statuses.Limit
+stop_status (stops.Broken fault) = statuses.CheckRefused
+stop_status stops.Memory = statuses.Memory
+
+-- what the line of a stop says behind the word fault
+abbrev pub stop_words : Sources → Payment → (report : List ℕ) → Stop → List ℕ
+stop_words s p report (stops.Payment stop) = payments.stop_words s p stop
+stop_words s p report (stops.Read file) = codes "read " ++ evidence_name p report file
+stop_words s p report (stops.TooLong file) = codes "limit " ++ evidence_word file
+stop_words s p report (stops.Broken fault) = codes "check " ++ check_fault_words fault
+stop_words s p report stops.Memory = codes "memory"
+
+-- the answer to a stop: its status, with its line
 abbrev pub IsStopped : Type 0 → Sources → Payment → (report : List ℕ) → Stop → SinkView → SinkView → Status → Type 0
-IsStopped told s p report (stops.Payment stop) old new result = payments.IsStopped told s p stop old new result
-IsStopped told s p report (stops.Read file) old new result = IsAnswered told (codes "read " ++ evidence_name p report file) statuses.ReadFault old new result
-IsStopped told s p report (stops.TooLong file) old new result = IsAnswered told (codes "limit " ++ evidence_word file) statuses.Limit old new result
-IsStopped told s p report (stops.Broken fault) old new result = IsAnswered told (codes "check " ++ check_fault_words fault) statuses.CheckRefused old new result
-IsStopped told s p report stops.Memory old new result = IsWanting told old new result
+IsStopped told s p report stop old new result = IsAnswered told (stop_words s p report stop) (stop_status stop) old new result

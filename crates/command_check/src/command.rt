@@ -40,7 +40,7 @@ fn verdict<H: Shelf, O: Sink>(
 {
     match accepted(alloc, sources, payment, report, shelf) {
         Ok(text) => put_report(text.as_bytes(), Status::Done, out),
-        Err(stop) => answer(alloc, sources, payment, report, stop, out),
+        Err(stop) => answer(sources, payment, report, stop, out),
     }
 }
 

@@ -1,16 +1,14 @@
 //! What is said of a report.
 
-ghost use Rattle.std.specs.Prelude.{◌≡◌, ◌++◌, ◌∷◌, codes, IfOk, string_bytes};
-ghost use Rattle.std.specs.Fmt.{decimal};
-ghost use Rattle.command_end.specs.Words.{log_fault_words};
+ghost use Rattle.std.specs.Prelude.{◌≡◌, ◌++◌, codes, IfOk, string_bytes};
+ghost use Rattle.command_end.specs.Parts.{part_text, parts_text};
 ghost use Rattle.command_check.specs.Words.{accepted_text, check_fault_words, evidence_word};
 
 use crate::stop::Evidence;
 use closing_log::Worded;
-use command_end::{coin_text, log_fault_words, psbt_fault_words};
+use command_end::{Part, log_fault_part, psbt_fault_parts};
 use fund_base::Memory;
 use fund_report::Report;
-use log_checker::LogFault;
 use report_check::CheckFault;
 use std::alloc::Global;
 
@@ -24,36 +22,36 @@ pub fn evidence_word(file: Evidence) -> &'static str
     }
 }
 
-/// What is said of a section whose letters have this fault.
-fn log_words(alloc: Global, index: u32, fault: &LogFault) -> Result<String, Memory>
-    ensures { IfOk result (λ text. string_bytes text ≡ codes "Log " ++ (decimal index ++ (32 ∷ log_fault_words fault.now))) }
+/// A part, and nothing behind it.
+fn alone<'a>(part: Part<'a>) -> [Part<'a>; 3]
+    ensures { parts_text result ≡ part_text part.entry }
 {
-    let fault = log_fault_words(alloc, fault)?;
-    Ok(format!(in alloc; "Log {} {}", index, fault)?)
+    [part, Part::Nothing, Part::Nothing]
 }
 
-/// A broken rule by its variant's name and its fields: a place in bytes or an index in decimal, a coin, or a fault. It
-/// refuses only when out of memory.
+/// What the line of a broken rule says behind the word `fault`: `check`, the variant's name and its fields, which are a place in
+/// bytes or an index, a coin, or a fault.
 #[tactic(auto, unfolding(crate::specs::Words::check_fault_words))]
-pub fn check_fault_words(alloc: Global, fault: &CheckFault) -> Result<String, Memory>
-    ensures { IfOk result (λ text. string_bytes text ≡ check_fault_words fault.now) }
+pub fn broken_parts(fault: &CheckFault) -> [Part; 3]
+    ensures { parts_text result ≡ codes "check " ++ check_fault_words fault.now }
 {
     match fault {
-        CheckFault::Report(place) => Ok(format!(in alloc; "Report {}", *place)?),
+        CheckFault::Report(place) => alone(Part::Number("check Report ", *place)),
         CheckFault::Psbt(fault) => {
-            let fault = psbt_fault_words(alloc, fault)?;
-            Ok(format!(in alloc; "Psbt {}", fault)?)
+            let [first, second] = psbt_fault_parts(*fault);
+            [Part::Text("check Psbt "), first, second]
         }
-        CheckFault::Coin(coin) => {
-            let coin = coin_text(alloc, coin)?;
-            Ok(format!(in alloc; "Coin {}", coin)?)
-        }
-        CheckFault::Pays => Ok(format!(in alloc; "Pays")?),
-        CheckFault::LogForm(place) => Ok(format!(in alloc; "LogForm {}", *place)?),
-        CheckFault::Section(index) => Ok(format!(in alloc; "Section {}", *index)?),
-        CheckFault::Log(index, fault) => log_words(alloc, *index, fault),
-        CheckFault::Answer => Ok(format!(in alloc; "Answer")?),
-        CheckFault::Memory => Ok(format!(in alloc; "Memory")?),
+        CheckFault::Coin(coin) => alone(Part::Coin("check Coin ", coin)),
+        CheckFault::Pays => alone(Part::Text("check Pays")),
+        CheckFault::LogForm(place) => alone(Part::Number("check LogForm ", *place)),
+        CheckFault::Section(index) => alone(Part::Number("check Section ", u64::from(*index))),
+        CheckFault::Log(index, fault) => [
+            Part::Number("check Log ", u64::from(*index)),
+            Part::Text(" "),
+            log_fault_part(*fault),
+        ],
+        CheckFault::Answer => alone(Part::Text("check Answer")),
+        CheckFault::Memory => alone(Part::Text("check Memory")),
     }
 }
 

@@ -32,8 +32,7 @@ refused_read causes.ManyCoins is = absurd cc
 refused_read (causes.BadRequest fault) is = absurd cc
 
 answered_read : (told : Type 0) (words : List ℕ) (cause : FileCause) (old new : SinkView) (result : Status) → IsAnswered told words (status_of_file cause) old new result → result ≡ statuses.ReadFault → ⊥
-answered_read told words cause old new result (inl e) is = refused_read cause (sym is ∙ e.0)
-answered_read told words cause old new result (inr e) is = absurd (cc (e.0, is))
+answered_read told words cause old new result e is = refused_read cause (sym is ∙ e.0)
 
 -- what was asked for up to a file that wasn't read
 pub stopped_asks : (told_files told : Type 0) (s : Sources) (stop : Stop) (shelf shelf' : ShelfView) (sink sink' : SinkView) (result : Status) → StopsChain told_files s.wallet s.blocks shelf shelf' stop → IsStopped told s stop sink sink' result

@@ -31,14 +31,12 @@ refused_ends told_files told s (refusals.BadRequest fault) shelf shelf' sink sin
 
 -- by the stop and its line
 pub stop_ends : (told_files told : Type 0) (s : Sources) (stop : Stop) (shelf shelf' : ShelfView) (sink sink' : SinkView) (result : Status) → StopsChain told_files s.wallet s.blocks shelf shelf' stop → IsStopped told s stop sink sink' result → Ends told_files told s shelf shelf' sink sink' result
-stop_ends told_files told s (stops.Read Wallet) shelf shelf' sink sink' result h (inl a) = subst (λ (x : Status). Ends told_files told s shelf shelf' sink sink' x) (sym a.0) (Wallet, h.0, h.1, a.1)
-stop_ends told_files told s (stops.Read Blocks) shelf shelf' sink sink' result h (inl a) = subst (λ (x : Status). Ends told_files told s shelf shelf' sink sink' x) (sym a.0) (Blocks, h.0, h.1, a.1)
-stop_ends told_files told s (stops.Read Request) shelf shelf' sink sink' result h (inl a) = absurd h.0
-stop_ends told_files told s (stops.Read file) shelf shelf' sink sink' result h (inr w) = subst (λ (x : Status). Ends told_files told s shelf shelf' sink sink' x) (sym w.0) (inl w.1)
-stop_ends told_files told s (stops.Refused refusal) shelf shelf' sink sink' result h (inl a) =
+stop_ends told_files told s (stops.Read Wallet) shelf shelf' sink sink' result h a = subst (λ (x : Status). Ends told_files told s shelf shelf' sink sink' x) (sym a.0) (Wallet, h.0, h.1, a.1)
+stop_ends told_files told s (stops.Read Blocks) shelf shelf' sink sink' result h a = subst (λ (x : Status). Ends told_files told s shelf shelf' sink sink' x) (sym a.0) (Blocks, h.0, h.1, a.1)
+stop_ends told_files told s (stops.Read Request) shelf shelf' sink sink' result h a = absurd h.0
+stop_ends told_files told s (stops.Refused refusal) shelf shelf' sink sink' result h a =
     subst (λ (x : Status). Ends told_files told s shelf shelf' sink sink' x) (sym a.0)
     (refused_ends told_files told s refusal shelf shelf' sink sink' (λ t. (refused_due shelf.files s (cause_of refusal) (h t).meant, (h t).meant)) a.1)
-stop_ends told_files told s (stops.Refused refusal) shelf shelf' sink sink' result h (inr w) = subst (λ (x : Status). Ends told_files told s shelf shelf' sink sink' x) (sym w.0) (inl w.1)
 stop_ends told_files told s stops.Memory shelf shelf' sink sink' result h w = subst (λ (x : Status). Ends told_files told s shelf shelf' sink sink' x) (sym w.0) (inl w.1)
 
 -- no stop is told as a listing that is printed whole

@@ -4,9 +4,10 @@ ghost use Rattle.std.specs.Prelude.{◌≡◌, ◌≢◌, [], ◌∷◌, true, I
 ghost use Rattle.fund_base.specs.Causes.{Asks, CountsNeverFall, OnlyReads};
 ghost use Rattle.fund_files.specs.Cause.{FileCause};
 ghost use Rattle.fund_files.specs.FileStops.{IsWalletCause, StopsChain, is_of_wallet};
+ghost use Rattle.command_end.specs.Lines.{GotLine, fault_line};
 ghost use Rattle.command_end.specs.Names.{plain_sources};
 ghost use Rattle.command_end.specs.Printed.{TellsWhole, TookAll};
-ghost use Rattle.command_coins.specs.Answer.{IsStopped};
+ghost use Rattle.command_coins.specs.Answer.{IsStopped, stop_status, stop_words};
 ghost use Rattle.command_coins.specs.Due.{name_of};
 ghost use Rattle.command_coins.specs.Statuses.{AsksToUnread, Ends, IsListed};
 
@@ -44,15 +45,17 @@ fn name_of<'a>(sources: &Sources<'a>, file: File) -> &'a str
     }
 }
 
-/// Puts the line of a stop. That a read failed is never said to be want of memory.
-pub fn answer<O: Sink>(alloc: Global, sources: &Sources, stop: Stop, out: &mut O) -> Status
-    ensures line { IsStopped O.tells (plain_sources sources.now) stop (O.view out.old) (O.view out.new) result }
+/// Puts the line of a stop, and answers its status, without memory.
+pub fn answer<O: Sink>(sources: &Sources, stop: Stop, out: &mut O) -> Status
+    ensures is { result ≡ stop_status stop }
+    ensures line { O.tells → GotLine (fault_line (stop_words (plain_sources sources.now) stop)) (O.view out.old) (O.view out.new) }
+    ensures answered { IsStopped O.tells (plain_sources sources.now) stop (O.view out.old) (O.view out.new) result }
     ensures read { (file : File) → stop ≡ Stop.Read file → result ≡ Status.ReadFault }
     ensures counts { CountsNeverFall (O.view out.old) (O.view out.new) }
 {
     match stop {
-        Stop::Read(file) => refuse_read(alloc, name_of(sources, file), out),
-        Stop::Refused(refusal) => refuse_file(alloc, &refusal, out),
+        Stop::Read(file) => refuse_read(name_of(sources, file), out),
+        Stop::Refused(refusal) => refuse_file(&refusal, out),
         Stop::Memory => want_of_memory(out),
     }
 }
@@ -84,6 +87,6 @@ pub fn coins<H: Shelf, O: Sink>(
 {
     match listed(alloc, sources, shelf) {
         Ok(text) => put_report(text.as_bytes(), Status::Done, out),
-        Err(stop) => answer(alloc, sources, stop, out),
+        Err(stop) => answer(sources, stop, out),
     }
 }

@@ -26,6 +26,5 @@ pub stop_asks : (told_files told : Type 0) (s : Sources) (name : List ℕ) (stop
 stop_asks told_files told s name (stops.Chain stop) shelf shelf' sink sink' result h line a is = inl (stopped_asks told_files told s stop shelf shelf' sink sink' result h line a.0 a.1 is)
 stop_asks told_files told s name stops.Read shelf shelf' sink sink' result h line a is = inr (h.0, a)
 stop_asks told_files told s name stops.TooLong shelf shelf' sink sink' result h e a is = absurd (cc (e.0, is))
-stop_asks told_files told s name (stops.Refused refusal) shelf shelf' sink sink' result h (inl e) a is = absurd (cc (e.0, is))
-stop_asks told_files told s name (stops.Refused refusal) shelf shelf' sink sink' result h (inr e) a is = absurd (cc (e.0, is))
+stop_asks told_files told s name (stops.Refused refusal) shelf shelf' sink sink' result h e a is = absurd (cc (e.0, is))
 stop_asks told_files told s name stops.Memory shelf shelf' sink sink' result h e a is = absurd (cc (e.0, is))

@@ -60,20 +60,16 @@ module _ (told_files told : Type 0) (s : Sources) (name : List ℕ) (shelf shelf
 
   chain_ends : (stop : ChainStop) (result : Status) → chain_stops.StopsChain told_files s.wallet s.blocks shelf shelf' stop → chain_answers.IsStopped told s stop sink sink' result → EndsAs result
   unfolding EndsAs
-  chain_ends (chains.Read file) result h (inl a) = subst EndsAs (sym a.0) (inl (file, h.0, h.1, a.1))
-  chain_ends (chains.Read file) result h (inr w) = wanting_ends result w
-  chain_ends (chains.Refused refusal) result h (inl a) = subst EndsAs (sym a.0) (refused_ends refusal h a.1 (file_status (cause_of refusal)))
-  chain_ends (chains.Refused refusal) result h (inr w) = wanting_ends result w
+  chain_ends (chains.Read file) result h a = subst EndsAs (sym a.0) (inl (file, h.0, h.1, a.1))
+  chain_ends (chains.Refused refusal) result h a = subst EndsAs (sym a.0) (refused_ends refusal h a.1 (file_status (cause_of refusal)))
   chain_ends chains.Memory result h w = wanting_ends result w
 
   pub stop_ends : (stop : Stop) (result : Status) → StopsFor told_files s name shelf shelf' stop → IsStopped told s name stop sink sink' result → Ends told_files told s name shelf shelf' sink sink' result
   unfolding EndsAs
   stop_ends (stops.Chain stop) result h a = chain_ends stop result h a
-  stop_ends stops.Read result h (inl a) = subst EndsAs (sym a.0) (inr (h.0, h.1, a.1))
-  stop_ends stops.Read result h (inr w) = wanting_ends result w
+  stop_ends stops.Read result h a = subst EndsAs (sym a.0) (inr (h.0, h.1, a.1))
   stop_ends stops.TooLong result h a = subst EndsAs (sym a.0) (inr (h, a.1))
-  stop_ends (stops.Refused refusal) result h (inl a) = subst EndsAs (sym a.0) (inr (refusal, h, a.1))
-  stop_ends (stops.Refused refusal) result h (inr w) = wanting_ends result w
+  stop_ends (stops.Refused refusal) result h a = subst EndsAs (sym a.0) (inr (refusal, h, a.1))
   stop_ends stops.Memory result h w = wanting_ends result w
 
   -- ---- what is due

@@ -9,7 +9,7 @@ use Rattle.psbt_codec.specs.declared.psbt.Spent.{Spent}
 use Rattle.tx_codec.specs.Transaction.{Transaction}
 use Rattle.tx_codec.specs.declared.tx.TxIn.{TxIn}
 use Rattle.command_complete.specs.Completed.{IsCompleted, IsCompletedInput, Known, known_of}
-use Rattle.command_complete.specs.Faults.{IsFirstFault}
+use Rattle.command_complete.specs.Faults.{FirstCanBeCompleted, IsFirstFault}
 use Rattle.command_complete.specs.declared.fault.CompleteFault.{CompleteFault}
 
 abbrev Fits : Known → Type 0
@@ -30,3 +30,6 @@ module _ (p : PartialTransaction) (is : List TxIn) (ss : List Spent) (inputs : i
 
   pub first_of : (h : History) (e : CompleteFault) → IsFirstFault h (zip is ss) e → IsFirstFault h (known_of p) e
   first_of h e first = subst (λ (ks : List Known). IsFirstFault h ks e) known_is first
+
+  pub first_can_of : (h : History) → FirstCanBeCompleted h (zip is ss) → FirstCanBeCompleted h (known_of p)
+  first_can_of h first = subst (λ (ks : List Known). FirstCanBeCompleted h ks) known_is first

@@ -1,5 +1,5 @@
 -- What keeps a PSBT from being made whole.
-use Rattle.std.specs.Prelude.{ℕ, ◌≡◌, ◌≢◌, List, ◌∷◌, ◌++◌, length, All, slice_get, Some, None}
+use Rattle.std.specs.Prelude.{ℕ, ◌≡◌, ◌≢◌, List, [], ◌∷◌, ◌++◌, length, All, slice_get, Some, None}
 use Rattle.coin_book.specs.History.{History}
 use Rattle.psbt_codec.specs.declared.psbt.Spent.{Spent}
 use Rattle.tx_codec.specs.Transaction.{Transaction}
@@ -26,6 +26,11 @@ IsInputFault h n k Memory = ⊥
 -- nothing is wrong with it
 abbrev pub CanBeCompleted : History → Known → Type 0
 CanBeCompleted h k = (s : Spent) × IsCompletedInput h k s
+
+-- nothing is wrong with the first of these inputs, where there is one
+abbrev pub FirstCanBeCompleted : History → List Known → Type 0
+FirstCanBeCompleted h [] = Unit {0}
+FirstCanBeCompleted h (k ∷ ks) = CanBeCompleted h k
 
 -- this is wrong with the first of these inputs with which something is
 pub record IsFirstFault (h : History) (known : List Known) (fault : CompleteFault) : Type 0 where

@@ -7,8 +7,7 @@ use Rattle.fund_base.specs.Causes.{SinkView}
 use Rattle.command_complete.specs.declared.fault.CompleteFault.{CompleteFault}
 use Rattle.command_complete.specs.declared.fault.CompleteFault.TheVariants.{Missing, OtherOutput, Memory}
 use Rattle.command_coins.specs.Answer as chains
-use Rattle.command_end.specs.AnswerLines.{IsAnswered, IsWanting}
-use Rattle.command_end.specs.Lines.{GotLine, fault_line}
+use Rattle.command_end.specs.AnswerLines.{IsAnswered}
 use Rattle.command_end.specs.Names.{Sources}
 use Rattle.command_end.specs.declared.status.Status.{Status}
 use Rattle.command_end.specs.declared.status.Status.TheVariants as statuses
@@ -29,10 +28,22 @@ refusal_words (refusals.Psbt fault) = codes "input psbt " ++ psbt_fault_words fa
 refusal_words refusals.OtherPairs = codes "input psbt OtherPairs"
 refusal_words (refusals.Input fault) = codes "input psbt " ++ input_fault_words fault
 
--- the answer to a stop
+-- the status of a stop
+abbrev pub stop_status : Stop → Status
+stop_status (stops.Chain stop) = chains.stop_status stop
+stop_status stops.Read = statuses.ReadFault
+stop_status stops.TooLong = statuses.Limit
+stop_status (stops.Refused refusal) = statuses.Input
+stop_status stops.Memory = statuses.Memory
+
+-- what the line of a stop says behind the word fault
+abbrev pub stop_words : Sources → (name : List ℕ) → Stop → List ℕ
+stop_words s name (stops.Chain stop) = chains.stop_words s stop
+stop_words s name stops.Read = codes "read " ++ name
+stop_words s name stops.TooLong = codes "limit psbt"
+stop_words s name (stops.Refused refusal) = refusal_words refusal
+stop_words s name stops.Memory = codes "memory"
+
+-- the answer to a stop: its status, with its line
 abbrev pub IsStopped : Type 0 → Sources → (name : List ℕ) → Stop → SinkView → SinkView → Status → Type 0
-IsStopped told s name (stops.Chain stop) old new result = chains.IsStopped told s stop old new result
-IsStopped told s name stops.Read old new result = IsAnswered told (codes "read " ++ name) statuses.ReadFault old new result
-IsStopped told s name stops.TooLong old new result = (result ≡ statuses.Limit) × (told → GotLine (fault_line (codes "limit psbt")) old new)
-IsStopped told s name (stops.Refused refusal) old new result = IsAnswered told (refusal_words refusal) statuses.Input old new result
-IsStopped told s name stops.Memory old new result = IsWanting told old new result
+IsStopped told s name stop old new result = IsAnswered told (stop_words s name stop) (stop_status stop) old new result

@@ -37,7 +37,7 @@ fn printed<H: Shelf, O: Sink>(
 {
     match completed(alloc, sources, psbt, shelf) {
         Ok(text) => put_report(&text, Status::Done, out),
-        Err(stop) => answer(alloc, sources, psbt, stop, out),
+        Err(stop) => answer(sources, psbt, stop, out),
     }
 }
 

@@ -1,11 +1,11 @@
 //! A PSBT made whole.
 
-ghost use Rattle.std.specs.Prelude.{◌≡◌, ◌≢◌, All, IfErr, IfOk, length};
+ghost use Rattle.std.specs.Prelude.{◌≡◌, ◌≢◌, All, Err, IfErr, IfOk, length};
 ghost use Rattle.std.specs.List.{AllZip, zip};
 ghost use Rattle.fund_files.specs.Chain.{HasTexts};
 ghost use Rattle.psbt_codec.specs.Psbt.{IsPsbt, IsSpent};
 ghost use Rattle.command_complete.specs.Completed.{IsCompleted, IsCompletedInput, Known, known_of};
-ghost use Rattle.command_complete.specs.Faults.{IsFirstFault};
+ghost use Rattle.command_complete.specs.Faults.{FirstCanBeCompleted, IsFirstFault};
 
 use crate::fault::CompleteFault;
 use crate::input::completed_input;
@@ -27,6 +27,7 @@ fn completed_inputs(
     requires fit { All (λ (k : Known). IsSpent k.0 k.1) (zip inputs.now spent.now) }
     ensures completed { IfOk result (λ v. AllZip (IsCompletedInput book.now) (zip inputs.now spent.now) v.items) }
     ensures fault { IfErr result (λ e. e ≢ CompleteFault.Memory → IsFirstFault book.now (zip inputs.now spent.now) e) }
+    ensures memory { result ≡ Err CompleteFault.Memory → FirstCanBeCompleted book.now (zip inputs.now spent.now) }
 {
     let mut completed = Vec::new(alloc);
     'completing: for i in 0..inputs.len() {
@@ -49,8 +50,10 @@ pub fn complete_psbt(alloc: Global, book: &Book, psbt: &Psbt) -> Result<Psbt, Co
     // It is the same but for the whole transactions, and a PSBT.
     ensures completed { IfOk result (λ q. IsCompleted book.now psbt.now q) }
     ensures psbt { IfOk result IsPsbt }
-    // What is wrong with the first input with which something is. Out of memory may come in its place.
+    // What is wrong with the first input with which something is. Out of memory may come in its place, but never in that of
+    // what is wrong with the first of all inputs.
     ensures fault { IfErr result (λ e. e ≢ CompleteFault.Memory → IsFirstFault book.now (known_of psbt.now) e) }
+    ensures memory { result ≡ Err CompleteFault.Memory → FirstCanBeCompleted book.now (known_of psbt.now) }
 {
     completions_are_psbts();
     let spent = completed_inputs(alloc, book, &psbt.tx.inputs, &psbt.spent)?;

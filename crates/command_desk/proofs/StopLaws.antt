@@ -85,10 +85,8 @@ module _ (told_files told : Type 0) (s : Sources) (script : List ℕ) (shelf she
 
   chain_ends : (stop : reads.Stop) (result : Status) → StopsFor told_files s script shelf shelf' (stops.Chain stop) → listings.IsStopped told s stop sink sink' result → EndsAs result
   unfolding EndsAs
-  chain_ends (reading.Read file) result h (inl a) = subst EndsAs (sym a.0) (inl (inl (file, h.0.0, h.0.1, h.1, a.1)))
-  chain_ends (reading.Read file) result h (inr w) = wanting_ends result w
-  chain_ends (reading.Refused refusal) result h (inl a) = subst EndsAs (sym a.0) (refused_ends refusal h.0 a.1)
-  chain_ends (reading.Refused refusal) result h (inr w) = wanting_ends result w
+  chain_ends (reading.Read file) result h a = subst EndsAs (sym a.0) (inl (inl (file, h.0.0, h.0.1, h.1, a.1)))
+  chain_ends (reading.Refused refusal) result h a = subst EndsAs (sym a.0) (refused_ends refusal h.0 a.1)
   chain_ends reading.Memory result h w = wanting_ends result w
 
   pub stop_ends : (stop : Stop) (result : Status) → StopsFor told_files s script shelf shelf' stop → IsStopped told s script stop sink sink' result → Ends told_files told s script shelf shelf' sink sink' result

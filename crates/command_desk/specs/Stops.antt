@@ -8,8 +8,7 @@ use Rattle.fund_files.specs.declared.stop.Stop as files
 use Rattle.fund_files.specs.declared.stop.Stop.TheVariants as chains
 use Rattle.command_coins.specs.Answer as listings
 use Rattle.command_coins.specs.Statuses.{names_to}
-use Rattle.command_end.specs.AnswerLines.{IsWanting}
-use Rattle.command_end.specs.Lines.{GotLine, fault_line}
+use Rattle.command_end.specs.AnswerLines.{IsAnswered}
 use Rattle.command_end.specs.Names.{Sources}
 use Rattle.command_end.specs.declared.status.Status.{Status}
 use Rattle.command_end.specs.declared.status.Status.TheVariants as statuses
@@ -44,9 +43,20 @@ StopsFor told s script old new stops.Unread = Rose (old.reads script) (new.reads
 StopsFor told s script old new stops.TooLong = told → IsScriptLong old.files s script
 StopsFor told s script old new stops.Memory = Unit {0}
 
--- the answer to a stop
+-- the status of a stop
+abbrev pub stop_status : Stop → Status
+stop_status (stops.Chain stop) = listings.stop_status stop
+stop_status stops.Unread = statuses.ReadFault
+stop_status stops.TooLong = statuses.Limit
+stop_status stops.Memory = statuses.Memory
+
+-- what the line of a stop says behind the word fault
+abbrev pub stop_words : Sources → (script : List ℕ) → Stop → List ℕ
+stop_words s script (stops.Chain stop) = listings.stop_words s stop
+stop_words s script stops.Unread = codes "read " ++ script
+stop_words s script stops.TooLong = codes "limit script"
+stop_words s script stops.Memory = codes "memory"
+
+-- the answer to a stop: its status, with its line
 abbrev pub IsStopped : Type 0 → Sources → (script : List ℕ) → Stop → SinkView → SinkView → Status → Type 0
-IsStopped told s script (stops.Chain stop) old new result = listings.IsStopped told s stop old new result
-IsStopped told s script stops.Unread old new result = (result ≡ statuses.ReadFault) × (told → GotLine (fault_line (codes "read " ++ script)) old new)
-IsStopped told s script stops.TooLong old new result = (result ≡ statuses.Limit) × (told → GotLine (fault_line (codes "limit script")) old new)
-IsStopped told s script stops.Memory old new result = IsWanting told old new result
+IsStopped told s script stop old new result = IsAnswered told (stop_words s script stop) (stop_status stop) old new result

@@ -34,7 +34,7 @@ fn run_desk<H: Shelf, O: Sink>(
 {
     match read_start(alloc, sources, script, shelf) {
         Ok(Start { mut desk, text }) => run_lines(alloc, &mut desk, &text, shelf, out),
-        Err(stop) => answer(alloc, sources, script, stop, out),
+        Err(stop) => answer(sources, script, stop, out),
     }
 }
 

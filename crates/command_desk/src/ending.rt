@@ -11,7 +11,6 @@ use crate::halt::Halt;
 use crate::line::Line;
 use command_end::{Status, put_line, refuse_read, want_of_memory};
 use fund_base::Sink;
-use std::alloc::Global;
 
 /// The status of a line that isn't done.
 fn status_of(halt: Halt) -> Status
@@ -57,13 +56,13 @@ fn refuse_length<O: Sink>(line: &Line, out: &mut O) -> Status
 }
 
 /// Ends at the first line of the script, with its fault line, unless it is the sink that failed.
-fn end_first<O: Sink>(alloc: Global, line: &Line, halt: Halt, out: &mut O) -> Status
+fn end_first<O: Sink>(line: &Line, halt: Halt, out: &mut O) -> Status
     ensures ends { EndsFirst O.tells (plain_line line.now) halt (O.view out.old) (O.view out.new) result }
     ensures read { halt ≡ Halt.Unread → result ≡ Status.ReadFault }
     ensures counts { CountsNeverFall (O.view out.old) (O.view out.new) }
 {
     match halt {
-        Halt::Unread => refuse_read(alloc, file_name(line), out),
+        Halt::Unread => refuse_read(file_name(line), out),
         Halt::TooLong => refuse_length(line, out),
         Halt::Unwritten => Status::WriteFault,
         Halt::Full => Status::Memory,
@@ -73,19 +72,13 @@ fn end_first<O: Sink>(alloc: Global, line: &Line, halt: Halt, out: &mut O) -> St
 
 /// Ends at a line, with its fault line where it is the first of the script. That a read failed is never said to be want of
 /// memory.
-pub fn end_at<O: Sink>(
-    alloc: Global,
-    line: &Line,
-    halt: Halt,
-    is_first: bool,
-    out: &mut O,
-) -> Status
+pub fn end_at<O: Sink>(line: &Line, halt: Halt, is_first: bool, out: &mut O) -> Status
     ensures ends { EndsAt O.tells (plain_line line.now) halt is_first (O.view out.old) (O.view out.new) result }
     ensures read { halt ≡ Halt.Unread → result ≡ Status.ReadFault }
     ensures counts { CountsNeverFall (O.view out.old) (O.view out.new) }
 {
     if is_first {
-        end_first(alloc, line, halt, out)
+        end_first(line, halt, out)
     } else {
         status_of(halt)
     }

@@ -8,7 +8,9 @@ use crate::line::Line;
 use base64::engine::general_purpose::STANDARD;
 use closing_log::Worded;
 use coin_book::BookFault;
-use command_end::{coin_text, feed_fault_words, request_fault_words, shown_hash, tx_fault_words};
+use command_end::{
+    coin_text, feed_fault_parts, request_fault_parts, shown_hash, tx_fault_part, words_of,
+};
 use desk_machine::{Refusal, Reply};
 use fund_base::Memory;
 use fund_steps::PlanFault;
@@ -49,13 +51,13 @@ fn refusal_words(alloc: Global, refusal: &Refusal) -> Result<String, Memory>
     ensures { IfOk result (λ text. string_bytes text ≡ refusal_words refusal.now) }
 {
     match refusal {
-        Refusal::Request(fault) => request_fault_words(alloc, fault),
+        Refusal::Request(fault) => words_of(alloc, &request_fault_parts(fault)),
         Refusal::Bump => Ok(format!(in alloc; "bump")?),
         Refusal::Plan(fault) => plan_words(alloc, fault),
-        Refusal::Feed(fault) => feed_fault_words(alloc, fault),
+        Refusal::Feed(fault) => words_of(alloc, &feed_fault_parts(fault)),
         Refusal::Book(fault) => book_words(alloc, fault),
         Refusal::Kind => Ok(format!(in alloc; "Kind")?),
-        Refusal::Tx(fault) => tx_fault_words(alloc, fault),
+        Refusal::Tx(fault) => words_of(alloc, &[tx_fault_part(*fault)]),
         Refusal::Repeat => Ok(format!(in alloc; "Repeat")?),
         Refusal::ParentLater => Ok(format!(in alloc; "ParentLater")?),
     }

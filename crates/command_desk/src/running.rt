@@ -38,7 +38,7 @@ pub fn run_lines<H: Shelf, O: Sink>(
         let (words, behind) = next_line(rest);
         let line = parse(words);
         if let Err(halt) = do_line(alloc, desk, &line, shelf, out) {
-            return end_at(alloc, &line, halt, is_first, out);
+            return end_at(&line, halt, is_first, out);
         }
         rest = behind;
         is_first = false;

@@ -1,4 +1,4 @@
 pub mod CoinLaws
 pub mod NameLaws
-pub mod PartsLaws
+pub mod PutLaws
 pub mod WholeLaws

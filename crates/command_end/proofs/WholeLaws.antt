@@ -1,5 +1,5 @@
 -- A status that tells what is printed whole: what it says of the sink, and that no stop has one.
-use Rattle.std.proofs.Common.{◌≡◌, ℕ, List, inl, inr, subst, ◌∙◌}
+use Rattle.std.proofs.Common.{◌≡◌, ℕ, List, subst, ◌∙◌}
 use Rattle.std.specs.Prelude.{◌≢◌}
 use Rattle.fund_base.specs.Causes.{SinkView}
 use Rattle.fund_files.specs.Cause as causes
@@ -22,8 +22,7 @@ pub wanting_stops : (told : Type 0) (sink sink' : SinkView) (result : Status) �
 wanting_stops told sink sink' result w whole = subst TellsWhole w.0 whole
 
 pub answered_stops : (told : Type 0) (words : List ℕ) (status : Status) (sink sink' : SinkView) (result : Status) → (TellsWhole status → ⊥) → IsAnswered told words status sink sink' result → TellsWhole result → ⊥
-answered_stops told words status sink sink' result stops (inl a) whole = stops (subst TellsWhole a.0 whole)
-answered_stops told words status sink sink' result stops (inr w) whole = subst TellsWhole w.0 whole
+answered_stops told words status sink sink' result stops a whole = stops (subst TellsWhole a.0 whole)
 
 pub file_stops : (cause : FileCause) → TellsWhole (status_of_file cause) → ⊥
 file_stops (causes.TooLong file) whole = whole

@@ -1,14 +1,14 @@
 -- How a command that stops is answered.
-use Rattle.std.specs.Prelude.{ℕ, ◌≡◌, ◌⊎◌, List, codes}
+use Rattle.std.specs.Prelude.{ℕ, ◌≡◌, List, codes}
 use Rattle.fund_base.specs.Causes.{SinkView}
 use Rattle.command_end.specs.declared.status.Status.{Status}
 use Rattle.command_end.specs.declared.status.Status.TheVariants as statuses
 use Rattle.command_end.specs.Lines.{GotLine, fault_line}
 
+-- this status, with the line of these words
+abbrev pub IsAnswered : Type 0 → List ℕ → Status → SinkView → SinkView → Status → Type 0
+IsAnswered told words status old new result = (result ≡ status) × (told → GotLine (fault_line words) old new)
+
 -- the status of want of memory, with its line
 abbrev pub IsWanting : Type 0 → SinkView → SinkView → Status → Type 0
-IsWanting told old new result = (result ≡ statuses.Memory) × (told → GotLine (fault_line (codes "memory")) old new)
-
--- this status, with the line of these words, or want of memory
-abbrev pub IsAnswered : Type 0 → List ℕ → Status → SinkView → SinkView → Status → Type 0
-IsAnswered told words status old new result = ((result ≡ status) × (told → GotLine (fault_line words) old new)) ⊎ IsWanting told old new result
+IsWanting told old new result = IsAnswered told (codes "memory") statuses.Memory old new result

@@ -4,6 +4,8 @@ pub mod Lines
 pub mod LinesText
 pub mod Name
 pub mod Names
+pub mod Parts
 pub mod Printed
+pub mod Puts
 pub mod StatusCode
 pub mod Words

@@ -65,29 +65,29 @@ address_fault_words addresses.Memory = codes "Memory"
 -- a fault of a wallet file
 unfoldable pub wallet_fault_words : WalletFault → List ℕ
 wallet_fault_words wallets.NotJson = codes "NotJson"
-wallet_fault_words (wallets.Kind name) = codes "Kind " ++ shown_name (string_bytes name)
+wallet_fault_words (wallets.Kind name) = codes "Kind " ++ shown_name name
 wallet_fault_words (wallets.Member name) = codes "Member " ++ shown_name (string_bytes name)
-wallet_fault_words (wallets.Missing name) = codes "Missing " ++ shown_name (string_bytes name)
+wallet_fault_words (wallets.Missing name) = codes "Missing " ++ shown_name name
 wallet_fault_words (wallets.Script index) = codes "Script " ++ decimal index
 wallet_fault_words (wallets.Weight index) = codes "Weight " ++ decimal index
-wallet_fault_words (wallets.Tx list index fault) = codes "Tx " ++ (shown_name (string_bytes list) ++ (32 ∷ decimal index ++ (32 ∷ tx_fault_words fault)))
-wallet_fault_words (wallets.Repeat list index) = codes "Repeat " ++ (shown_name (string_bytes list) ++ (32 ∷ decimal index))
+wallet_fault_words (wallets.Tx list index fault) = codes "Tx " ++ (shown_name list ++ (32 ∷ decimal index ++ (32 ∷ tx_fault_words fault)))
+wallet_fault_words (wallets.Repeat list index) = codes "Repeat " ++ (shown_name list ++ (32 ∷ decimal index))
 wallet_fault_words (wallets.ParentLater index) = codes "ParentLater " ++ decimal index
 wallet_fault_words wallets.Memory = codes "Memory"
 
 -- a fault of a request file
 unfoldable pub request_fault_words : RequestFault → List ℕ
 request_fault_words requests.NotJson = codes "NotJson"
-request_fault_words (requests.Kind name) = codes "Kind " ++ shown_name (string_bytes name)
+request_fault_words (requests.Kind name) = codes "Kind " ++ shown_name name
 request_fault_words (requests.Member name) = codes "Member " ++ shown_name (string_bytes name)
-request_fault_words (requests.Missing name) = codes "Missing " ++ shown_name (string_bytes name)
+request_fault_words (requests.Missing name) = codes "Missing " ++ shown_name name
 request_fault_words (requests.Address index fault) = codes "Address " ++ (decimal index ++ (32 ∷ address_fault_words fault))
 request_fault_words (requests.Script index) = codes "Script " ++ decimal index
 request_fault_words (requests.AmountRange index) = codes "AmountRange " ++ decimal index
 request_fault_words (requests.Dust index) = codes "Dust " ++ decimal index
 request_fault_words requests.SumRange = codes "SumRange"
 request_fault_words requests.NoRecipients = codes "NoRecipients"
-request_fault_words (requests.RateRange name) = codes "RateRange " ++ shown_name (string_bytes name)
+request_fault_words (requests.RateRange name) = codes "RateRange " ++ shown_name name
 request_fault_words requests.TriesRange = codes "TriesRange"
 request_fault_words (requests.Repeat index) = codes "Repeat " ++ decimal index
 request_fault_words requests.Memory = codes "Memory"

@@ -1,7 +1,7 @@
 //! How a name is shown that a file gives.
 
 ghost use Rattle.std.specs.Prelude.{◌≡◌, ◌++◌, IfOk, OnOk, string_bytes};
-ghost use Rattle.command_end.specs.Name.{shown_byte, shown_name};
+ghost use Rattle.command_end.specs.Name.{shown_byte, shown_name, stands_plain};
 
 use fund_base::Memory;
 use std::alloc::Global;
@@ -20,11 +20,18 @@ pub fn shown_name(alloc: Global, name: &str) -> Result<String, Memory>
     Ok(text)
 }
 
+/// Whether a byte stands as it is in a name that is shown: it is printable ASCII without the blank, and no backslash.
+pub(crate) fn stands_plain(byte: u8) -> bool
+    ensures { result ≡ stands_plain byte }
+{
+    byte.is_ascii_graphic() && byte != b'\\'
+}
+
 /// Puts one byte of a name after the text.
 fn push_shown(alloc: Global, text: &mut String, byte: u8) -> Result<(), Memory>
     ensures { OnOk result (string_bytes text.new ≡ string_bytes text.old ++ shown_byte byte) }
 {
-    if byte.is_ascii_graphic() && byte != b'\\' {
+    if stands_plain(byte) {
         text.push(byte as char)?;
         return Ok(());
     }

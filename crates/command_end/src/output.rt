@@ -1,15 +1,16 @@
 //! What a command prints and writes.
 
-ghost use Rattle.std.specs.Prelude.{◌≡◌, ◌≢◌, ◌⊎◌, ◌++◌, codes, IfOk, string_bytes};
+ghost use Rattle.std.specs.Prelude.{◌≡◌, ◌≢◌, ◌⊎◌, ◌++◌, codes};
 ghost use Rattle.fund_base.specs.Causes.{CountsNeverFall, NeverFall, SameElsewhere};
 ghost use Rattle.command_end.specs.AnswerLines.{IsAnswered};
 ghost use Rattle.command_end.specs.Lines.{GotLine, fault_line};
+ghost use Rattle.command_end.specs.Parts.{parts_text};
 ghost use Rattle.command_end.specs.Printed.{IsEnd, IsPut, IsUnwritten, IsWithoutMemory, TookAll};
 
-use crate::named::put_named;
+use crate::parts::{Part, named};
+use crate::putting::put_words;
 use crate::status::Status;
-use fund_base::{Fault, Memory, Shelf, Sink, put_all};
-use std::alloc::Global;
+use fund_base::{Fault, Shelf, Sink, put_all};
 
 /// The line of want of memory.
 const MEMORY_LINE: &[u8] = b"fault memory\n";
@@ -23,13 +24,6 @@ pub fn put_line<O: Sink>(line: &[u8], out: &mut O)
     ensures counts { CountsNeverFall (O.view out.old) (O.view out.new) }
 {
     let _ = put_all(out, line);
-}
-
-/// The fault line of these words.
-fn fault_line(alloc: Global, words: &str) -> Result<String, Memory>
-    ensures { IfOk result (λ text. string_bytes text ≡ fault_line words.now) }
-{
-    Ok(format!(in alloc; "fault {}\n", words)?)
 }
 
 /// Puts the line of want of memory.
@@ -52,28 +46,25 @@ pub fn refuse_keep<O: Sink>(out: &mut O) -> Status
     Status::KeepFault
 }
 
-/// Puts the fault line of these words, and answers the status; or that of want of memory.
-pub fn put_fault<O: Sink>(alloc: Global, words: &str, status: Status, out: &mut O) -> Status
-    ensures line { IsAnswered O.tells words.now status (O.view out.old) (O.view out.new) result }
+/// Puts the fault line of these words, and answers the status. It takes no memory, so that what is known isn't told as want of
+/// memory.
+pub fn put_fault<O: Sink>(words: &[Part], status: Status, out: &mut O) -> Status
+    ensures is { result ≡ status }
+    ensures line { O.tells → GotLine (fault_line (parts_text words.now)) (O.view out.old) (O.view out.new) }
+    ensures answered { IsAnswered O.tells (parts_text words.now) status (O.view out.old) (O.view out.new) result }
     ensures counts { CountsNeverFall (O.view out.old) (O.view out.new) }
 {
-    match fault_line(alloc, words) {
-        Ok(text) => {
-            put_line(text.as_bytes(), out);
-            status
-        }
-        Err(Memory) => want_of_memory(out),
-    }
+    let _ = put_words(words, out);
+    status
 }
 
-/// Puts the line of a log that wasn't written. It is never said to be want of memory.
-fn refuse_write<O: Sink>(alloc: Global, log: &str, out: &mut O) -> Status
+/// Puts the line of a log that wasn't written.
+fn refuse_write<O: Sink>(log: &str, out: &mut O) -> Status
     ensures is { result ≡ Status.WriteFault }
     ensures line { O.tells → GotLine (fault_line (codes "write " ++ log.now)) (O.view out.old) (O.view out.new) }
     ensures counts { CountsNeverFall (O.view out.old) (O.view out.new) }
 {
-    put_named(alloc, "fault write ", log, out);
-    Status::WriteFault
+    put_fault(&named("write ", log), Status::WriteFault, out)
 }
 
 /// Puts the report or the listing, and answers the status, or that of a sink that failed or found no memory. A put that
@@ -92,7 +83,6 @@ pub fn put_report<O: Sink>(report: &[u8], status: Status, out: &mut O) -> Status
 
 /// Makes `text` the log, which is the file `log`, and then puts the report.
 pub fn finish<H: Shelf, O: Sink>(
-    alloc: Global,
     log: &str,
     text: &[u8],
     report: &[u8],
@@ -124,7 +114,7 @@ pub fn finish<H: Shelf, O: Sink>(
 {
     match shelf.write_file(log, text) {
         Ok(()) => put_report(report, status, out),
-        Err(Fault::Failed) => refuse_write(alloc, log, out),
+        Err(Fault::Failed) => refuse_write(log, out),
         Err(Fault::Memory) => want_of_memory(out),
     }
 }

@@ -1,35 +1,32 @@
 //! The words of a PSBT's faults.
 
-ghost use Rattle.std.specs.Prelude.{◌≡◌, IfOk, string_bytes};
+ghost use Rattle.std.specs.Prelude.{◌≡◌};
+ghost use Rattle.command_end.specs.Parts.{parts_text};
 ghost use Rattle.command_end.specs.Words.{psbt_fault_words};
 
-use crate::transaction_words::tx_fault_words;
-use fund_base::Memory;
+use crate::parts::Part;
+use crate::transaction_words::tx_fault_part;
 use psbt_codec::PsbtFault;
-use std::alloc::Global;
 
 /// A fault of a PSBT by its variant's name, and its field: a place in bytes, a version, an input's index, or the fault of
-/// the unsigned transaction. It refuses only when out of memory.
+/// the unsigned transaction.
 #[tactic(auto, unfolding(crate::specs::Words::psbt_fault_words))]
-pub fn psbt_fault_words(alloc: Global, fault: &PsbtFault) -> Result<String, Memory>
-    ensures { IfOk result (λ text. string_bytes text ≡ psbt_fault_words fault.now) }
+pub fn psbt_fault_parts<'a>(fault: PsbtFault) -> [Part<'a>; 2]
+    ensures { parts_text result ≡ psbt_fault_words fault }
 {
     match fault {
-        PsbtFault::Magic => Ok(format!(in alloc; "Magic")?),
-        PsbtFault::Truncated(place) => Ok(format!(in alloc; "Truncated {}", *place)?),
-        PsbtFault::LongCompact(place) => Ok(format!(in alloc; "LongCompact {}", *place)?),
-        PsbtFault::RepeatKey(place) => Ok(format!(in alloc; "RepeatKey {}", *place)?),
-        PsbtFault::NoUnsigned => Ok(format!(in alloc; "NoUnsigned")?),
-        PsbtFault::Unsigned(fault) => {
-            let fault = tx_fault_words(alloc, fault)?;
-            Ok(format!(in alloc; "Unsigned {}", fault)?)
-        }
-        PsbtFault::NotBare => Ok(format!(in alloc; "NotBare")?),
-        PsbtFault::Field(place) => Ok(format!(in alloc; "Field {}", *place)?),
-        PsbtFault::Version(version) => Ok(format!(in alloc; "Version {}", *version)?),
-        PsbtFault::WrongParent(input) => Ok(format!(in alloc; "WrongParent {}", *input)?),
-        PsbtFault::Trailing(place) => Ok(format!(in alloc; "Trailing {}", *place)?),
-        PsbtFault::NotBase64 => Ok(format!(in alloc; "NotBase64")?),
-        PsbtFault::Memory => Ok(format!(in alloc; "Memory")?),
+        PsbtFault::Magic => [Part::Text("Magic"), Part::Nothing],
+        PsbtFault::Truncated(place) => [Part::Number("Truncated ", place), Part::Nothing],
+        PsbtFault::LongCompact(place) => [Part::Number("LongCompact ", place), Part::Nothing],
+        PsbtFault::RepeatKey(place) => [Part::Number("RepeatKey ", place), Part::Nothing],
+        PsbtFault::NoUnsigned => [Part::Text("NoUnsigned"), Part::Nothing],
+        PsbtFault::Unsigned(fault) => [Part::Text("Unsigned "), tx_fault_part(fault)],
+        PsbtFault::NotBare => [Part::Text("NotBare"), Part::Nothing],
+        PsbtFault::Field(place) => [Part::Number("Field ", place), Part::Nothing],
+        PsbtFault::Version(n) => [Part::Number("Version ", u64::from(n)), Part::Nothing],
+        PsbtFault::WrongParent(n) => [Part::Number("WrongParent ", u64::from(n)), Part::Nothing],
+        PsbtFault::Trailing(place) => [Part::Number("Trailing ", place), Part::Nothing],
+        PsbtFault::NotBase64 => [Part::Text("NotBase64"), Part::Nothing],
+        PsbtFault::Memory => [Part::Text("Memory"), Part::Nothing],
     }
 }

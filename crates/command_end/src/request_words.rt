@@ -1,49 +1,38 @@
 //! The words of a request file's faults.
 
-ghost use Rattle.std.specs.Prelude.{◌≡◌, IfOk, string_bytes};
+ghost use Rattle.std.specs.Prelude.{◌≡◌};
+ghost use Rattle.command_end.specs.Parts.{parts_text};
 ghost use Rattle.command_end.specs.Words.{request_fault_words};
 
-use crate::address_words::address_fault_words;
-use crate::name_words::shown_name;
-use fund_base::Memory;
+use crate::address_words::address_fault_word;
+use crate::parts::{Part, alone, fixed};
 use request_text::RequestFault;
-use std::alloc::Global;
 
-/// A fault of a request file by its variant's name, and its fields: names as they are shown, an index in
-/// decimal, an address's fault by its name. It refuses only when out of memory.
+/// A fault of a request file by its variant's name, and its fields: names as they are shown, an index, an address's fault by
+/// its name.
 #[tactic(auto, unfolding(crate::specs::Words::request_fault_words))]
-pub fn request_fault_words(alloc: Global, fault: &RequestFault) -> Result<String, Memory>
-    ensures { IfOk result (λ text. string_bytes text ≡ request_fault_words fault.now) }
+pub fn request_fault_parts(fault: &RequestFault) -> [Part; 4]
+    ensures { parts_text result ≡ request_fault_words fault.now }
 {
     match fault {
-        RequestFault::NotJson => Ok(format!(in alloc; "NotJson")?),
-        RequestFault::Kind(name) => {
-            let name = shown_name(alloc, name.as_str())?;
-            Ok(format!(in alloc; "Kind {}", name)?)
-        }
-        RequestFault::Member(name) => {
-            let name = shown_name(alloc, name.as_str())?;
-            Ok(format!(in alloc; "Member {}", name)?)
-        }
-        RequestFault::Missing(name) => {
-            let name = shown_name(alloc, name.as_str())?;
-            Ok(format!(in alloc; "Missing {}", name)?)
-        }
-        RequestFault::Address(index, fault) => {
-            let fault = address_fault_words(alloc, fault)?;
-            Ok(format!(in alloc; "Address {} {}", *index, fault)?)
-        }
-        RequestFault::Script(index) => Ok(format!(in alloc; "Script {}", *index)?),
-        RequestFault::AmountRange(index) => Ok(format!(in alloc; "AmountRange {}", *index)?),
-        RequestFault::Dust(index) => Ok(format!(in alloc; "Dust {}", *index)?),
-        RequestFault::SumRange => Ok(format!(in alloc; "SumRange")?),
-        RequestFault::NoRecipients => Ok(format!(in alloc; "NoRecipients")?),
-        RequestFault::RateRange(name) => {
-            let name = shown_name(alloc, name.as_str())?;
-            Ok(format!(in alloc; "RateRange {}", name)?)
-        }
-        RequestFault::TriesRange => Ok(format!(in alloc; "TriesRange")?),
-        RequestFault::Repeat(index) => Ok(format!(in alloc; "Repeat {}", *index)?),
-        RequestFault::Memory => Ok(format!(in alloc; "Memory")?),
+        RequestFault::NotJson => alone(Part::Text("NotJson")),
+        RequestFault::Kind(name) => alone(fixed("Kind ", name)),
+        RequestFault::Member(name) => alone(Part::Name("Member ", name.as_str())),
+        RequestFault::Missing(name) => alone(fixed("Missing ", name)),
+        RequestFault::Address(index, fault) => [
+            Part::Number("Address ", u64::from(*index)),
+            Part::Text(" "),
+            Part::Text(address_fault_word(*fault)),
+            Part::Nothing,
+        ],
+        RequestFault::Script(index) => alone(Part::Number("Script ", u64::from(*index))),
+        RequestFault::AmountRange(index) => alone(Part::Number("AmountRange ", u64::from(*index))),
+        RequestFault::Dust(index) => alone(Part::Number("Dust ", u64::from(*index))),
+        RequestFault::SumRange => alone(Part::Text("SumRange")),
+        RequestFault::NoRecipients => alone(Part::Text("NoRecipients")),
+        RequestFault::RateRange(name) => alone(fixed("RateRange ", name)),
+        RequestFault::TriesRange => alone(Part::Text("TriesRange")),
+        RequestFault::Repeat(index) => alone(Part::Number("Repeat ", u64::from(*index))),
+        RequestFault::Memory => alone(Part::Text("Memory")),
     }
 }

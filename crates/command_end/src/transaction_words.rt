@@ -1,27 +1,26 @@
 //! The words of a transaction's faults.
 
-ghost use Rattle.std.specs.Prelude.{◌≡◌, IfOk, string_bytes};
+ghost use Rattle.std.specs.Prelude.{◌≡◌};
+ghost use Rattle.command_end.specs.Parts.{part_text};
 ghost use Rattle.command_end.specs.Words.{tx_fault_words};
 
-use fund_base::Memory;
-use std::alloc::Global;
+use crate::parts::Part;
 use tx_codec::TxFault;
 
-/// A fault of a transaction by its variant's name, and its field: a place in bytes, or an output's index,
-/// in decimal. It refuses only when out of memory.
+/// A fault of a transaction by its variant's name, and its field: a place in bytes, or an output's index.
 #[tactic(auto, unfolding(crate::specs::Words::tx_fault_words))]
-pub fn tx_fault_words(alloc: Global, fault: &TxFault) -> Result<String, Memory>
-    ensures { IfOk result (λ text. string_bytes text ≡ tx_fault_words fault.now) }
+pub fn tx_fault_part<'a>(fault: TxFault) -> Part<'a>
+    ensures { part_text result ≡ tx_fault_words fault }
 {
-    match *fault {
-        TxFault::Truncated(place) => Ok(format!(in alloc; "Truncated {}", place)?),
-        TxFault::LongCompact(place) => Ok(format!(in alloc; "LongCompact {}", place)?),
-        TxFault::ValueRange(output) => Ok(format!(in alloc; "ValueRange {}", output)?),
-        TxFault::NoInputs => Ok(format!(in alloc; "NoInputs")?),
-        TxFault::NoOutputs => Ok(format!(in alloc; "NoOutputs")?),
-        TxFault::BadFlag => Ok(format!(in alloc; "BadFlag")?),
-        TxFault::EmptyWitness => Ok(format!(in alloc; "EmptyWitness")?),
-        TxFault::Trailing(place) => Ok(format!(in alloc; "Trailing {}", place)?),
-        TxFault::Memory => Ok(format!(in alloc; "Memory")?),
+    match fault {
+        TxFault::Truncated(place) => Part::Number("Truncated ", place),
+        TxFault::LongCompact(place) => Part::Number("LongCompact ", place),
+        TxFault::ValueRange(output) => Part::Number("ValueRange ", u64::from(output)),
+        TxFault::NoInputs => Part::Text("NoInputs"),
+        TxFault::NoOutputs => Part::Text("NoOutputs"),
+        TxFault::BadFlag => Part::Text("BadFlag"),
+        TxFault::EmptyWitness => Part::Text("EmptyWitness"),
+        TxFault::Trailing(place) => Part::Number("Trailing ", place),
+        TxFault::Memory => Part::Text("Memory"),
     }
 }

@@ -162,11 +162,9 @@ wanting_ends told_files told told_jobs s p job keeper shelf shelf' sink sink' re
 
 pub stop_ends : (told_files told told_jobs : Type 0) (s : Sources) (p : Payment) (job : Option (List ℕ)) (keeper : KeeperView) (stop : Stop) (shelf shelf' : ShelfView) (sink sink' : SinkView) (result : Status) → StopsFor told_files s p shelf shelf' stop → (told_files → shelf'.files ≡ shelf.files) → IsStopped told s p stop sink sink' result
     → Ends told_files told told_jobs s p job shelf shelf' sink sink' keeper keeper result
-stop_ends told_files told told_jobs s p job keeper (stops.Read file) shelf shelf' sink sink' result h same (inl a) = subst (λ (x : Status). Ends told_files told told_jobs s p job shelf shelf' sink sink' keeper keeper x) (sym a.0) (file, h.0, h.1, a.1)
-stop_ends told_files told told_jobs s p job keeper (stops.Read file) shelf shelf' sink sink' result h same (inr w) = wanting_ends told_files told told_jobs s p job keeper shelf shelf' sink sink' result same w
-stop_ends told_files told told_jobs s p job keeper (stops.Refused refusal) shelf shelf' sink sink' result h same (inl a) =
+stop_ends told_files told told_jobs s p job keeper (stops.Read file) shelf shelf' sink sink' result h same a = subst (λ (x : Status). Ends told_files told told_jobs s p job shelf shelf' sink sink' keeper keeper x) (sym a.0) (file, h.0, h.1, a.1)
+stop_ends told_files told told_jobs s p job keeper (stops.Refused refusal) shelf shelf' sink sink' result h same a =
     subst (λ (x : Status). Ends told_files told told_jobs s p job shelf shelf' sink sink' keeper keeper x) (sym a.0) (refused_ends told_files told told_jobs s p job keeper refusal shelf shelf' sink sink' h a.1 (refusal_status (cause_of refusal)))
-stop_ends told_files told told_jobs s p job keeper (stops.Refused refusal) shelf shelf' sink sink' result h same (inr w) = wanting_ends told_files told told_jobs s p job keeper shelf shelf' sink sink' result same w
 stop_ends told_files told told_jobs s p job keeper stops.Keep shelf shelf' sink sink' result h same w = absurd h
 stop_ends told_files told told_jobs s p job keeper stops.Memory shelf shelf' sink sink' result h same w = wanting_ends told_files told told_jobs s p job keeper shelf shelf' sink sink' result same w
 

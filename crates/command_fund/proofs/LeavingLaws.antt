@@ -87,8 +87,7 @@ keeper_keeps s p old new keeper keeper' faults.Memory rose = tt
 
 pub not_left : (told : Type 0) (s : Sources) (p : Payment) (job : List ℕ) (stop : Stop) (shelf shelf' : ShelfView) (sink sink' : SinkView) (keeper keeper' : KeeperView) (result : Status) → StopsKeeping s p shelf shelf' keeper keeper' stop → IsStopped told s p stop sink sink' result
     → IsNotLeft told s p (Some job) shelf shelf' sink sink' keeper keeper' result
-not_left told s p job (stops.Read file) shelf shelf' sink sink' keeper keeper' result h (inl a) = inl (file, a.0, h, a.1)
-not_left told s p job (stops.Read file) shelf shelf' sink sink' keeper keeper' result h (inr w) = inr (inr w)
+not_left told s p job (stops.Read file) shelf shelf' sink sink' keeper keeper' result h a = inl (file, a.0, h, a.1)
 not_left told s p job (stops.Refused refusal) shelf shelf' sink sink' keeper keeper' result h a = absurd h
 not_left told s p job stops.Keep shelf shelf' sink sink' keeper keeper' result h a = inr (inl (a.0, refl, h, a.1))
 not_left told s p job stops.Memory shelf shelf' sink sink' keeper keeper' result h w = inr (inr w)

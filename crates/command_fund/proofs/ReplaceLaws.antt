@@ -31,11 +31,11 @@ use Rattle.fund_steps.specs.Plan.{IsPlan, PlainBump, PlainPlan, coins_in, coins_
 use Rattle.fund_steps.specs.Selection.{in_order}
 use Rattle.fund_steps.specs.Terms.{load_of}
 use Rattle.output_groups.proofs.Members.{head_in}
-use Rattle.payment_states.specs.AnyCoin.{facts_at}
+use Rattle.payment_facts.specs.AnyCoin.{facts_at}
 use Rattle.payment_states.specs.BookOf.{IsBookOf}
 use Rattle.payment_states.specs.Causes.{Spends}
 use Rattle.payment_states.specs.PendingView.{PendingView, tx_at, view_of}
-use Rattle.payment_states.specs.Pendings.{pending_below}
+use Rattle.payment_facts.specs.Pendings.{pending_below}
 use Rattle.request_text.specs.PlainRequest.{PlainRequest}
 use Rattle.tx_codec.specs.Transaction.{Transaction}
 use Rattle.tx_codec.specs.Weight.{weight_of}

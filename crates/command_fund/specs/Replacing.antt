@@ -5,7 +5,7 @@ use Rattle.std.specs.List.{Any}
 use Rattle.coin_book.specs.Coins.{coins_of}
 use Rattle.coin_book.specs.History.{History}
 use Rattle.coin_book.specs.declared.coin.Coin.{Coin}
-use Rattle.fee_bump.specs.Bump.{fee_in, fees_in, incremental, replaced_at}
+use Rattle.fee_bump.specs.Bump.{fee_in, fees_in, replaced_at}
 use Rattle.fee_bump.specs.Faults.{points_of}
 use Rattle.fee_bump.specs.Meant.{GoesWith, IsKnown, IsNamed, MayBeReplaced}
 use Rattle.fee_rates.specs.Fee.{fee_of, vsize_of}
@@ -20,7 +20,7 @@ use Rattle.fund_steps.specs.Terms.{load_of}
 use Rattle.payment_states.specs.Causes.{HasCause, IsKin, Spends}
 use Rattle.payment_states.specs.Offered.{WaitsAt}
 use Rattle.payment_states.specs.PendingView.{tx_at, view_of}
-use Rattle.payment_states.specs.Pendings.{pending_below}
+use Rattle.payment_facts.specs.Pendings.{pending_below}
 use Rattle.payment_states.specs.declared.state.State.TheVariants as state
 use Rattle.request_text.specs.PlainRequest.{PlainRequest}
 use Rattle.tx_codec.specs.Weight.{weight_of}
@@ -58,7 +58,7 @@ pub record Replaces (w : PlainWallet) (h : History) (r : PlainRequest) (f : Plai
   pub told : (k : ℕ) → Contains (pending_below (view_of w h) place) k ↔ IsEvicted w h f k
   pub signals : (j : ℕ) → IsOriginal w h f j → MayBeReplaced (view_of w h) j
   pub inputs : All (λ (c : Candidate). IsConfirmedCoin h c ⊎ Spends c.coin (tx_at (view_of w h) place)) f.coins
-  pub fee : outputs_of r f.change + fees_in h (replaced_at (view_of w h) place) + fee_of incremental (vsize_of f.weight) < value_of f.coins
+  pub fee : outputs_of r f.change + fees_in h (replaced_at (view_of w h) place) + fee_of 1_000 (vsize_of f.weight) < value_of f.coins
   pub few : length (replaced_at (view_of w h) place) ≤ 100
   pub higher : fee_in h (replaced_at (view_of w h) place) (tx_at (view_of w h) place) * vsize_of f.weight < (value_of f.coins - outputs_of r f.change) * vsize_of (weight_of (tx_at (view_of w h) place))
 

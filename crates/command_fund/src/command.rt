@@ -74,7 +74,7 @@ fn leave<H: Shelf, O: Sink, K: Keeper>(
         Some(job) => {
             match keep_anew(alloc, sources, payment, job, &left.plan, shelf, keeper) {
                 Ok(()) => put_report(&left.report, Status::Unfinished, out),
-                Err(stop) => answer(alloc, sources, payment, stop, out),
+                Err(stop) => answer(sources, payment, stop, out),
             }
         }
         None => put_report(&left.report, Status::Unfinished, out),
@@ -136,7 +136,6 @@ pub fn fund<H: Shelf, O: Sink, K: Keeper>(
         }
         Ok(Ending::NoSelection(texts)) => {
             finish(
-                alloc,
                 payment.log,
                 &texts.log,
                 &texts.report,
@@ -147,7 +146,6 @@ pub fn fund<H: Shelf, O: Sink, K: Keeper>(
         }
         Ok(Ending::Funded(texts)) => {
             finish(
-                alloc,
                 payment.log,
                 &texts.log,
                 &texts.report,
@@ -156,6 +154,6 @@ pub fn fund<H: Shelf, O: Sink, K: Keeper>(
                 out,
             )
         }
-        Err(stop) => answer(alloc, sources, payment, stop, out),
+        Err(stop) => answer(sources, payment, stop, out),
     }
 }

@@ -18,7 +18,7 @@ use Rattle.command_end.specs.declared.status.Status.{Status}
 use Rattle.command_end.specs.declared.status.Status.TheVariants as statuses
 use Rattle.command_fund.specs.Due.{plan_of}
 use Rattle.command_fund.specs.Statuses.{IsFunded}
-use Rattle.checked_payments.proofs.CommandLaws.{paid_reads}
+use Rattle.checked_runs.proofs.CommandLaws.{paid_reads}
 use Rattle.pay_words.specs.declared.asked.Asked.{Asked}
 use Rattle.command_pay.specs.Held.{count_among, file_among, log_name, request_name}
 use Rattle.command_pay.specs.AsAsked.{IsAsAsked, IsOther}

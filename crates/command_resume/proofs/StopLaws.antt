@@ -66,11 +66,9 @@ module _ (told_files told told_jobs : Type 0) (s : Sources) (p : Payment) (job :
 
   funding_ends : (stop : funds.Stop) (shelf shelf' : ShelfView) (sink sink' : SinkView) (keeper keeper' : KeeperView) (result : Status) → fund_stops.StopsFor told_files s p shelf shelf' stop → (told_files → shelf'.files ≡ shelf.files) → (told_jobs → keeper'.jobs ≡ keeper.jobs)
       → fund_words.IsStopped told s p stop sink sink' result → Ends told_files told told_jobs s p job shelf shelf' sink sink' keeper keeper' result
-  funding_ends (fund_variants.Read file) shelf shelf' sink sink' keeper keeper' result h same kept (inl a) = subst (λ (x : Status). Ends told_files told told_jobs s p job shelf shelf' sink sink' keeper keeper' x) (sym a.0) (file, h.0, h.1, a.1)
-  funding_ends (fund_variants.Read file) shelf shelf' sink sink' keeper keeper' result h same kept (inr w) = wanting_ends shelf shelf' sink sink' keeper keeper' result same kept w
-  funding_ends (fund_variants.Refused refusal) shelf shelf' sink sink' keeper keeper' result h same kept (inl a) =
+  funding_ends (fund_variants.Read file) shelf shelf' sink sink' keeper keeper' result h same kept a = subst (λ (x : Status). Ends told_files told told_jobs s p job shelf shelf' sink sink' keeper keeper' x) (sym a.0) (file, h.0, h.1, a.1)
+  funding_ends (fund_variants.Refused refusal) shelf shelf' sink sink' keeper keeper' result h same kept a =
       subst (λ (x : Status). Ends told_files told told_jobs s p job shelf shelf' sink sink' keeper keeper' x) (sym a.0) (refused_ends refusal shelf shelf' sink sink' keeper keeper' h a.1 (refusal_status (cause_of refusal)))
-  funding_ends (fund_variants.Refused refusal) shelf shelf' sink sink' keeper keeper' result h same kept (inr w) = wanting_ends shelf shelf' sink sink' keeper keeper' result same kept w
   funding_ends fund_variants.Keep shelf shelf' sink sink' keeper keeper' result h same kept w = absurd h
   funding_ends fund_variants.Memory shelf shelf' sink sink' keeper keeper' result h same kept w = wanting_ends shelf shelf' sink sink' keeper keeper' result same kept w
 
@@ -107,9 +105,8 @@ module _ (told_files told told_jobs : Type 0) (s : Sources) (p : Payment) (job :
   pub stop_ends : (stop : Stop) (shelf shelf' : ShelfView) (sink sink' : SinkView) (keeper keeper' : KeeperView) (result : Status) → StopsFor told_files told_jobs s p job shelf shelf' keeper keeper' stop → (told_files → shelf'.files ≡ shelf.files) → (told_jobs → keeper'.jobs ≡ keeper.jobs)
       → IsStopped told s p stop sink sink' result → Ends told_files told told_jobs s p job shelf shelf' sink sink' keeper keeper' result
   stop_ends (stops.Funding stop) shelf shelf' sink sink' keeper keeper' result h same kept w = funding_ends stop shelf shelf' sink sink' keeper keeper' result h same kept w
-  stop_ends (stops.Kept fault) shelf shelf' sink sink' keeper keeper' result h same kept (inl a) =
+  stop_ends (stops.Kept fault) shelf shelf' sink sink' keeper keeper' result h same kept a =
       subst (λ (x : Status). Ends told_files told told_jobs s p job shelf shelf' sink sink' keeper keeper' x) (sym a.0) (kept_by fault shelf shelf' sink sink' keeper keeper' h same kept a.1)
-  stop_ends (stops.Kept fault) shelf shelf' sink sink' keeper keeper' result h same kept (inr w) = wanting_ends shelf shelf' sink sink' keeper keeper' result same kept w
 
 -- ---- no stop is told as printed whole
 

@@ -36,7 +36,16 @@ kept_status Failed = statuses.KeepFault
 kept_status Memory = statuses.Memory
 kept_status _ = statuses.Saved
 
--- the answer to a stop
+-- the status of a stop
+abbrev pub stop_status : Stop → Status
+stop_status (stops.Funding stop) = payments.stop_status stop
+stop_status (stops.Kept fault) = kept_status fault
+
+-- what the line of a stop says behind the word fault
+abbrev pub stop_words : Sources → Payment → Stop → List ℕ
+stop_words s p (stops.Funding stop) = payments.stop_words s p stop
+stop_words s p (stops.Kept fault) = kept_words fault
+
+-- the answer to a stop: its status, with its line
 abbrev pub IsStopped : Type 0 → Sources → Payment → Stop → SinkView → SinkView → Status → Type 0
-IsStopped told s p (stops.Funding stop) old new result = payments.IsStopped told s p stop old new result
-IsStopped told s p (stops.Kept fault) old new result = IsAnswered told (kept_words fault) (kept_status fault) old new result
+IsStopped told s p stop old new result = IsAnswered told (stop_words s p stop) (stop_status stop) old new result

@@ -97,7 +97,6 @@ pub fn resume<H: Shelf, O: Sink, K: Keeper>(
         Ok(Ending::Unfinished(left)) => leave(alloc, job, &left, out, keeper),
         Ok(Ending::NoSelection(texts)) => {
             finish(
-                alloc,
                 payment.log,
                 &texts.log,
                 &texts.report,
@@ -108,7 +107,6 @@ pub fn resume<H: Shelf, O: Sink, K: Keeper>(
         }
         Ok(Ending::Funded(texts)) => {
             finish(
-                alloc,
                 payment.log,
                 &texts.log,
                 &texts.report,
@@ -117,6 +115,6 @@ pub fn resume<H: Shelf, O: Sink, K: Keeper>(
                 out,
             )
         }
-        Err(stop) => answer(alloc, sources, payment, stop, out),
+        Err(stop) => answer(sources, payment, stop, out),
     }
 }

@@ -1,50 +1,44 @@
 //! What the line of a kept job that is refused says.
 
-ghost use Rattle.std.specs.Prelude.{◌≡◌, ◌++◌, ◌∷◌, codes, IfOk, string_bytes};
-ghost use Rattle.hex.specs.Hex.{encode_lower};
+ghost use Rattle.std.specs.Prelude.{◌≡◌};
+ghost use Rattle.command_end.specs.Parts.{part_text, parts_text};
 ghost use Rattle.command_resume.specs.Words.{kept_status, kept_words};
 
-use command_end::{Status, log_fault_words};
-use fund_base::Memory;
+use command_end::{Part, Status, log_fault_part};
 use kept_job::KeptFault;
-use log_checker::LogFault;
-use std::alloc::Global;
 
-/// What is said of a job of other files: both digests, in lower-case hex.
-fn else_words(alloc: Global, kept: &[u8; 32], now: &[u8; 32]) -> Result<String, Memory>
-    ensures { IfOk result (λ text. string_bytes text ≡ codes "saved JobElse " ++ (encode_lower kept.now ++ (32 ∷ encode_lower now.now))) }
+/// A part, and nothing behind it.
+fn alone<'a>(part: Part<'a>) -> [Part<'a>; 3]
+    ensures { parts_text result ≡ part_text part.entry }
 {
-    let kept = hex::encode(alloc, kept.as_slice())?;
-    let now = hex::encode(alloc, now.as_slice())?;
-    Ok(format!(in alloc; "saved JobElse {} {}", kept, now)?)
+    [part, Part::Nothing, Part::Nothing]
 }
 
-/// What is said of a section whose log has this fault.
+/// What a fault of a kept job says behind the word `fault`.
 #[tactic(auto, unfolding(crate::specs::Words::kept_words))]
-fn log_words(alloc: Global, index: u64, fault: &LogFault) -> Result<String, Memory>
-    ensures { IfOk result (λ text. string_bytes text ≡ kept_words (KeptFault.Log index fault.now)) }
-{
-    let fault = log_fault_words(alloc, fault)?;
-    Ok(format!(in alloc; "saved SavedFalse Log {} {}", index, fault)?)
-}
-
-/// What a fault of a kept job says behind the word `fault`. It refuses only when out of memory.
-#[tactic(auto, unfolding(crate::specs::Words::kept_words))]
-pub fn kept_words(alloc: Global, fault: &KeptFault) -> Result<String, Memory>
-    ensures { IfOk result (λ text. string_bytes text ≡ kept_words fault.now) }
+pub fn kept_parts(fault: &KeptFault) -> [Part; 3]
+    ensures { parts_text result ≡ kept_words fault.now }
 {
     match fault {
-        KeptFault::NoJob => Ok(format!(in alloc; "saved NoJob")?),
-        KeptFault::Form(place) => Ok(format!(in alloc; "saved SavedForm {}", *place)?),
-        KeptFault::JobElse(kept, now) => else_words(alloc, kept, now),
-        KeptFault::Spent => Ok(format!(in alloc; "limit tries")?),
-        KeptFault::Part(number) => Ok(format!(in alloc; "saved SavedFalse Part {}", *number)?),
-        KeptFault::LongLog => Ok(format!(in alloc; "limit log")?),
-        KeptFault::Section(index) => Ok(format!(in alloc; "saved SavedFalse Section {}", *index)?),
-        KeptFault::IllFormed => Ok(format!(in alloc; "saved SavedFalse IllFormed")?),
-        KeptFault::Log(index, fault) => log_words(alloc, *index, fault),
-        KeptFault::Failed => Ok(format!(in alloc; "keep")?),
-        KeptFault::Memory => Ok(format!(in alloc; "memory")?),
+        KeptFault::NoJob => alone(Part::Text("saved NoJob")),
+        KeptFault::Form(place) => alone(Part::Number("saved SavedForm ", *place)),
+        KeptFault::JobElse(kept, now) => [
+            Part::Digest("saved JobElse ", kept),
+            Part::Digest(" ", now),
+            Part::Nothing,
+        ],
+        KeptFault::Spent => alone(Part::Text("limit tries")),
+        KeptFault::Part(n) => alone(Part::Number("saved SavedFalse Part ", u64::from(*n))),
+        KeptFault::LongLog => alone(Part::Text("limit log")),
+        KeptFault::Section(index) => alone(Part::Number("saved SavedFalse Section ", *index)),
+        KeptFault::IllFormed => alone(Part::Text("saved SavedFalse IllFormed")),
+        KeptFault::Log(index, fault) => [
+            Part::Number("saved SavedFalse Log ", *index),
+            Part::Text(" "),
+            log_fault_part(*fault),
+        ],
+        KeptFault::Failed => alone(Part::Text("keep")),
+        KeptFault::Memory => alone(Part::Text("memory")),
     }
 }
 

@@ -52,9 +52,8 @@ wanting : (told : Type 0) (number count : ℕ) (sink sink' : SinkView) (result :
 wanting told number count sink sink' result h = subst (λ (x : Status). Ends told number count sink sink' x) (sym h.0) (inl h.1)
 
 collided : (told : Type 0) (number count : ℕ) (refusal : Refusal) (sink sink' : SinkView) (result : Status) → IsCollision number count (cause_of refusal) → IsAnswered told (refusal_words refusal) (status_of_cause (cause_of refusal)) sink sink' result → Ends told number count sink sink' result
-collided told number count refusal sink sink' result h (inl e) =
+collided told number count refusal sink sink' result h e =
     subst (λ (x : Status). Ends told number count sink sink' x) (sym (e.0 ∙ ap status_of_cause h.cause_is)) (refusal, h, collision_due number count (cause_of refusal) h, e.1)
-collided told number count refusal sink sink' result h (inr w) = wanting told number count sink sink' result w
 
 pub stop_ends : (told : Type 0) (number count : ℕ) (stop : Stop) (sink sink' : SinkView) (result : Status) → StopsLoad number count stop → IsStopped told stop sink sink' result → Ends told number count sink sink' result
 stop_ends told number count (stops.Read file) sink sink' result h answered = absurd h

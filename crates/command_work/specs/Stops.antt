@@ -1,8 +1,9 @@
 -- Why no summary is made of a workload, and how that is answered.
-use Rattle.std.specs.Prelude.{ℕ}
+use Rattle.std.specs.Prelude.{ℕ, List, codes}
 use Rattle.fund_base.specs.Causes.{SinkView}
 use Rattle.command_end.specs.AnswerLines.{IsAnswered, IsWanting}
 use Rattle.command_end.specs.declared.status.Status.{Status}
+use Rattle.command_end.specs.declared.status.Status.TheVariants as statuses
 use Rattle.command_fund.specs.Cause.{cause_of, status_of_cause}
 use Rattle.command_fund.specs.Words.{refusal_words}
 use Rattle.command_fund.specs.declared.refusal.Stop.{Stop}
@@ -29,7 +30,21 @@ ReadsNone (stops.Refused refusal) = Unit {0}
 ReadsNone stops.Keep = ⊥
 ReadsNone stops.Memory = Unit {0}
 
--- the answer to a stop
+-- the status of a stop; a read and a keeper never stop it (ReadsNone)
+abbrev pub stop_status : Stop → Status
+stop_status (stops.Read file) = statuses.ReadFault
+stop_status (stops.Refused refusal) = status_of_cause (cause_of refusal)
+stop_status stops.Keep = statuses.KeepFault
+stop_status stops.Memory = statuses.Memory
+
+-- what the line of a stop says behind the word fault
+abbrev pub stop_words : Stop → List ℕ
+stop_words (stops.Read file) = codes "read"
+stop_words (stops.Refused refusal) = refusal_words refusal
+stop_words stops.Keep = codes "keep"
+stop_words stops.Memory = codes "memory"
+
+-- the answer to a stop: its status, with its line
 abbrev pub IsStopped : Type 0 → Stop → SinkView → SinkView → Status → Type 0
 IsStopped told (stops.Read file) old new result = ⊥
 IsStopped told (stops.Refused refusal) old new result = IsAnswered told (refusal_words refusal) (status_of_cause (cause_of refusal)) old new result

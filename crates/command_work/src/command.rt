@@ -1,10 +1,11 @@
 //! The command.
 
-ghost use Rattle.std.specs.Prelude.{◌≤◌};
+ghost use Rattle.std.specs.Prelude.{◌≡◌, ◌≤◌};
 ghost use Rattle.fund_base.specs.Causes.{CountsNeverFall};
+ghost use Rattle.command_end.specs.Lines.{GotLine, fault_line};
 ghost use Rattle.command_end.specs.Printed.{TellsWhole, TookAll};
 ghost use Rattle.command_work.specs.Statuses.{Ends};
-ghost use Rattle.command_work.specs.Stops.{IsStopped, ReadsNone};
+ghost use Rattle.command_work.specs.Stops.{IsStopped, ReadsNone, stop_status, stop_words};
 
 use crate::running::run_load;
 use command_end::{Status, put_report, want_of_memory};
@@ -13,14 +14,16 @@ use fund_base::Sink;
 use std::alloc::Global;
 
 /// Puts the line of a stop. No file is read and no job is kept, so neither can fail.
-fn answer<O: Sink>(alloc: Global, stop: Stop, out: &mut O) -> Status
+fn answer<O: Sink>(stop: Stop, out: &mut O) -> Status
     requires { ReadsNone stop }
-    ensures line { IsStopped O.tells stop (O.view out.old) (O.view out.new) result }
+    ensures is { result ≡ stop_status stop }
+    ensures line { O.tells → GotLine (fault_line (stop_words stop)) (O.view out.old) (O.view out.new) }
+    ensures answered { IsStopped O.tells stop (O.view out.old) (O.view out.new) result }
     ensures counts { CountsNeverFall (O.view out.old) (O.view out.new) }
 {
     match stop {
         Stop::Read(_) => unreachable!(),
-        Stop::Refused(refusal) => refuse(alloc, &refusal, out),
+        Stop::Refused(refusal) => refuse(&refusal, out),
         Stop::Keep => unreachable!(),
         Stop::Memory => want_of_memory(out),
     }
@@ -45,6 +48,6 @@ pub fn work<O: Sink>(alloc: Global, number: u64, count: u32, out: &mut O) -> Sta
 {
     match run_load(alloc, number, count) {
         Ok(ended) => put_report(&ended.summary, ended.status, out),
-        Err(stop) => answer(alloc, stop, out),
+        Err(stop) => answer(stop, out),
     }
 }

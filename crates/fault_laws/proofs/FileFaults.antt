@@ -19,7 +19,7 @@ use Rattle.command_end.specs.Name.{shown_name}
 use Rattle.command_end.specs.Words.{address_fault_words, feed_fault_words, request_fault_words, tx_fault_words, wallet_fault_words}
 use Rattle.fault_laws.specs.Numbers.{HasFeedNumbers, HasRequestNumbers, HasWalletNumbers}
 use Rattle.fault_laws.proofs.OtherFaults.{address_apart}
-use Rattle.fault_laws.proofs.ShownLaws.{hash_apart, hash_long, name_apart, name_plain}
+use Rattle.fault_laws.proofs.ShownLaws.{bytes_apart, bytes_plain, hash_apart, hash_long, name_apart}
 use Rattle.fault_laws.proofs.TxFaults.{tx_apart}
 use Rattle.fault_laws.proofs.WordLaws.{after, decimal_apart, decimal_plain, differ, peel, peel_long}
 
@@ -27,20 +27,20 @@ use Rattle.fault_laws.proofs.WordLaws.{after, decimal_apart, decimal_plain, diff
 
 pub wallet_apart : (a b : WalletFault) → HasWalletNumbers a → HasWalletNumbers b → wallet_fault_words a ≡ wallet_fault_words b → refusal_of a ≡ refusal_of b
 unfolding wallet_fault_words
-wallet_apart (wallets.Kind a) (wallets.Kind b) p q e = ap (λ (l : List ℕ). refusals.Field (fields.Kind l)) (name_apart a b (after (codes "Kind ") (shown_name (string_bytes a)) (shown_name (string_bytes b)) e))
+wallet_apart (wallets.Kind a) (wallets.Kind b) p q e = ap (λ (l : List ℕ). refusals.Field (fields.Kind l)) (bytes_apart a b p q (after (codes "Kind ") (shown_name a) (shown_name b) e))
 wallet_apart (wallets.Member a) (wallets.Member b) p q e = ap (λ (l : List ℕ). refusals.Field (fields.Member l)) (name_apart a b (after (codes "Member ") (shown_name (string_bytes a)) (shown_name (string_bytes b)) e))
-wallet_apart (wallets.Missing a) (wallets.Missing b) p q e = ap (λ (l : List ℕ). refusals.Field (fields.Missing l)) (name_apart a b (after (codes "Missing ") (shown_name (string_bytes a)) (shown_name (string_bytes b)) e))
+wallet_apart (wallets.Missing a) (wallets.Missing b) p q e = ap (λ (l : List ℕ). refusals.Field (fields.Missing l)) (bytes_apart a b p q (after (codes "Missing ") (shown_name a) (shown_name b) e))
 wallet_apart (wallets.Script m) (wallets.Script n) p q e = ap (λ (k : ℕ). refusals.Script k) (decimal_apart m n p q (after (codes "Script ") (decimal m) (decimal n) e))
 wallet_apart (wallets.Weight m) (wallets.Weight n) p q e = ap (λ (k : ℕ). refusals.Weight k) (decimal_apart m n p q (after (codes "Weight ") (decimal m) (decimal n) e))
 wallet_apart (wallets.Tx a m f) (wallets.Tx b n g) p q e =
-    let rest = after (codes "Tx ") (shown_name (string_bytes a) ++ (32 ∷ (decimal m ++ (32 ∷ tx_fault_words f)))) (shown_name (string_bytes b) ++ (32 ∷ (decimal n ++ (32 ∷ tx_fault_words g)))) e in
-    let first = peel (shown_name (string_bytes a)) (shown_name (string_bytes b)) (decimal m ++ (32 ∷ tx_fault_words f)) (decimal n ++ (32 ∷ tx_fault_words g)) (name_plain a) (name_plain b) rest in
-    let second = peel (decimal m) (decimal n) (tx_fault_words f) (tx_fault_words g) (decimal_plain m p.0) (decimal_plain n q.0) first.1 in
-    ap (λ (l : List ℕ). refusals.Tx l m f) (name_apart a b first.0) ∙ ap (λ (k : ℕ). refusals.Tx (string_bytes b) k f) (decimal_apart m n p.0 q.0 second.0) ∙ ap (λ (h : TxFault). refusals.Tx (string_bytes b) n h) (tx_apart f g p.1 q.1 second.1)
+    let rest = after (codes "Tx ") (shown_name a ++ (32 ∷ (decimal m ++ (32 ∷ tx_fault_words f)))) (shown_name b ++ (32 ∷ (decimal n ++ (32 ∷ tx_fault_words g)))) e in
+    let first = peel (shown_name a) (shown_name b) (decimal m ++ (32 ∷ tx_fault_words f)) (decimal n ++ (32 ∷ tx_fault_words g)) (bytes_plain a p.0) (bytes_plain b q.0) rest in
+    let second = peel (decimal m) (decimal n) (tx_fault_words f) (tx_fault_words g) (decimal_plain m p.1) (decimal_plain n q.1) first.1 in
+    ap (λ (l : List ℕ). refusals.Tx l m f) (bytes_apart a b p.0 q.0 first.0) ∙ ap (λ (k : ℕ). refusals.Tx b k f) (decimal_apart m n p.1 q.1 second.0) ∙ ap (λ (h : TxFault). refusals.Tx b n h) (tx_apart f g p.2 q.2 second.1)
 wallet_apart (wallets.Repeat a m) (wallets.Repeat b n) p q e =
-    let rest = after (codes "Repeat ") (shown_name (string_bytes a) ++ (32 ∷ decimal m)) (shown_name (string_bytes b) ++ (32 ∷ decimal n)) e in
-    let first = peel (shown_name (string_bytes a)) (shown_name (string_bytes b)) (decimal m) (decimal n) (name_plain a) (name_plain b) rest in
-    ap (λ (l : List ℕ). refusals.Repeat l m) (name_apart a b first.0) ∙ ap (λ (k : ℕ). refusals.Repeat (string_bytes b) k) (decimal_apart m n p q first.1)
+    let rest = after (codes "Repeat ") (shown_name a ++ (32 ∷ decimal m)) (shown_name b ++ (32 ∷ decimal n)) e in
+    let first = peel (shown_name a) (shown_name b) (decimal m) (decimal n) (bytes_plain a p.0) (bytes_plain b q.0) rest in
+    ap (λ (l : List ℕ). refusals.Repeat l m) (bytes_apart a b p.0 q.0 first.0) ∙ ap (λ (k : ℕ). refusals.Repeat b k) (decimal_apart m n p.1 q.1 first.1)
 wallet_apart (wallets.ParentLater m) (wallets.ParentLater n) p q e = ap (λ (k : ℕ). refusals.ParentLater k) (decimal_apart m n p q (after (codes "ParentLater ") (decimal m) (decimal n) e))
 wallet_apart wallets.NotJson wallets.NotJson p q e = refl
 wallet_apart wallets.Memory wallets.Memory p q e = refl
@@ -50,9 +50,9 @@ wallet_apart a b p q e = absurd (differ (wallet_fault_words a) (wallet_fault_wor
 
 pub request_apart : (a b : RequestFault) → HasRequestNumbers a → HasRequestNumbers b → request_fault_words a ≡ request_fault_words b → plain_fault a ≡ plain_fault b
 unfolding request_fault_words
-request_apart (requests.Kind a) (requests.Kind b) p q e = ap (λ (l : List ℕ). asked.Field (fields.Kind l)) (name_apart a b (after (codes "Kind ") (shown_name (string_bytes a)) (shown_name (string_bytes b)) e))
+request_apart (requests.Kind a) (requests.Kind b) p q e = ap (λ (l : List ℕ). asked.Field (fields.Kind l)) (bytes_apart a b p q (after (codes "Kind ") (shown_name a) (shown_name b) e))
 request_apart (requests.Member a) (requests.Member b) p q e = ap (λ (l : List ℕ). asked.Field (fields.Member l)) (name_apart a b (after (codes "Member ") (shown_name (string_bytes a)) (shown_name (string_bytes b)) e))
-request_apart (requests.Missing a) (requests.Missing b) p q e = ap (λ (l : List ℕ). asked.Field (fields.Missing l)) (name_apart a b (after (codes "Missing ") (shown_name (string_bytes a)) (shown_name (string_bytes b)) e))
+request_apart (requests.Missing a) (requests.Missing b) p q e = ap (λ (l : List ℕ). asked.Field (fields.Missing l)) (bytes_apart a b p q (after (codes "Missing ") (shown_name a) (shown_name b) e))
 request_apart (requests.Address m f) (requests.Address n g) p q e =
     let rest = after (codes "Address ") (decimal m ++ (32 ∷ address_fault_words f)) (decimal n ++ (32 ∷ address_fault_words g)) e in
     let first = peel (decimal m) (decimal n) (address_fault_words f) (address_fault_words g) (decimal_plain m p) (decimal_plain n q) rest in
@@ -60,7 +60,7 @@ request_apart (requests.Address m f) (requests.Address n g) p q e =
 request_apart (requests.Script m) (requests.Script n) p q e = ap (λ (k : ℕ). asked.Script k) (decimal_apart m n p q (after (codes "Script ") (decimal m) (decimal n) e))
 request_apart (requests.AmountRange m) (requests.AmountRange n) p q e = ap (λ (k : ℕ). asked.AmountRange k) (decimal_apart m n p q (after (codes "AmountRange ") (decimal m) (decimal n) e))
 request_apart (requests.Dust m) (requests.Dust n) p q e = ap (λ (k : ℕ). asked.Dust k) (decimal_apart m n p q (after (codes "Dust ") (decimal m) (decimal n) e))
-request_apart (requests.RateRange a) (requests.RateRange b) p q e = ap (λ (l : List ℕ). asked.RateRange l) (name_apart a b (after (codes "RateRange ") (shown_name (string_bytes a)) (shown_name (string_bytes b)) e))
+request_apart (requests.RateRange a) (requests.RateRange b) p q e = ap (λ (l : List ℕ). asked.RateRange l) (bytes_apart a b p q (after (codes "RateRange ") (shown_name a) (shown_name b) e))
 request_apart (requests.Repeat m) (requests.Repeat n) p q e = ap (λ (k : ℕ). asked.Repeat k) (decimal_apart m n p q (after (codes "Repeat ") (decimal m) (decimal n) e))
 request_apart requests.NotJson requests.NotJson p q e = refl
 request_apart requests.SumRange requests.SumRange p q e = refl

@@ -1,9 +1,11 @@
--- The numbers of a fault have 128 bits at most, and its hashes 32 bytes, as those of every fault of the program do.
+-- The numbers of a fault have 128 bits at most, its hashes 32 bytes, and its names are bytes, as those of every fault of the
+-- program are.
 use Rattle.std.specs.Prelude.{ℕ, ◌<◌, ◌^◌, IfSome}
 use Rattle.block_feed.specs.declared.fault.FeedFault.{FeedFault}
 use Rattle.block_feed.specs.declared.fault.FeedFault.TheVariants as feeds
 use Rattle.fee_bump.specs.declared.fault.BumpFault.{BumpFault}
 use Rattle.fee_bump.specs.declared.fault.BumpFault.TheVariants as bumps
+use Rattle.fund_base.specs.Cursor.{IsBytes}
 use Rattle.fund_steps.specs.declared.fault.PlanFault.{PlanFault}
 use Rattle.fund_steps.specs.declared.fault.PlanFault.TheVariants as plans
 use Rattle.json_fields.specs.Fields.{IsHash, IsPoint}
@@ -32,14 +34,19 @@ HasTxNumbers (txs.Trailing place) = IsNumber place
 HasTxNumbers _ = Unit {0}
 
 abbrev pub HasWalletNumbers : WalletFault → Type 0
+HasWalletNumbers (wallets.Kind name) = IsBytes name
+HasWalletNumbers (wallets.Missing name) = IsBytes name
 HasWalletNumbers (wallets.Script index) = IsNumber index
 HasWalletNumbers (wallets.Weight index) = IsNumber index
-HasWalletNumbers (wallets.Tx list index fault) = IsNumber index × HasTxNumbers fault
-HasWalletNumbers (wallets.Repeat list index) = IsNumber index
+HasWalletNumbers (wallets.Tx list index fault) = IsBytes list × IsNumber index × HasTxNumbers fault
+HasWalletNumbers (wallets.Repeat list index) = IsBytes list × IsNumber index
 HasWalletNumbers (wallets.ParentLater index) = IsNumber index
 HasWalletNumbers _ = Unit {0}
 
 abbrev pub HasRequestNumbers : RequestFault → Type 0
+HasRequestNumbers (requests.Kind name) = IsBytes name
+HasRequestNumbers (requests.Missing name) = IsBytes name
+HasRequestNumbers (requests.RateRange name) = IsBytes name
 HasRequestNumbers (requests.Address index fault) = IsNumber index
 HasRequestNumbers (requests.Script index) = IsNumber index
 HasRequestNumbers (requests.AmountRange index) = IsNumber index

@@ -1,6 +1,5 @@
 -- The line of each fault has the fault's sentence.
 use Rattle.std.proofs.Common.{◌≡◌, ◌∙◌, ℕ, List, [], ◌∷◌, ◌++◌, Some, None, Option, codes, refl, ap, string_bytes, append_assoc}
-use Rattle.std.specs.declared.string.String.{String}
 use Rattle.std.specs.Fmt.{decimal}
 use Rattle.tx_codec.specs.declared.fault.TxFault.{TxFault}
 use Rattle.tx_codec.specs.declared.fault.TxFault.TheVariants as txs
@@ -22,8 +21,9 @@ use Rattle.psbt_codec.specs.declared.fault.PsbtFault.{PsbtFault}
 use Rattle.psbt_codec.specs.declared.fault.PsbtFault.TheVariants as psbts
 use Rattle.command_end.specs.Name.{shown_name}
 use Rattle.command_end.specs.Words.{address_fault_words, bump_fault_words, feed_fault_words, plan_fault_words, found_words, psbt_fault_words, request_fault_words, state_words, tx_fault_words, wallet_fault_words}
-use Rattle.fault_laws.proofs.ShownLaws.{name_plain}
-use Rattle.fault_laws.proofs.WordLaws.{decimal_plain}
+use Rattle.fault_laws.proofs.ShownLaws.{bytes_plain}
+use Rattle.fund_base.specs.Cursor.{IsBytes}
+use Rattle.fault_laws.proofs.WordLaws.{decimal_plain, name_bytes}
 use Rattle.fault_laws.specs.Numbers.{HasRequestNumbers, HasWalletNumbers}
 use Rattle.fault_lines.specs.Sentences.{address_sentence, blocks_sentence, bump_sentence, not_pending_sentence, plan_sentence, psbt_sentence, request_kind_sentence, request_member_sentence, request_sentence, state_sentence, tx_sentence, wallet_kind_sentence, wallet_sentence}
 use Rattle.fault_lines.specs.Lines.{address_line, blocks_line, bump_line, input_line, limit_line, plan_line, psbt_line, psbt_rest, request_line, request_rest, state_line, tx_line, wallet_line, words_sentence}
@@ -60,25 +60,25 @@ address_told addresses.Padding = refl
 address_told addresses.Memory = refl
 
 -- the first word of a shown name that ends its line
-name_word : {Z : Type 0} (name : String Z) → word (ended (shown_name (string_bytes name))) ≡ shown_name (string_bytes name)
-name_word name = word_is (shown_name (string_bytes name)) [] 10 (shown_printable name) refl
+name_word : (name : List ℕ) → IsBytes name → word (ended (shown_name name)) ≡ shown_name name
+name_word name is = word_is (shown_name name) [] 10 (shown_printable name is) refl
 
 pub wallet_told : (f : WalletFault) → HasWalletNumbers f → wallet_line (ended (wallet_fault_words f)) ≡ Some (wallet_sentence f)
 unfolding wallet_line wallet_fault_words wallet_sentence
 wallet_told wallets.NotJson p = refl
-wallet_told (wallets.Kind name) p = ap (λ (w : List ℕ). Some (wallet_kind_sentence w)) (name_word name) ∙ ap (λ (s : List ℕ). Some s) (wallet_kind_shown name)
+wallet_told (wallets.Kind name) p = ap (λ (w : List ℕ). Some (wallet_kind_sentence w)) (name_word name p) ∙ ap (λ (s : List ℕ). Some s) (wallet_kind_shown name p)
 wallet_told (wallets.Member name) p = refl
 wallet_told (wallets.Missing name) p = refl
 wallet_told (wallets.Script index) p = refl
 wallet_told (wallets.Weight index) p = refl
 wallet_told (wallets.Tx list index fault) p =
     let words = tx_fault_words fault in
-    let first = append_assoc (shown_name (string_bytes list)) (32 ∷ (decimal index ++ (32 ∷ words))) (10 ∷ []) in
+    let first = append_assoc (shown_name list) (32 ∷ (decimal index ++ (32 ∷ words))) (10 ∷ []) in
     let second = append_assoc (decimal index) (32 ∷ words) (10 ∷ []) in
     ap (λ (l : List ℕ). tx_line (after_word (after_word l))) first
-    ∙ ap (λ (l : List ℕ). tx_line (after_word l)) (after_word_is (shown_name (string_bytes list)) ((decimal index ++ (32 ∷ words)) ++ (10 ∷ [])) (name_plain list))
+    ∙ ap (λ (l : List ℕ). tx_line (after_word l)) (after_word_is (shown_name list) ((decimal index ++ (32 ∷ words)) ++ (10 ∷ [])) (bytes_plain list p.0))
     ∙ ap (λ (l : List ℕ). tx_line (after_word l)) second
-    ∙ ap tx_line (after_word_is (decimal index) (ended words) (decimal_plain index p.0))
+    ∙ ap tx_line (after_word_is (decimal index) (ended words) (decimal_plain index p.1))
     ∙ tx_told fault
 wallet_told (wallets.Repeat list index) p = refl
 wallet_told (wallets.ParentLater index) p = refl
@@ -87,8 +87,9 @@ wallet_told wallets.Memory p = refl
 pub request_told : (f : RequestFault) → HasRequestNumbers f → request_line (ended (request_fault_words f)) ≡ Some (request_sentence f)
 unfolding request_line request_rest request_fault_words request_sentence
 request_told requests.NotJson p = refl
-request_told (requests.Kind name) p = ap (λ (w : List ℕ). Some (request_kind_sentence w)) (name_word name) ∙ ap (λ (s : List ℕ). Some s) (request_kind_shown name)
-request_told (requests.Member name) p = ap (λ (w : List ℕ). Some (request_member_sentence w)) (name_word name) ∙ ap (λ (s : List ℕ). Some s) (request_member_shown name)
+request_told (requests.Kind name) p = ap (λ (w : List ℕ). Some (request_kind_sentence w)) (name_word name p) ∙ ap (λ (s : List ℕ). Some s) (request_kind_shown name p)
+request_told (requests.Member name) p =
+    ap (λ (w : List ℕ). Some (request_member_sentence w)) (name_word (string_bytes name) (name_bytes name)) ∙ ap (λ (s : List ℕ). Some s) (request_member_shown (string_bytes name) (name_bytes name))
 request_told (requests.Missing name) p = refl
 request_told (requests.Address index fault) p =
     let words = address_fault_words fault in

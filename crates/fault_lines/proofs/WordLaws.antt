@@ -5,13 +5,13 @@ use Rattle.std.specs.Char.{is_ascii_graphic}
 use Rattle.std.specs.Fmt.{decimal}
 use Rattle.std.specs.Int.{IsInRange, is_in_range}
 use Rattle.std.specs.List.{list_all, prefix_len}
-use Rattle.std.specs.declared.string.String.{String}
 use Rattle.std.proofs.lemmas.Bool.{and_parts, le-leb, ltb-true, ne_eqb}
 use Rattle.std.proofs.lemmas.List.{drop_at, take_at}
 use Rattle.std.proofs.lemmas.List.Elements.{All-cons, All-head, All-nil, All-tail}
 use Rattle.std.proofs.lemmas.Slice.Eq.{bytes_eq-Decides}
 use Rattle.std.proofs.lemmas.Bool.Decides.{Decides-like, same_from_decides}
-use Rattle.fault_laws.proofs.WordLaws.{NoBlank, name_bytes}
+use Rattle.fault_laws.proofs.WordLaws.{NoBlank}
+use Rattle.fund_base.specs.Cursor.{IsBytes}
 use Rattle.command_end.proofs.NameLaws.{apart, plain, printable}
 use Rattle.command_end.specs.Name.{shown_name, stands_plain}
 use Rattle.fault_lines.specs.Word.{after_word, is_no_blank, word}
@@ -44,8 +44,8 @@ after_word_is w rest none =
     rw (no_blank_front w rest none) (ap (drop 1) front)
 
 -- a shown name is printable
-pub shown_printable : {Z : Type 0} (name : String Z) → All (IsInRange 33 126) (shown_name (string_bytes name))
-shown_printable name = printable (string_bytes name) (name_bytes name)
+pub shown_printable : (name : List ℕ) → IsBytes name → All (IsInRange 33 126) (shown_name name)
+shown_printable name is = printable name is
 
 -- bytes by their test
 bytes_by : (w : List ℕ) → list_all (λ (b : ℕ). nat_lt b 256) w ≡ true → All (λ (b : ℕ). b < 256) w
@@ -62,11 +62,11 @@ plain_by (b ∷ w) h =
     All-cons (λ (x : ℕ). IsTrue (stands_plain x)) b w parts.0 (plain_by w parts.1)
 
 -- a shown name is a plain word exactly where the name is
-pub same_name : {Z : Type 0} (name : String Z) (w : List ℕ) → list_all stands_plain w ≡ true → list_all (λ (b : ℕ). nat_lt b 256) w ≡ true → bytes_eq (shown_name (string_bytes name)) w ≡ bytes_eq (string_bytes name) w
-same_name name w stands bytes =
+pub same_name : (name : List ℕ) (w : List ℕ) → IsBytes name → list_all stands_plain w ≡ true → list_all (λ (b : ℕ). nat_lt b 256) w ≡ true → bytes_eq (shown_name name) w ≡ bytes_eq name w
+same_name name w is stands bytes =
     let shown : shown_name w ≡ w = plain w (plain_by w stands) in
-    let apart_by : shown_name (string_bytes name) ≡ w → string_bytes name ≡ w = λ e. apart (string_bytes name) w (name_bytes name) (bytes_by w bytes) (e ∙ sym shown) in
-    let back : string_bytes name ≡ w → shown_name (string_bytes name) ≡ w = λ e. ap shown_name e ∙ shown in
-    same_from_decides (bytes_eq (shown_name (string_bytes name)) w) (bytes_eq (string_bytes name) w)
-    (Decides-like (bytes_eq (shown_name (string_bytes name)) w) apart_by back (bytes_eq-Decides (shown_name (string_bytes name)) w))
-    (bytes_eq-Decides (string_bytes name) w)
+    let apart_by : shown_name name ≡ w → name ≡ w = λ e. apart name w is (bytes_by w bytes) (e ∙ sym shown) in
+    let back : name ≡ w → shown_name name ≡ w = λ e. ap shown_name e ∙ shown in
+    same_from_decides (bytes_eq (shown_name name) w) (bytes_eq name w)
+    (Decides-like (bytes_eq (shown_name name) w) apart_by back (bytes_eq-Decides (shown_name name) w))
+    (bytes_eq-Decides name w)

@@ -104,7 +104,7 @@ wallet_repeat_sentence = codes "The transaction at this index stands before it i
 -- a fault of a wallet file
 unfoldable pub wallet_sentence : WalletFault → List ℕ
 wallet_sentence wallets.NotJson = codes "The wallet file is no JSON text: python3 -m json.tool FILE names the line; save it as UTF-8 without a byte order mark."
-wallet_sentence (wallets.Kind name) = wallet_kind_sentence (string_bytes name)
+wallet_sentence (wallets.Kind name) = wallet_kind_sentence name
 wallet_sentence (wallets.Member name) = wallet_member_sentence
 wallet_sentence (wallets.Missing name) = wallet_missing_sentence
 wallet_sentence (wallets.Script index) = codes "The script at this index stands there twice, is empty, or is longer than 10,000 bytes: take it out; one past the last script means change."
@@ -143,7 +143,7 @@ rate_range_sentence = codes "The rate of this name is above 100,000 satoshi per 
 -- a fault of a request file
 unfoldable pub request_sentence : RequestFault → List ℕ
 request_sentence requests.NotJson = codes "The request file is no JSON text: python3 -m json.tool FILE names the line; save it as UTF-8 without a byte order mark."
-request_sentence (requests.Kind name) = request_kind_sentence (string_bytes name)
+request_sentence (requests.Kind name) = request_kind_sentence name
 request_sentence (requests.Member name) = request_member_sentence (string_bytes name)
 request_sentence (requests.Missing name) = request_missing_sentence
 request_sentence (requests.Address index fault) = address_sentence fault

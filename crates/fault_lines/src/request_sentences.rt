@@ -68,7 +68,7 @@ pub fn request_sentence(fault: &RequestFault) -> &'static str
     match fault {
         RequestFault::NotJson =>
             "The request file is no JSON text: python3 -m json.tool FILE names the line; save it as UTF-8 without a byte order mark.",
-        RequestFault::Kind(name) => request_kind_sentence(name.as_bytes()),
+        RequestFault::Kind(name) => request_kind_sentence(name.as_str().as_bytes()),
         RequestFault::Member(name) => request_member_sentence(name.as_bytes()),
         RequestFault::Missing(_) => request_missing_sentence(),
         RequestFault::Address(_, fault) => address_sentence(fault),

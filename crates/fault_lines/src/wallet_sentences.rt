@@ -57,7 +57,7 @@ pub fn wallet_sentence(fault: &WalletFault) -> &'static str
     match fault {
         WalletFault::NotJson =>
             "The wallet file is no JSON text: python3 -m json.tool FILE names the line; save it as UTF-8 without a byte order mark.",
-        WalletFault::Kind(name) => wallet_kind_sentence(name.as_bytes()),
+        WalletFault::Kind(name) => wallet_kind_sentence(name.as_str().as_bytes()),
         WalletFault::Member(_) => wallet_member_sentence(),
         WalletFault::Missing(_) => wallet_missing_sentence(),
         WalletFault::Script(_) =>

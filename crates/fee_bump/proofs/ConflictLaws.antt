@@ -18,15 +18,15 @@ use Rattle.request_text.specs.PlainRequest.{PlainRequest}
 use Rattle.coin_book.specs.Faults.{fault_of as book_fault}
 use Rattle.coin_book.specs.History.{History}
 use Rattle.coin_book.specs.Spends.{has_input}
-use Rattle.payment_states.specs.AnyCoin.{facts_at}
+use Rattle.payment_facts.specs.AnyCoin.{facts_at}
 use Rattle.payment_states.specs.BookOf.{IsBookOf}
 use Rattle.payment_states.specs.Causes.{HasCause, IsAlive, Spends}
 use Rattle.payment_states.specs.Causes.IsKin.{itself}
-use Rattle.payment_states.specs.LeftOut.{confirmed_without_of, history_without, wallet_without}
+use Rattle.payment_facts.specs.LeftOut.{confirmed_without_of, history_without, wallet_without}
 use Rattle.payment_states.specs.PendingView.{PendingView, is_listed, place_in, tx_at, view_of}
 use Rattle.payment_states.specs.declared.state.State.TheVariants as state
 use Rattle.payment_states.proofs.ClearSteps.{one_spender}
-use Rattle.payment_states.proofs.LeftSteps.{left_exact, map_from}
+use Rattle.payment_facts.proofs.LeftSteps.{left_exact, map_from}
 use Rattle.payment_states.proofs.LookSteps.{one_place}
 use Rattle.payment_states.proofs.MakerSteps.{at_height}
 use Rattle.payment_states.proofs.NumberSteps.{waits_back}

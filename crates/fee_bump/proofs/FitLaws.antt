@@ -25,16 +25,16 @@ use Rattle.coin_book.specs.Coins.{Made, coins_of, made_of}
 use Rattle.coin_book.specs.Faults.{fault_of}
 use Rattle.coin_book.specs.History.{History}
 use Rattle.coin_book.specs.declared.coin.Coin.{Coin}
-use Rattle.payment_states.specs.AnyCoin.{facts_among, facts_at}
+use Rattle.payment_facts.specs.AnyCoin.{facts_among, facts_at}
 use Rattle.payment_states.specs.BookOf.{IsBookOf}
 use Rattle.payment_states.specs.Candidates.{candidate_of}
-use Rattle.payment_states.specs.LeftOut.{confirmed_without_of, history_without, wallet_without}
+use Rattle.payment_facts.specs.LeftOut.{confirmed_without_of, history_without, wallet_without}
 use Rattle.payment_states.specs.Makers.{HasMaker}
 use Rattle.payment_states.specs.PendingView.{is_listed, place_in}
-use Rattle.payment_states.proofs.AnySteps.{all_facts_fit, own_facts, under}
+use Rattle.payment_facts.proofs.AnySteps.{all_facts_fit, own_facts, under}
 use Rattle.payment_states.proofs.FactSteps.{filter_agree_in}
 use Rattle.payment_states.proofs.FitSteps.{few}
-use Rattle.payment_states.proofs.LeftSteps.{left_exact, left_fit, makers_left, map_has, stays_in}
+use Rattle.payment_facts.proofs.LeftSteps.{left_exact, left_fit, makers_left, map_has, stays_in}
 use Rattle.payment_states.proofs.MakerSteps.{at_height, coin_in}
 use Rattle.payment_states.proofs.Paths.{any_has}
 use Rattle.fee_bump.specs.Bump.{add_once, added_of, is_among, once_of}

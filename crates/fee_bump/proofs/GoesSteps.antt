@@ -26,15 +26,15 @@ use Rattle.payment_states.specs.Candidates.{is_coin, is_pending}
 use Rattle.payment_states.specs.Causes.{HasCause, IsKin}
 use Rattle.payment_states.specs.Causes.IsKin.{above, itself}
 use Rattle.payment_states.specs.Graph.{below, within}
-use Rattle.payment_states.specs.Pendings.{heirs, pending_above, pending_below}
+use Rattle.payment_facts.specs.Pendings.{heirs, pending_above, pending_below}
 use Rattle.payment_states.specs.PendingView.{PendingView, kin_of, graph, no_tx, tx_at}
 use Rattle.payment_states.specs.declared.state.State.TheVariants as state
-use Rattle.payment_states.proofs.AnySteps.{under}
+use Rattle.payment_facts.proofs.AnySteps.{under}
 use Rattle.payment_states.proofs.Below.{below_within, get_or_map}
 use Rattle.payment_states.proofs.FactSteps.{any_map, graph_count}
 use Rattle.payment_states.proofs.AbandonedSteps.{kin_within}
 use Rattle.payment_states.proofs.KinSteps.{below_has, below_rises, kin_has, kin_only, kin_stands, tested, tests}
-use Rattle.payment_states.proofs.LeftSteps.{filter_in, in_filter, map_from, map_has}
+use Rattle.payment_facts.proofs.LeftSteps.{filter_in, in_filter, map_from, map_has}
 use Rattle.payment_states.proofs.LookSteps.{one_place}
 use Rattle.payment_states.proofs.MakerSteps.{coin_in, found}
 use Rattle.payment_states.proofs.NumberSteps.{waits, waits_back}

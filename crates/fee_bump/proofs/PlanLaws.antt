@@ -20,10 +20,10 @@ use Rattle.request_text.specs.PlainRequest.{PlainRequest}
 use Rattle.coin_book.specs.Faults.{fault_of as book_fault}
 use Rattle.coin_book.specs.History.{History}
 use Rattle.payment_states.specs.BookOf.{IsBookOf}
-use Rattle.payment_states.specs.LeftOut.{confirmed_without_of}
+use Rattle.payment_facts.specs.LeftOut.{confirmed_without_of}
 use Rattle.payment_states.specs.Makers.{HasMaker}
 use Rattle.payment_states.specs.PendingView.{is_listed, tx_at, view_of}
-use Rattle.payment_states.proofs.LeftSteps.{left_fit}
+use Rattle.payment_facts.proofs.LeftSteps.{left_fit}
 use Rattle.fee_bump.specs.Bump.{bare_load, burden_at, fee_in, fees_in, is_among, least_vsize, payment_place, presets_at, replaced_at, replaced_txids, spent_by, terms_of, weight_of}
 use Rattle.fee_bump.specs.Faults.{fault_of}
 use Rattle.fee_bump.specs.Meant.{CanReplace}

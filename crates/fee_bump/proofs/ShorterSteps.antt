@@ -14,7 +14,7 @@ use Rattle.payment_states.specs.Causes.{HasCause, HasNoReplacer, IsAlive, IsKin,
 use Rattle.payment_states.specs.Causes.IsKin.{above, itself}
 use Rattle.payment_states.specs.PendingView.{PendingView, no_tx, tx_at}
 use Rattle.payment_states.specs.declared.state.State.TheVariants as state
-use Rattle.payment_states.proofs.LeftSteps.{filter_in, in_filter}
+use Rattle.payment_facts.proofs.LeftSteps.{filter_in, in_filter}
 use Rattle.payment_states.proofs.LookSteps.{one_place}
 
 module _ (v : PendingView) (keep : Transaction → Bool) (apart : AreDistinct v.pending) where

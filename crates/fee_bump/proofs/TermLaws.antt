@@ -22,15 +22,15 @@ use Rattle.coin_book.specs.AtOutpoint.{coin_under}
 use Rattle.coin_book.specs.Faults.{fault_of as book_fault}
 use Rattle.coin_book.specs.History.{History}
 use Rattle.coin_book.specs.declared.coin.Coin.{Coin}
-use Rattle.payment_states.specs.AnyCoin.{facts_among, facts_at}
+use Rattle.payment_facts.specs.AnyCoin.{facts_among, facts_at}
 use Rattle.payment_states.specs.BookOf.{IsBookOf}
 use Rattle.payment_states.specs.Candidates.{candidate_of}
 use Rattle.payment_states.specs.Graph.{IsInOrder}
-use Rattle.payment_states.specs.LeftOut.{confirmed_without_of}
+use Rattle.payment_facts.specs.LeftOut.{confirmed_without_of}
 use Rattle.payment_states.specs.PendingView.{PendingView, graph, is_listed, no_tx, place_in, tx_at, view_of}
-use Rattle.payment_states.proofs.AnySteps.{own_facts, under}
+use Rattle.payment_facts.proofs.AnySteps.{own_facts, under}
 use Rattle.payment_states.proofs.KinSteps.{count, tests}
-use Rattle.payment_states.proofs.LeftSteps.{filter_in, in_filter, map_from, map_has}
+use Rattle.payment_facts.proofs.LeftSteps.{filter_in, in_filter, map_from, map_has}
 use Rattle.payment_states.proofs.MakerSteps.{at_height}
 use Rattle.payment_states.proofs.Order.{order_from_rule}
 use Rattle.payment_states.proofs.Paths.{any_has, decides, no_later}

@@ -20,9 +20,9 @@ use Rattle.request_text.specs.declared.request.Recipient.{Recipient}
 use Rattle.coin_book.specs.AtOutpoint.{coin_under}
 use Rattle.coin_book.specs.History.{History}
 use Rattle.coin_book.specs.declared.coin.Coin.{Coin}
-use Rattle.payment_states.specs.AnyCoin.{facts_among}
-use Rattle.payment_states.specs.LeftOut.{confirmed_without_of}
-use Rattle.payment_states.specs.Pendings.{pending_below}
+use Rattle.payment_facts.specs.AnyCoin.{facts_among}
+use Rattle.payment_facts.specs.LeftOut.{confirmed_without_of}
+use Rattle.payment_facts.specs.Pendings.{pending_below}
 use Rattle.payment_states.specs.PendingView.{PendingView, is_listed, place_in, tx_at, view_of}
 
 -- ---- what is replaced

@@ -12,7 +12,7 @@ use Rattle.request_text.specs.PlainRequest.{PlainRequest}
 use Rattle.coin_book.specs.History.{History}
 use Rattle.payment_states.specs.Candidates.{is_pending_state}
 use Rattle.payment_states.specs.Payments.{payments_of, state_of}
-use Rattle.payment_states.specs.Pendings.{pending_above}
+use Rattle.payment_facts.specs.Pendings.{pending_above}
 use Rattle.payment_states.specs.PendingView.{PendingView, tx_at, view_of}
 use Rattle.payment_states.specs.declared.state.State.{State}
 use Rattle.fee_bump.specs.Bump.{fee_in, payment_place, replaced_at, worth_of}

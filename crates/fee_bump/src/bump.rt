@@ -7,9 +7,9 @@ ghost use Rattle.fund_base.specs.Candidates.{AreCandidates};
 ghost use Rattle.fund_base.specs.Outpoints.{same_outpoint};
 ghost use Rattle.fund_base.specs.declared.candidate.Candidate.{Candidate};
 ghost use Rattle.fee_rates.specs.Fee.{vsize_of};
-ghost use Rattle.payment_states.specs.AnyCoin.{facts_among};
+ghost use Rattle.payment_facts.specs.AnyCoin.{facts_among};
 ghost use Rattle.payment_states.specs.BookOf.{IsBookOf};
-ghost use Rattle.payment_states.specs.LeftOut.{confirmed_without_of};
+ghost use Rattle.payment_facts.specs.LeftOut.{confirmed_without_of};
 ghost use Rattle.payment_states.specs.Makers.{HasMaker};
 ghost use Rattle.payment_states.specs.Payments.{payments_of, state_of};
 ghost use Rattle.payment_states.specs.PendingView.{no_tx, tx_at, view_of};
@@ -23,7 +23,7 @@ ghost use Rattle.fee_bump.specs.declared.fault.BumpFault.TheVariants as faults;
 
 use crate::burden::burden;
 use crate::fault::BumpFault;
-use crate::rate::check_rate;
+use crate::rate::{check_higher, check_increment};
 use crate::replaced::{can_be_replaced, replaced, txid_set, txids};
 use crate::terms::BumpTerms;
 use crate::worth::{fee_in, fees_in, foreign, spent_by};
@@ -31,7 +31,8 @@ use coin_book::Book;
 use fee_rates::vsize;
 use fund_base::{Candidate, MAX_MONEY, Memory, OutPoint, Txid};
 use indexmap::IndexSet;
-use payment_states::{State, States, confirmed_without, facts_of_coins};
+use payment_facts::{confirmed_without, facts_of_coins};
+use payment_states::{State, States};
 use request_text::Request;
 use std::alloc::Global;
 use tx_codec::{Tx, weight};
@@ -146,8 +147,8 @@ fn terms_for(
 }
 
 /// The terms of a replacement of these transactions, of which the first is the payment at a place and the others are its
-/// Pending descendants, or why there are none. It runs out of memory only where no input is foreign and they aren't too
-/// many.
+/// Pending descendants, or why there are none. It runs out of memory only where no input is foreign, they aren't too many,
+/// and the rate is at least the incremental one.
 fn terms(
     alloc: Global,
     book: &Book,
@@ -172,7 +173,7 @@ fn terms(
     requires money { All (λ (t : Transaction). sum_by (λ (x : TxOut). x.value) t.outputs ≤ MAX_MONEY) txs.now }
     requires payment { sum_by (λ (x : TxOut). x.value) (tx_at (view_of wallet.now book.now) place).outputs ≤ MAX_MONEY }
     ensures terms { IfOk result (λ t. t ≡ terms_at wallet.now book.now tip request.now place) }
-    ensures short { result ≡ Err faults.Memory → (foreign_in book.now txs.now ≡ None) × (length txs.now ≤ 100) }
+    ensures short { result ≡ Err faults.Memory → (foreign_in book.now txs.now ≡ None) × (length txs.now ≤ 100) × (1000 ≤ request.now.rate) }
     ensures fault { IfErr result (λ e. e ≢ faults.Memory → option_or (option_map faults.ForeignInput (foreign_in book.now txs.now)) (count_fault request.now (length txs.now) (fee_in book.now txs.now (tx_at (view_of wallet.now book.now) place)) (vsize_of (weight_of (tx_at (view_of wallet.now book.now) place)))) ≡ Some e) }
     ensures none { OnOk result (option_or (option_map faults.ForeignInput (foreign_in book.now txs.now)) (count_fault request.now (length txs.now) (fee_in book.now txs.now (tx_at (view_of wallet.now book.now) place)) (vsize_of (weight_of (tx_at (view_of wallet.now book.now) place)))) ≡ None) }
     ensures fit { IfOk result (λ t. AreCandidates (t.presets ++ t.candidates)) }
@@ -186,9 +187,10 @@ fn terms(
     if txs.len() > MOST_REPLACED {
         return Err(BumpFault::TooManyEvicted(txs.len() as u64));
     }
+    check_increment(request)?;
     let payment = at(&wallet.pending, place);
     let old_fee = fee_in(alloc, book, txs, gone, payment)?;
-    check_rate(request, old_fee, vsize(weight(payment)))?;
+    check_higher(request, old_fee, vsize(weight(payment)))?;
     let terms = terms_for(
         alloc, book, wallet, states, tip, request, place, txs, names, gone, old_fee,
     )?;

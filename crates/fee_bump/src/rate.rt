@@ -1,7 +1,8 @@
 //! Whether a request's rate is high enough to replace a payment.
 
-ghost use Rattle.std.specs.Prelude.{◌≡◌, ◌*◌, IfErr, None, OnOk, Some};
-ghost use Rattle.fee_bump.specs.Faults.{is_not_higher, rate_fault};
+ghost use Rattle.std.specs.Prelude.{◌≡◌, ◌*◌, Err, Ok, if◌then◌else◌, nat_lt};
+ghost use Rattle.fee_bump.specs.Faults.{is_not_higher};
+ghost use Rattle.fee_bump.specs.declared.fault.BumpFault.TheVariants.{RateBelowIncrement, RateNotHigher};
 
 use crate::burden::INCREMENTAL;
 use crate::fault::BumpFault;
@@ -21,27 +22,22 @@ fn is_not_higher(rate: u64, fee: u64, size: u64) -> bool
     times(rate, size) <= times(1000, fee)
 }
 
-/// Why the rate of the request doesn't do, if it doesn't, where the payment pays this fee and has this virtual size.
-fn rate_fault(request: &Request, fee: u64, size: u64) -> Option<BumpFault>
-    ensures { result ≡ rate_fault request.now fee size }
+/// That the rate of the request is at least the incremental one. It never runs out of memory.
+pub fn check_increment(request: &Request) -> Result<(), BumpFault>
+    ensures { result ≡ (if nat_lt request.now.rate 1000 then Err RateBelowIncrement else Ok tt) }
 {
     if request.rate < INCREMENTAL {
-        return Some(BumpFault::RateBelowIncrement);
+        return Err(BumpFault::RateBelowIncrement);
     }
-    if is_not_higher(request.rate, fee, size) {
-        return Some(BumpFault::RateNotHigher(fee, size));
-    }
-    None
+    Ok(())
 }
 
-/// That the rate of the request is one for a replacement of a payment of this fee and virtual size. It never runs out of
-/// memory.
-pub fn check_rate(request: &Request, fee: u64, vsize: u64) -> Result<(), BumpFault>
-    ensures fault { IfErr result (λ e. rate_fault request.now fee vsize ≡ Some e) }
-    ensures none { OnOk result (rate_fault request.now fee vsize ≡ None) }
+/// That the rate of the request is above that of this fee for this virtual size. It never runs out of memory.
+pub fn check_higher(request: &Request, fee: u64, vsize: u64) -> Result<(), BumpFault>
+    ensures { result ≡ (if is_not_higher request.now.rate fee vsize then Err (RateNotHigher fee vsize) else Ok tt) }
 {
-    match rate_fault(request, fee, vsize) {
-        Some(fault) => Err(fault),
-        None => Ok(()),
+    if is_not_higher(request.rate, fee, vsize) {
+        return Err(BumpFault::RateNotHigher(fee, vsize));
     }
+    Ok(())
 }

@@ -1,5 +1,3 @@
-pub mod BlockLaws
-pub mod ChainLaws
 pub mod CommitLaws
 pub mod DeskLaws
 pub mod GivenLaws
@@ -8,8 +6,5 @@ pub mod LookLaws
 pub mod OpenLaws
 pub mod OutLaws
 pub mod ReadyLaws
-pub mod SetLaws
-pub mod ShelfLaws
 pub mod ShownLaws
 pub mod StepLaws
-pub mod TxidLaws

@@ -1,11 +1,11 @@
 -- Coins that may be spent now, each looked up at its outpoint.
-use Rattle.std.specs.Prelude.{ℕ, suc, ◌≡◌, ◌≢◌, ◌<◌, ◌++◌, ◌&&◌, ◌||◌, List, [], ◌∷◌, AllPairs, Bool, true, false, not, Contains, Option, Some, None, bytes_eq, filter, find, length, map, option_and_then, option_map, slice_get}
+use Rattle.std.specs.Prelude.{ℕ, suc, ◌≡◌, ◌≢◌, ◌<◌, ◌++◌, ◌&&◌, ◌||◌, List, [], ◌∷◌, AllPairs, Bool, true, false, Contains, Option, Some, None, filter, find, length, map, option_and_then, option_map}
 use Rattle.std.specs.List.{cons_option, filter_map}
 use Rattle.std.specs.Option.{option_map_or, option_or}
 use Rattle.std.proofs.Common.{refl, sym, ap, ◌∙◌, subst, cond, get_or, arith, append_assoc}
 use Rattle.std.proofs.lemmas.List.Elements.{All-contains, All-contains_itself, Contains-append_left, Contains-append_right}
 use Rattle.std.proofs.lemmas.List.Folds.{find-append}
-use Rattle.std.proofs.lemmas.Option.{same_Some, slice_get-get_or}
+use Rattle.std.proofs.lemmas.Option.{same_Some}
 use Rattle.coin_book.specs.AtOutpoint.{coin_under}
 use Rattle.coin_book.specs.Coins.{Made, coins_of, made_of}
 use Rattle.coin_book.specs.Faults.{fault_of}
@@ -15,8 +15,7 @@ use Rattle.fund_base.proofs.OutpointLaws.{same_outpoint-Decides}
 use Rattle.fund_base.specs.Outpoints.{same_outpoint}
 use Rattle.fund_base.specs.declared.candidate.Candidate.{Candidate}
 use Rattle.fund_base.specs.declared.outpoint.OutPoint.{OutPoint}
-use Rattle.payment_states.proofs.Below.{get_or-map_below}
-use Rattle.payment_states.proofs.FactSteps.{any_map, payments_count, place_is}
+use Rattle.payment_states.proofs.FactSteps.{any_map, flag_is}
 use Rattle.payment_states.proofs.FirstSteps.{find_agree}
 use Rattle.payment_states.proofs.FitSteps.{coins_apart}
 use Rattle.payment_states.proofs.GraphSteps.{filter_map_agree}
@@ -24,13 +23,12 @@ use Rattle.payment_states.proofs.KinSteps.{find_filter}
 use Rattle.payment_states.proofs.MakerSteps.{at_height, found}
 use Rattle.payment_states.proofs.Order.{all_abandoned, found_place}
 use Rattle.payment_states.proofs.Paths.{any_has}
-use Rattle.payment_states.proofs.Positions.{find_by_place}
-use Rattle.payment_states.specs.AnyCoin.{facts_among, facts_at}
+use Rattle.payment_facts.specs.AnyCoin.{facts_among, facts_at}
 use Rattle.payment_states.specs.BookOf.{IsBookOf}
-use Rattle.payment_states.specs.Candidates.{candidate_of, candidates_of, is_candidate, is_pending, is_pending_state}
-use Rattle.payment_states.specs.Payments.{payment_at, payments_in, state_of}
+use Rattle.payment_states.specs.Candidates.{candidate_of, candidates_of, is_candidate, is_pending}
+use Rattle.payment_states.specs.ByPlace.{flag_at}
+use Rattle.payment_states.specs.Graph.{below}
 use Rattle.payment_states.specs.PendingView.{PendingView, place_in}
-use Rattle.payment_states.specs.declared.state.Payment.{Payment}
 use Rattle.wallet_text.specs.PlainWallet.{PlainWallet}
 use Rattle.wallet_text.specs.WalletRules.{IsWallet}
 use Rattle.desk_machine.specs.State.{has_point, points}
@@ -199,26 +197,10 @@ point_more front rest all x old new o ones whole is before =
 
 -- ---- the rules
 
--- what is claimed and what is locked may be told together
-pub barred_both : (live spent claimed locked deep : Bool) → (live && (not spent && (not (claimed || locked) && deep))) ≡ (live && (not spent && (not claimed && (not locked && deep))))
-barred_both live spent claimed locked deep = ap (λ (b : Bool). live && (not spent && b)) (by claimed)
+-- whether the payment of a txid is Pending, by what is known at each place
+pub flag_there : (v : PendingView) (flags : List Bool) (txid : List ℕ) → flags ≡ map (is_pending v) (below (length v.pending)) → flag_at flags (place_in v.pending txid) ≡ option_map_or (is_pending v) (place_in v.pending txid) false
+flag_there v flags txid are = by (place_in v.pending txid) (λ i e. (found_place v.pending txid i e).0)
   where
-    by : (c : Bool) → (not (c || locked) && deep) ≡ (not c && (not locked && deep))
-    by true = refl
-    by false = refl
-
--- a payment that is looked up by its txid is the one at its place
-pub waits_is : (v : PendingView) (txid : List ℕ) → option_map_or is_pending_state (state_of (payments_in v) txid) false ≡ option_map_or (is_pending v) (place_in v.pending txid) false
-waits_is v txid =
-    ap (λ (r : Option Payment). option_map_or is_pending_state (option_map (λ (p : Payment). p.state) r) false)
-    (sym (find_by_place (λ (p : Payment). bytes_eq txid p.txid) (payments_in v)) ∙ ap (option_and_then (slice_get (payments_in v))) (place_is v txid))
-    ∙ by (place_in v.pending txid) (λ i e. (found_place v.pending txid i e).0)
-  where
-    by : (r : Option ℕ) → ((i : ℕ) → r ≡ Some i → i < length v.pending)
-        → option_map_or is_pending_state (option_map (λ (p : Payment). p.state) (option_and_then (slice_get (payments_in v)) r)) false ≡ option_map_or (is_pending v) r false
-    by None h = refl
-    by (Some i) h =
-        let lt = h i refl in
-        let n = payments_count v in
-        ap (λ (r : Option Payment). option_map_or is_pending_state (option_map (λ (p : Payment). p.state) r) false)
-        (slice_get-get_or (payments_in v) i (payment_at v i) (omega (arith, lt, n)) ∙ ap (λ (p : Payment). Some p) (get_or-map_below (payment_at v) (length v.pending) i (payment_at v i) lt))
+    by : (r : Option ℕ) → ((i : ℕ) → r ≡ Some i → i < length v.pending) → flag_at flags r ≡ option_map_or (is_pending v) r false
+    by None within = refl
+    by (Some i) within = flag_is v flags are i (within i refl)

@@ -1,6 +1,5 @@
 pub mod Due
 pub mod Given
-pub mod Kept
 pub mod Looked
 pub mod Opening
 pub mod Ready

@@ -1,5 +1,5 @@
 -- Which coins may be spent now, each looked up at its outpoint.
-use Rattle.std.specs.Prelude.{ℕ, ◌≡◌, ◌||◌, false, Bool, List, Contains, map, slice_index_or}
+use Rattle.std.specs.Prelude.{◌≡◌, false, Bool, List, Contains, length, map}
 use Rattle.std.specs.Option.{option_map_or}
 use Rattle.indexmap.specs.IndexSet.{contains}
 use Rattle.coin_book.specs.AtOutpoint.{coin_under}
@@ -7,20 +7,18 @@ use Rattle.fund_base.specs.Outpoints.{same_outpoint}
 use Rattle.fund_base.specs.declared.candidate.Candidate.{Candidate}
 use Rattle.fund_base.specs.declared.outpoint.OutPoint.{OutPoint}
 use Rattle.fund_files.specs.declared.held.Held.{Held}
-use Rattle.payment_states.specs.Candidates.{is_candidate, is_claimed, is_locked, is_pending_state}
+use Rattle.payment_states.specs.Candidates.{is_candidate, is_claimed, is_locked, is_pending}
+use Rattle.payment_states.specs.Graph.{below}
 use Rattle.payment_states.specs.Payments.{payments_of}
 use Rattle.payment_states.specs.PendingView.{view_of}
-use Rattle.payment_states.specs.declared.state.Payment.{Payment}
 use Rattle.fund_desk.specs.declared.ready.Known.{Known}
 
--- the payment at this place is Pending
-abbrev pub waits_at : List Payment → ℕ → Bool
-waits_at payments i = slice_index_or (map (λ (p : Payment). is_pending_state p.state) payments) i false
-
--- how the pending payments stand, and the outpoints that Pending ones spend or that are locked
+-- how the pending payments stand, which of them are Pending, and the outpoints that Pending ones spend and that are locked
 pub record IsKnownOf (k : Held) (known : Known) : Type 0 where
   pub states : known.states ≡ payments_of k.wallet k.book
-  pub barred : (o : OutPoint) → contains same_outpoint known.barred o ≡ (is_claimed (view_of k.wallet k.book) o || is_locked k.wallet o)
+  pub pending : known.pending.items ≡ map (is_pending (view_of k.wallet k.book)) (below (length k.wallet.pending))
+  pub claimed : (o : OutPoint) → contains same_outpoint known.spoken.claimed o ≡ is_claimed (view_of k.wallet k.book) o
+  pub locked : (o : OutPoint) → contains same_outpoint known.spoken.locked o ≡ is_locked k.wallet o
 
 -- there is a coin at the outpoint, and it may be spent
 abbrev pub is_ready : Held → OutPoint → Bool

@@ -16,10 +16,8 @@ use crate::committing::{Given, give_out};
 use crate::job::{OpenJob, close, has_job, is_full, job_in, turn};
 use crate::opening::{Made, make};
 use crate::payments::{Committed, is_committed, release};
-use crate::pending_txids::PendingTxids;
-use crate::records::add_all;
-use crate::waiting::add_hex;
 use coin_book::Book;
+use desk_chain::{PendingTxids, add_blocks, add_hex};
 use desk_machine::{Command, Reply};
 use fund_base::{Memory, Txid};
 use fund_files::{Held, Tip};
@@ -57,7 +55,7 @@ impl Drop for Desk {
 impl Model for Desk {
     ghost use Rattle.desk_machine.specs.Rules.{IsDesk};
     ghost use Rattle.desk_machine.specs.State.{PlainDesk};
-    ghost use Rattle.fund_desk.specs.Kept.{AreTxidsOf};
+    ghost use Rattle.desk_chain.specs.Kept.{AreTxidsOf};
 
     ghost Value = { PlainDesk };
 
@@ -221,7 +219,7 @@ impl Desk {
         ensures own { IfOk result (λ r. IsOfBytes (plain_reply r)) }
         ensures memory { OnErr result (Leaves self.old (Blocks bytes.now) self.new) }
     {
-        add_all(self.alloc, &mut self.held, bytes)
+        add_blocks(self.alloc, &mut self.held, bytes)
     }
 
     /// Adds a transaction that waits.

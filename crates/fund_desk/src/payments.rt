@@ -79,7 +79,7 @@ pub fn release(committed: &mut Vec<Committed>, txid: &Txid)
 }
 
 /// Adds outpoints to a set. The error is out of memory.
-pub fn add_points(set: &mut IndexSet<OutPoint>, points: &[OutPoint]) -> Result<(), Memory>
+fn add_points(set: &mut IndexSet<OutPoint>, points: &[OutPoint]) -> Result<(), Memory>
     ensures { (o : OutPoint) → OnOk result (contains same_outpoint set.new o ≡ (contains same_outpoint set.old o || has_point points.now o)) }
 {
     for point in points {

@@ -1,4 +1,5 @@
 pub mod CoinLaws
+pub mod Digits
 pub mod HexLaws
 pub mod LastValues
 pub mod ListLaws

@@ -1,5 +1,5 @@
 -- Reading the entries of a list one after the other, as a loop does.
-use Rattle.std.proofs.Common.{◌≡◌, ◌≢◌, ℕ, suc, ◌+◌, ◌<◌, ◌≤◌, List, [], ◌∷◌, ◌++◌, length, get_or, drop, Result, Ok, Err, refl, sym, ap, subst, ◌∙◌, add-one, drop-cons}
+use Rattle.std.proofs.Common.{◌≡◌, ◌≢◌, ℕ, zero, suc, ◌+◌, ◌<◌, ◌≤◌, List, [], ◌∷◌, ◌++◌, length, get_or, drop, Result, Ok, Err, refl, sym, ap, subst, ◌∙◌, add-one, drop-cons, arith}
 use Rattle.std.proofs.Math.ListN.{drop_of_length-le}
 use Rattle.std.proofs.lemmas.List.Elements.{All-nil, All-push}
 use Rattle.std.specs.Prelude.{All}
@@ -8,6 +8,7 @@ use Rattle.serde_json.specs.Data.{Data, Items, no_items, item}
 use Rattle.serde_json.specs.View.{view, items_view}
 use Rattle.serde_json.specs.declared.value.Value.{Value}
 use Rattle.json_fields.specs.Fields.{each_from}
+use Rattle.json_fields.specs.Memory.{StoresFirst}
 
 -- what is left to read from place i on
 abbrev pub rest_of : List Value → ℕ → Items
@@ -42,6 +43,15 @@ is_done reading front values i total le so_far =
     let e : drop i values ≡ [] = drop_of_length-le values le in
     let one : each_from reading front (rest_of values i) ≡ Ok front = rw e refl in
     sym so_far ∙ one
+
+-- the entry at a place is the first of those that are left
+left_at : (values : List Value) (i : ℕ) (value : Value) → i < length values → value ≡ get_or values i value → rest_of values i ≡ item (view value) (rest_of values (i + 1))
+left_at values i value lt is = rw add-one (ap items_view (drop-cons values i value lt ∙ ap (λ (v : Value). v ∷ drop (suc i) values) (sym is)))
+
+-- The first entry has something to store, where the one at a place has: it is that one, or it was read before.
+pub stored_first : (Stores : Data → Type 0) (values : List Value) (i : ℕ) (value : Value) → i < length values → value ≡ get_or values i value → (0 < i → StoresFirst Stores (rest_of values 0)) → Stores (view value) → StoresFirst Stores (rest_of values 0)
+stored_first Stores values zero value lt is before stored = rw (left_at values 0 value lt is) stored
+stored_first Stores values (suc i) value lt is before stored = before (omega arith)
 
 -- What is kept by each entry after those before it is true of the list.
 pub each_keeps : {A E : Type 0} (Kept : List A → Type 0) (reading : List A → Data → Result A E) → ((front : List A) (d : Data) (x : A) → Kept front → reading front d ≡ Ok x → Kept (front ++ x ∷ []))

@@ -5,7 +5,7 @@ use Rattle.std.specs.Cmp.Lexicographic.{slice_cmp}
 use Rattle.std.specs.List.{list_any, before_first, after_first, position_or_len}
 use Rattle.std.specs.Option.{ok_or}
 use Rattle.std.specs.Ordering.{nat_cmp, match_ordering}
-use Rattle.std.specs.Result.{result_ok}
+use Rattle.std.specs.Result.{result_ok, result_unwrap_or}
 use Rattle.std.specs.Str.{is_utf8}
 use Rattle.hex.specs.Hex.{decode_of, decode_sized}
 use Rattle.serde_json.specs.Data.{Data, Items, no_items, item, Members, no_members, member}
@@ -98,6 +98,10 @@ unfoldable pub hex_at : List ℕ → Data → Result (List ℕ) FieldFault
 hex_at name d = do
   text ← text_at name d
   ok_or (result_ok (decode_of text)) (Kind name)
+
+-- the bytes that a text spells in hex, none where it spells none
+abbrev pub spelled_in : List ℕ → List ℕ
+spelled_in text = result_unwrap_or (decode_of text) []
 
 -- a hash of 32 bytes, which text shows in hex with its bytes reversed
 unfoldable pub hash_in : List ℕ → Option (List ℕ)

@@ -1,3 +1,4 @@
 pub mod Fields
+pub mod Memory
 pub mod Repeats
 pub mod Rules

@@ -1,83 +1,59 @@
-//! Values of one kind: numbers, flags, texts, hex, hashes, coins and lists. But for the bytes of hex, a value of its kind is
-//! given without memory, which is taken to tell a fault alone.
+//! Values of one kind: numbers, flags, texts, hashes, coins and lists. None of them takes memory.
 
-ghost use Rattle.std.specs.Prelude.{◌≡◌, ◌≤◌, ℕ, IfOk, IfSome, IsOk};
-ghost use Rattle.fund_base.specs.Cursor.{IsBytes};
-ghost use Rattle.fund_base.specs.Parsing.{YieldsAll};
+ghost use Rattle.std.specs.Prelude.{◌≡◌, ◌≢◌, ◌≤◌, ℕ, IfOk, IfSome, Err};
 ghost use Rattle.serde_json.specs.View.{view, items_view};
-ghost use Rattle.json_fields.specs.Fields.{number_at, flag_at, text_at, entries_at, hex_at, hash_in, hash_at, point_in, coin_in, coin_at, IsHash, IsPoint};
+ghost use Rattle.json_fields.specs.Fields.{number_at, flag_at, text_at, entries_at, hash_in, hash_at, point_in, coin_in, coin_at, IsHash, IsPoint};
+ghost use Rattle.json_fields.specs.Memory.{Exactly};
 ghost use Rattle.json_fields.specs.declared.fault.FieldFault.TheVariants.{Memory};
 
 use crate::fault::FieldFault;
 use fund_base::{OutPoint, Txid, are_bytes, read_decimal};
-use hex::{FromHex, FromHexError};
+use hex::FromHex;
 use serde_json::Value;
-use std::alloc::Global;
 
 /// The whole number of at most `most`.
 #[tactic(auto, unfolding(crate::specs::Fields::number_at))]
-pub fn number_of(alloc: Global, value: &Value, name: &str, most: u64) -> Result<u64, FieldFault>
-    ensures gives { YieldsAll Memory (λ n. n) result (number_at name.now most (view value.now)) }
+pub fn number_of(value: &Value, name: &'static str, most: u64) -> Result<u64, FieldFault>
+    ensures exact { result ≡ number_at name.now most (view value.now) }
+    ensures never { result ≢ Err Memory }
     ensures most { IfOk result (λ n. n ≤ most) }
-    ensures given { IsOk (number_at name.now most (view value.now)) → IsOk result }
 {
     match value.as_u64() {
         Some(n) if n <= most => Ok(n),
-        _ => Err(FieldFault::kind(alloc, name)),
+        _ => Err(FieldFault::kind(name)),
     }
 }
 
 /// The truth value.
-pub fn flag_of(alloc: Global, value: &Value, name: &str) -> Result<bool, FieldFault>
-    ensures gives { YieldsAll Memory (λ b. b) result (flag_at name.now (view value.now)) }
-    ensures given { IsOk (flag_at name.now (view value.now)) → IsOk result }
+pub fn flag_of(value: &Value, name: &'static str) -> Result<bool, FieldFault>
+    ensures exact { result ≡ flag_at name.now (view value.now) }
+    ensures never { result ≢ Err Memory }
 {
     match value.as_bool() {
         Some(flag) => Ok(flag),
-        None => Err(FieldFault::kind(alloc, name)),
+        None => Err(FieldFault::kind(name)),
     }
 }
 
 /// The text of a string.
-pub fn text_of<'a>(alloc: Global, value: &'a Value, name: &str) -> Result<&'a str, FieldFault>
-    ensures gives { YieldsAll Memory (λ t. t.now) result (text_at name.now (view value.now)) }
-    ensures given { IsOk (text_at name.now (view value.now)) → IsOk result }
+pub fn text_of<'a>(value: &'a Value, name: &'static str) -> Result<&'a str, FieldFault>
+    ensures exact { Exactly (λ t. t.now) result (text_at name.now (view value.now)) }
+    ensures never { result ≢ Err Memory }
 {
     match value.as_str() {
         Some(text) => Ok(text),
-        None => Err(FieldFault::kind(alloc, name)),
+        None => Err(FieldFault::kind(name)),
     }
 }
 
 /// The entries of a list.
-pub fn entries_of<'a>(
-    alloc: Global,
-    value: &'a Value,
-    name: &str,
-) -> Result<&'a [Value], FieldFault>
-    ensures gives { YieldsAll Memory (λ v. items_view v.now) result (entries_at name.now (view value.now)) }
-    ensures given { IsOk (entries_at name.now (view value.now)) → IsOk result }
+pub fn entries_of<'a>(value: &'a Value, name: &'static str) -> Result<&'a [Value], FieldFault>
+    ensures exact { Exactly (λ v. items_view v.now) result (entries_at name.now (view value.now)) }
+    ensures never { result ≢ Err Memory }
 {
     match value.as_array() {
         Some(entries) => Ok(entries.as_slice()),
-        None => Err(FieldFault::kind(alloc, name)),
-    }
-}
-
-/// The bytes that are spelled in hex, in either case.
-#[tactic(auto, unfolding(crate::specs::Fields::hex_at))]
-pub fn hex_of(alloc: Global, value: &Value, name: &str) -> Result<Vec<u8>, FieldFault>
-    ensures gives { YieldsAll Memory (λ v. v.items) result (hex_at name.now (view value.now)) }
-    ensures bytes { IfOk result (λ v. IsBytes v.items) }
-{
-    let text = text_of(alloc, value, name)?;
-    match hex::decode(alloc, text) {
-        Ok(bytes) => {
-            are_bytes(&bytes);
-            Ok(bytes)
-        }
-        Err(FromHexError::OutOfMemory) => Err(FieldFault::Memory),
-        Err(_) => Err(FieldFault::kind(alloc, name)),
+        None => Err(FieldFault::kind(name)),
     }
 }
 
@@ -99,25 +75,25 @@ fn hash_in(text: &str) -> Option<[u8; 32]>
 
 /// The hash of 32 bytes that 64 hex digits show, in either case, with its bytes reversed.
 #[tactic(auto, unfolding(crate::specs::Fields::hash_at))]
-pub fn hash_of(alloc: Global, value: &Value, name: &str) -> Result<[u8; 32], FieldFault>
-    ensures gives { YieldsAll Memory (λ h. h) result (hash_at name.now (view value.now)) }
+pub fn hash_of(value: &Value, name: &'static str) -> Result<[u8; 32], FieldFault>
+    ensures exact { result ≡ hash_at name.now (view value.now) }
+    ensures never { result ≢ Err Memory }
     ensures is { IfOk result IsHash }
-    ensures given { IsOk (hash_at name.now (view value.now)) → IsOk result }
 {
-    let text = text_of(alloc, value, name)?;
+    let text = text_of(value, name)?;
     match hash_in(text) {
         Some(hash) => Ok(hash),
-        None => Err(FieldFault::kind(alloc, name)),
+        None => Err(FieldFault::kind(name)),
     }
 }
 
 /// The txid that is shown so.
-pub fn txid_of(alloc: Global, value: &Value, name: &str) -> Result<Txid, FieldFault>
-    ensures gives { YieldsAll Memory (λ t. t) result (hash_at name.now (view value.now)) }
+pub fn txid_of(value: &Value, name: &'static str) -> Result<Txid, FieldFault>
+    ensures exact { result ≡ hash_at name.now (view value.now) }
+    ensures never { result ≢ Err Memory }
     ensures is { IfOk result IsHash }
-    ensures given { IsOk (hash_at name.now (view value.now)) → IsOk result }
 {
-    let hash = hash_of(alloc, value, name)?;
+    let hash = hash_of(value, name)?;
     Ok(Txid(hash))
 }
 
@@ -148,14 +124,14 @@ fn coin_in(text: &str) -> Option<OutPoint>
 
 /// The output that is written as its txid, a colon, and its index in decimal.
 #[tactic(auto, unfolding(crate::specs::Fields::coin_at))]
-pub fn coin_of(alloc: Global, value: &Value, name: &str) -> Result<OutPoint, FieldFault>
-    ensures gives { YieldsAll Memory (λ c. c) result (coin_at name.now (view value.now)) }
+pub fn coin_of(value: &Value, name: &'static str) -> Result<OutPoint, FieldFault>
+    ensures exact { result ≡ coin_at name.now (view value.now) }
+    ensures never { result ≢ Err Memory }
     ensures is { IfOk result IsPoint }
-    ensures given { IsOk (coin_at name.now (view value.now)) → IsOk result }
 {
-    let text = text_of(alloc, value, name)?;
+    let text = text_of(value, name)?;
     match coin_in(text) {
         Some(coin) => Ok(coin),
-        None => Err(FieldFault::kind(alloc, name)),
+        None => Err(FieldFault::kind(name)),
     }
 }

@@ -5,11 +5,13 @@
 
 mod fault;
 mod field;
+mod hex_text;
 mod laws;
 mod object;
 
-pub use fault::{FieldFault, Name};
-pub use field::{coin_of, entries_of, flag_of, hash_of, hex_of, number_of, text_of, txid_of};
+pub use fault::{FieldFault, MemberName, Name};
+pub use field::{coin_of, entries_of, flag_of, hash_of, number_of, text_of, txid_of};
+pub use hex_text::{HexText, hex_of, hex_text_of};
 pub use laws::{
     reads_coins, reads_hashes, reads_hex, reads_last_values, reads_lists, reads_numbers,
     reads_objects,

@@ -1,6 +1,6 @@
 //! The value that a file is, its objects and their members.
 
-ghost use Rattle.std.specs.Prelude.{◌≡◌, ℕ, List, IsOk, find, not, bytes_eq, is_none, option_map, string_bytes};
+ghost use Rattle.std.specs.Prelude.{◌≡◌, ◌≢◌, ℕ, List, Err, find, not, bytes_eq, is_none, option_map, string_bytes};
 ghost use Rattle.std.specs.Borrow.{Bor};
 ghost use Rattle.std.specs.BTreeMap.{IsOrdered, keys};
 ghost use Rattle.std.specs.List.{list_any};
@@ -10,6 +10,7 @@ ghost use Rattle.serde_json.specs.Find.{get};
 ghost use Rattle.serde_json.specs.View.{view, members_view};
 ghost use Rattle.fund_base.specs.Parsing.{YieldsAll};
 ghost use Rattle.json_fields.specs.Fields.{texts, value_of, unknown_in, least, first_missing, object_at, member_at};
+ghost use Rattle.json_fields.specs.Memory.{Exactly, StoresName};
 ghost use Rattle.json_fields.specs.declared.fault.FieldFault.TheVariants.{Memory};
 
 use crate::fault::FieldFault;
@@ -63,14 +64,14 @@ fn lacks(value: &Value, name: &str) -> bool
 }
 
 /// The first of the required names that the object lacks.
-fn first_lacking<'a, 'b>(required: &'a [&'b str], value: &Value) -> Option<&'a &'b str>
+fn first_lacking<'a>(required: &'a [&'static str], value: &Value) -> Option<&'a &'static str>
     ensures { option_copied result ≡ find (λ (n : Bor (List ℕ)). is_none (get n.now (view value.now))) required.now }
 {
     required.iter().find(|name| lacks(value, name))
 }
 
 /// The same, by what the names are.
-fn first_missing<'a, 'b>(required: &'a [&'b str], value: &Value) -> Option<&'a &'b str>
+fn first_missing<'a>(required: &'a [&'static str], value: &Value) -> Option<&'a &'static str>
     ensures { option_map (λ (n : Bor (List ℕ)). n.now) (option_copied result) ≡ first_missing (texts required.now) (view value.now) }
 {
     first_lacking(required, value)
@@ -83,34 +84,34 @@ fn first_missing<'a, 'b>(required: &'a [&'b str], value: &Value) -> Option<&'a &
 pub fn object_of(
     alloc: Global,
     value: &Value,
-    whole: &str,
+    whole: &'static str,
     known: &[&str],
-    required: &[&str],
+    required: &[&'static str],
 ) -> Result<(), FieldFault>
     ensures gives { YieldsAll Memory (λ _. tt) result (object_at whole.now (texts known.now) (texts required.now) (view value.now)) }
-    // Memory is taken to tell a fault alone.
-    ensures given { IsOk (object_at whole.now (texts known.now) (texts required.now) (view value.now)) → IsOk result }
+    // Memory is taken for the name of an unknown member alone.
+    ensures short { result ≡ Err Memory → StoresName (object_at whole.now (texts known.now) (texts required.now) (view value.now)) }
 {
     let Some(members) = value.as_object() else {
-        return Err(FieldFault::kind(alloc, whole));
+        return Err(FieldFault::kind(whole));
     };
     if let Some(name) = least_unknown(known, members) {
         return Err(FieldFault::member(alloc, name.as_str()));
     }
     match first_missing(required, value) {
-        Some(name) => Err(FieldFault::missing(alloc, name)),
+        Some(name) => Err(FieldFault::missing(name)),
         None => Ok(()),
     }
 }
 
 /// The member of this name, or [`FieldFault::Missing`].
 #[tactic(auto, unfolding(crate::specs::Fields::member_at))]
-pub fn member_of<'a>(alloc: Global, value: &'a Value, name: &str) -> Result<&'a Value, FieldFault>
-    ensures gives { YieldsAll Memory (λ v. view v.now) result (member_at name.now (view value.now)) }
-    ensures given { IsOk (member_at name.now (view value.now)) → IsOk result }
+pub fn member_of<'a>(value: &'a Value, name: &'static str) -> Result<&'a Value, FieldFault>
+    ensures exact { Exactly (λ v. view v.now) result (member_at name.now (view value.now)) }
+    ensures never { result ≢ Err Memory }
 {
     match value.get(name) {
         Some(member) => Ok(member),
-        None => Err(FieldFault::missing(alloc, name)),
+        None => Err(FieldFault::missing(name)),
     }
 }

@@ -1,5 +1,5 @@
 -- What a call finds in the file, by what it finds in the tables.
-use Rattle.std.proofs.Common.{◌≡◌, Err, IsSome, IsTrue, None, Option, Result, Some, false, is_some, refl}
+use Rattle.std.proofs.Common.{◌≡◌, Err, Ok, IsSome, IsTrue, None, Option, Result, Some, false, is_some, refl}
 use Rattle.std.specs.Prelude.{ℕ, Vec}
 use Rattle.std.specs.Option.{option_or}
 use Rattle.std.specs.declared.alloc.Global.{Global}
@@ -32,7 +32,8 @@ module _ {S : Type 0} (g : Ghosts S) where
   taken_answers : (call : Call) (old : Option (Held S)) (taken new : Held S) (found : Result (Option (Vec ℕ Global)) Error) → IsTaken g old taken → (HasCleanDisk (state g new) → Answers g call taken new found) → AnswersIn g call old (Some new) found
   taken_answers (Load job) old taken new found is said = λ clean. (taken, is, said clean)
   taken_answers (Part job number) old taken new found is said = λ clean. (taken, is, said clean)
-  taken_answers (Save job first part saved) old taken new found is said = tt
+  taken_answers (Save job first part saved) old taken new (Ok x) is said = λ clean. (taken, is, said clean)
+  taken_answers (Save job first part saved) old taken new (Err e) is said = tt
 
   taken_from : (call : Call) (old : Option (Held S)) (taken : Held S) (new : Option (Held S)) (found : Result (Option (Vec ℕ Global)) Error) → IsTaken g old taken → AnswersFrom g call (Some taken) new found → AnswersIn g call old new found
   taken_from call old taken None found is said = absurd said

@@ -1,17 +1,20 @@
--- What a statement leaves of a transaction that it runs in: the last commit stays.
-use Rattle.std.proofs.Common.{◌≡◌, Bool, IfErr, IsTrue, List, Ok, OnErr, OnOk, Err, None, Option, Result, Some, arith, if◌then◌else◌, inl, inr, subst, sym, true, ◌∙◌, ℕ}
+-- What a statement leaves of a transaction that it runs in: the last commit stays. And what statements write there, one
+-- after another.
+use Rattle.std.proofs.Common.{◌≡◌, [], ◌∷◌, Bool, false, IfErr, IsTrue, List, Ok, OnErr, OnOk, Err, None, Option, Result, Some, arith, if◌then◌else◌, inl, inr, subst, sym, true, ◌∙◌, ℕ}
 use Rattle.sqlite.specs.Store.{Ghosts}
 use Rattle.sqlite.specs.Held.{Held, state}
 use Rattle.sqlite.specs.Steps.{FailsToCommit}
 use Rattle.sqlite.specs.Order.{Row}
 use Rattle.sqlite.specs.declared.error.Error.{Error}
-use Rattle.sqlite.specs.State.{State, Fails, HasCleanDisk, FailsToQuery, FailsToShow, IsNotRun, IsRolledBack, KeepsCommit, QueriesRow, QueriesRowInside, Shown, ShowsRows}
+use Rattle.sqlite.specs.State.{State, Fails, HasCleanDisk, FailsToQuery, FailsToShow, IsNotRun, IsRolledBack, KeepsCommit, KeepsCounts, Shows, QueriesRow, QueriesRowInside, Shown, ShowsRows}
 use Rattle.sqlite.proofs.InsideLemmas.{keeps_then, unchanged_keeps}
 use Rattle.sqlite.proofs.StateLemmas.{survives_then}
-use Rattle.keep_sqlite.specs.Saving.{IsAsBefore, StaysInside}
-use Rattle.keep_sqlite.specs.Tables.{AreMadeBy}
+use Rattle.keep_sqlite.specs.Saving.{IsAsBefore, IsRun, MakesTables, Saves, StaysInside, TellsInside, WritesJob, WritesRows, add_text, drop_text, keep_text}
+use Rattle.keep_sqlite.specs.Tables.{AreMadeBy, job_text, part_text}
+use Rattle.sqlite.specs.declared.types.Value.TheVariants.{Blob, Int, Text}
 use Rattle.fund_outside.specs.declared.keeper.KeepFault.{KeepFault}
 use Rattle.keep_sqlite.specs.Told.{told_answer}
+use Rattle.std.specs.Prelude.{pos}
 
 module _ (old new : State) (inside : IsTrue old.in_transaction) where
   shown_keeps : (sql : List ℕ) (c : _) (params : Row) (rows : List Row) (returning : Option _) → ShowsRows old new sql c params rows returning → KeepsCommit old new × (new.in_transaction ≡ old.in_transaction)
@@ -99,3 +102,74 @@ module _ {S : Type 0} (g : Ghosts S) (old mid new : Held S) (settled : IsTrue (s
 pub on_err : {T : Type 0} (P : Error → Type 0) (Q : Type 0) (result : Result T Error) → IfErr result P → ((e : Error) → P e → Q) → OnErr result Q
 on_err P Q (Ok given) said so = tt
 on_err P Q (Err e) said so = so e said
+
+-- ---- what was written
+
+-- of an error nothing is said
+pub failed_on : {T : Type 0} (P : Type 0) (e : Error) (result : Result T Error) → result ≡ Err e → OnOk result P
+failed_on P e result is = rw is tt
+
+map_ok : {T : Type 0} (P Q : Type 0) (result : Result T Error) → (P → Q) → OnOk result P → OnOk result Q
+map_ok P Q (Ok given) so p = so p
+map_ok P Q (Err e) so p = tt
+
+-- what is so is so of a value
+pub any_ok : {T : Type 0} (P : Type 0) (result : Result T KeepFault) → P → OnOk result P
+any_ok P (Ok given) p = p
+any_ok P (Err fault) p = tt
+
+-- nothing is said of a failure
+pub no_ok : {T : Type 0} (P : Type 0) (fault : KeepFault) (result : Result T KeepFault) → result ≡ Err fault → OnOk result P
+no_ok P fault result is = rw is tt
+
+-- what is written is told where it was done
+pub told_ok : {T : Type 0} (P : Type 0) (answer : Result T Error) (result : Result T KeepFault) → result ≡ told_answer answer → OnOk answer P → OnOk result P
+told_ok P (Ok given) result is p = rw is p
+told_ok P (Err error) result is p = rw is tt
+
+module _ {S : Type 0} (g : Ghosts S) where
+  -- the disk was clean before a call too
+  clean_before : {T : Type 0} (a b : Held S) (result : Result T Error) → StaysInside g a b result → HasCleanDisk (state g b) → HasCleanDisk (state g a)
+  clean_before a b result stays clean = omega (arith, stays.survives.clean)
+
+  module _ {T U V : Type 0} (a b c d : Held S) (given : T) (more : U) (result : Result V Error) (one : StaysInside g a b (Ok given)) (two : StaysInside g b c (Ok more)) (three : StaysInside g c d result) (clean : HasCleanDisk (state g d)) (inside : IsTrue a.in_transaction) where
+    clean_c : HasCleanDisk (state g c)
+    clean_c = clean_before c d result three clean
+
+    clean_b : HasCleanDisk (state g b)
+    clean_b = clean_before b c (Ok more) two clean_c
+
+    in_b : IsTrue b.in_transaction
+    in_b = one.inside inside clean_b
+
+    in_c : IsTrue c.in_transaction
+    in_c = two.inside in_b clean_c
+
+    -- the tables weren't there, and both were made
+    pub made_then : (HasCleanDisk (state g b) → TellsInside g a b (Ok false)) → (HasCleanDisk (state g c) → IsTrue b.in_transaction → IsRun g job_text [] b c) → (HasCleanDisk (state g d) → IsTrue c.in_transaction → OnOk result (IsRun g part_text [] c d))
+        → OnOk result (MakesTables g a d)
+    made_then told first last = map_ok (IsRun g part_text [] c d) (MakesTables g a d) result (λ (made : IsRun g part_text [] c d). (b, false, told clean_b, (c, first clean_c in_b, made))) (last clean in_c)
+
+    -- the rows of a job were written
+    pub rows_then : (job : List ℕ) (number : ℕ) (part saved : List ℕ)
+        → (HasCleanDisk (state g b) → IsTrue a.in_transaction → IsRun g drop_text (Text job ∷ Int (pos number) ∷ []) a b)
+        → (HasCleanDisk (state g c) → IsTrue b.in_transaction → IsRun g add_text (Text job ∷ Blob part ∷ []) b c)
+        → (HasCleanDisk (state g d) → IsTrue c.in_transaction → OnOk result (IsRun g keep_text (Text job ∷ Blob saved ∷ []) c d))
+        → OnOk result (WritesRows g job number part saved a d)
+    rows_then job number part saved drops adds keeps = map_ok (IsRun g keep_text (Text job ∷ Blob saved ∷ []) c d) (WritesRows g job number part saved a d) result (λ (kept : IsRun g keep_text (Text job ∷ Blob saved ∷ []) c d). record { dropped = b; added = c; drops = drops clean_b inside; adds = adds clean_c in_b; keeps = kept }) (keeps clean in_c)
+
+  -- the tables are there, and then the rows of a job were written
+  pub job_then : {T U : Type 0} (a b c : Held S) (given : T) (result : Result U Error) (job : List ℕ) (number : ℕ) (part saved : List ℕ) → StaysInside g a b (Ok given) → StaysInside g b c result → HasCleanDisk (state g c) → IsTrue a.in_transaction
+      → (HasCleanDisk (state g b) → IsTrue a.in_transaction → MakesTables g a b) → (HasCleanDisk (state g c) → IsTrue b.in_transaction → OnOk result (WritesRows g job number part saved b c)) → OnOk result (WritesJob g job number part saved a c)
+  job_then a b c given result job number part saved one two clean inside makes writes =
+      let clean_b = clean_before b c result two clean in
+      map_ok (WritesRows g job number part saved b c) (WritesJob g job number part saved a c) result (λ (rows : WritesRows g job number part saved b c). (b, makes clean_b inside, rows)) (writes clean (one.inside inside clean_b))
+
+  -- the transaction showed this when it was committed
+  abbrev Ends : Held S → Held S → Type 0
+  Ends mid new = IsTrue (state g mid).in_transaction × Shows (state g mid) (state g new) (state g mid).now (state g mid).now false × KeepsCounts (state g mid) (state g new) × ((state g new).marks ≡ [])
+
+  -- what was written is committed
+  pub saved_by : {U : Type 0} (old mid new shown : Held S) (result : Result U Error) (job : List ℕ) (number : ℕ) (part saved : List ℕ) → new ≡ shown → WritesJob g job number part saved (record old { in_transaction = true }) mid → OnOk result (Ends mid new) → OnOk result (Saves g job number part saved old shown)
+  saved_by old mid new shown result job number part saved same writes ends =
+      map_ok (Ends mid new) (Saves g job number part saved old shown) result (λ (done : Ends mid new). subst (Saves g job number part saved old) same (record { last = mid; writes = writes; now = done.1.now_is; committed = done.1.committed_is })) ends

@@ -8,6 +8,7 @@ use Rattle.sqlite.specs.declared.error.Error.{Error}
 use Rattle.sqlite.specs.Held.{Held, IsNew, state}
 use Rattle.sqlite.specs.Opening.{is_open_error}
 use Rattle.sqlite.specs.State.{HasCleanDisk, IsLive, Opens}
+use Rattle.keep_sqlite.specs.Saving.{Saves}
 use Rattle.keep_sqlite.specs.Tables.{Finds}
 use Rattle.keep_sqlite.specs.declared.job_file.SqliteKeeper.{SqliteKeeper}
 
@@ -32,3 +33,8 @@ module _ {S : Type 0} (g : Ghosts S) where
   abbrev pub FindsIn : List ℕ → Row → Option (Held S) → Option (Held S) → Result (Option (Vec ℕ Global)) Error → Type 0
   FindsIn sql params old None found = (old ≡ None) × IsErrAnd found (λ error. IsTrue (is_open_error error))
   FindsIn sql params old (Some new) found = HasCleanDisk (state g new) → (taken : Held S) × IsTaken old taken × Finds g sql params taken new found
+
+  -- what a save that is done has written in the tables of the file, where the disk has returned what was written
+  abbrev pub SavesIn : List ℕ → ℕ → List ℕ → List ℕ → Option (Held S) → Option (Held S) → Type 0
+  SavesIn job first part saved old None = ⊥
+  SavesIn job first part saved old (Some new) = HasCleanDisk (state g new) → (taken : Held S) × IsTaken old taken × Saves g job first part saved taken new

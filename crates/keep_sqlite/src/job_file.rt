@@ -6,7 +6,7 @@ ghost use Rattle.sqlite.specs.Files.{over_files};
 ghost use Rattle.sqlite.specs.Opening.{is_open_error};
 ghost use Rattle.sqlite.specs.declared.types.Value.TheVariants.{Int, Text};
 ghost use Rattle.keep_sqlite.specs.Calls.{AnswersIn};
-ghost use Rattle.keep_sqlite.specs.JobFile.{FindsIn, IsOpened};
+ghost use Rattle.keep_sqlite.specs.JobFile.{FindsIn, IsOpened, SavesIn};
 ghost use Rattle.keep_sqlite.specs.Tables.{bytes_text, saved_text};
 ghost use Rattle.keep_sqlite.specs.Told.{Tells};
 
@@ -162,6 +162,9 @@ impl<R: Deref<Target = HostRuntime> + Drop> Keeper for SqliteKeeper<R> {
 
         // Whatever the database's error is, it is told once.
         ensures counted { IsErrOf result KeepFault.Failed → (view_of self.new).faults ≡ one_more (view_of self.old).faults }
+
+        // What a save that is done has written and committed, where the disk has returned what was written.
+        ensures saved { OnOk result (SavesIn over_files job.now first part.now saved.now self.old.connection self.new.connection) }
     {
         let call = Call::Save {
             job,

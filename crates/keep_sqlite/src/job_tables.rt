@@ -5,7 +5,7 @@ ghost use Rattle.fund_base.specs.Causes.{Rose, one_more};
 ghost use Rattle.sqlite.specs.Held.{state};
 ghost use Rattle.sqlite.specs.State.{HasCleanDisk};
 ghost use Rattle.sqlite.specs.declared.types.Value.TheVariants.{Int, Text};
-ghost use Rattle.keep_sqlite.specs.Saving.{IsAsBefore};
+ghost use Rattle.keep_sqlite.specs.Saving.{IsAsBefore, Saves};
 ghost use Rattle.keep_sqlite.specs.Tables.{Finds, bytes_text, saved_text};
 ghost use Rattle.keep_sqlite.specs.Told.{Tells};
 
@@ -100,6 +100,9 @@ impl<S: Alter + Drop> Keeper for JobTables<S> {
 
         // Whatever the database's error is, it is told once.
         ensures counted { IsErrOf result KeepFault.Failed → (view_of self.new).faults ≡ one_more (view_of self.old).faults }
+
+        // What a save that is done has written and committed, where the disk has returned what was written.
+        ensures saved { HasCleanDisk (state S.Store (held_by self.new)) → OnOk result (Saves S.Store job.now first part.now saved.now (held_by self.old) (held_by self.new)) }
 
         // After an error the database is as before, where the disk has returned what was written.
         ensures neither { HasCleanDisk (state S.Store (held_by self.new)) → IsTrue (state S.Store (held_by self.new)).is_open → OnErr result (IsAsBefore S.Store (held_by self.old) (held_by self.new)) }

@@ -1,6 +1,6 @@
 //! Jobs as rows of two tables: one row a job, and one row a part.
 
-ghost use Rattle.std.specs.Prelude.{◌≡◌, ◌≤◌, [], ◌∷◌, pos, Err, IsSome, IsTrue, OnErr};
+ghost use Rattle.std.specs.Prelude.{◌≡◌, ◌≤◌, [], ◌∷◌, pos, Err, IsSome, IsTrue, OnErr, OnOk};
 ghost use Rattle.std.specs.Option.{option_or};
 ghost use Rattle.sqlite.specs.Held.{state};
 ghost use Rattle.sqlite.specs.State.{HasCleanDisk};
@@ -8,7 +8,7 @@ ghost use Rattle.sqlite.specs.Values.{bound};
 ghost use Rattle.sqlite.specs.View.{doubt};
 ghost use Rattle.sqlite.specs.declared.types.Value.TheVariants.{Int, Text};
 ghost use Rattle.keep_sqlite.specs.Calls.{Answers, AnswersFrom};
-ghost use Rattle.keep_sqlite.specs.Saving.{IsAsBefore, StaysInside};
+ghost use Rattle.keep_sqlite.specs.Saving.{IsAsBefore, IsRun, MakesTables, Saves, StaysInside, TellsInside, WritesJob, WritesRows};
 ghost use Rattle.keep_sqlite.specs.Tables.{AreBytesOf, AreCounted, AreMadeBy, Finds, ShowsBytes, TellsTables, bytes_text, saved_text, tables_made};
 
 use sqlite::types::ValueRef;
@@ -102,6 +102,7 @@ fn has_tables<S: Alter>(connection: &mut Connection<S>) -> Result<bool, Error>
 fn are_there<S: Alter>(transaction: &mut Transaction<'_, S>) -> Result<bool, Error>
     ensures same_reference { transaction.new.conn.ghost_name ≡ transaction.old.conn.ghost_name }
     ensures left { StaysInside S.Store transaction.old.conn.now transaction.new.conn.now result }
+    ensures told { HasCleanDisk (state S.Store transaction.new.conn.now) → TellsInside S.Store transaction.old.conn.now transaction.new.conn.now result }
 {
     are_made_by(transaction.query_row(OBJECTS, params![JOB, PART]))
 }
@@ -114,6 +115,7 @@ fn run<S: Alter>(
 ) -> Result<(), Error>
     ensures same_reference { transaction.new.conn.ghost_name ≡ transaction.old.conn.ghost_name }
     ensures left { StaysInside S.Store transaction.old.conn.now transaction.new.conn.now result }
+    ensures ran { HasCleanDisk (state S.Store transaction.new.conn.now) → IsTrue transaction.old.conn.now.in_transaction → OnOk result (IsRun S.Store statement.now (bound params.now) transaction.old.conn.now transaction.new.conn.now) }
 {
     match transaction.execute(statement, params) {
         Ok(_) => Ok(()),
@@ -125,6 +127,7 @@ fn run<S: Alter>(
 fn make_tables<S: Alter>(transaction: &mut Transaction<'_, S>) -> Result<(), Error>
     ensures same_reference { transaction.new.conn.ghost_name ≡ transaction.old.conn.ghost_name }
     ensures left { StaysInside S.Store transaction.old.conn.now transaction.new.conn.now result }
+    ensures made { HasCleanDisk (state S.Store transaction.new.conn.now) → IsTrue transaction.old.conn.now.in_transaction → OnOk result (MakesTables S.Store transaction.old.conn.now transaction.new.conn.now) }
 {
     if are_there(transaction)? {
         return Ok(());
@@ -195,6 +198,7 @@ fn keep<S: Alter>(
 ) -> Result<(), Error>
     ensures same_reference { transaction.new.conn.ghost_name ≡ transaction.old.conn.ghost_name }
     ensures left { StaysInside S.Store transaction.old.conn.now transaction.new.conn.now result }
+    ensures rows { HasCleanDisk (state S.Store transaction.new.conn.now) → IsTrue transaction.old.conn.now.in_transaction → OnOk result (WritesRows S.Store job.now first part.now saved.now transaction.old.conn.now transaction.new.conn.now) }
 {
     run(transaction, DROP_PARTS, params![job, first])?;
     run(transaction, ADD_PART, params![job, part])?;
@@ -211,6 +215,7 @@ fn write<S: Alter>(
 ) -> Result<(), Error>
     ensures same_reference { transaction.new.conn.ghost_name ≡ transaction.old.conn.ghost_name }
     ensures left { StaysInside S.Store transaction.old.conn.now transaction.new.conn.now result }
+    ensures written { HasCleanDisk (state S.Store transaction.new.conn.now) → IsTrue transaction.old.conn.now.in_transaction → OnOk result (WritesJob S.Store job.now first part.now saved.now transaction.old.conn.now transaction.new.conn.now) }
 {
     make_tables(transaction)?;
     keep(transaction, job, first, part, saved)
@@ -227,6 +232,7 @@ pub(crate) fn save<S: Alter>(
 ) -> Result<(), Error>
     ensures open { IsTrue connection.old.in_transaction → (result ≡ Err (Error.SqliteFailure ErrorCode.TransactionState)) × (connection.new ≡ connection.old) }
     ensures neither { HasCleanDisk (state S.Store connection.new) → IsTrue (state S.Store connection.new).is_open → OnErr result (IsAsBefore S.Store connection.old connection.new) }
+    ensures saved { HasCleanDisk (state S.Store connection.new) → OnOk result (Saves S.Store job.now first part.now saved.now connection.old connection.new) }
 {
     if !connection.is_autocommit() {
         return Err(Error::SqliteFailure(ErrorCode::TransactionState));

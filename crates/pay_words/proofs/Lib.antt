@@ -1,4 +1,5 @@
 pub mod FlagLaws
+pub mod LowRateLaws
 pub mod NameLaws
 pub mod PaymentRest
 pub mod Pieces

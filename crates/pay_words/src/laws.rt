@@ -1,10 +1,14 @@
 //! What the words of flags and the names of files come to.
 
-ghost use Rattle.std.specs.Prelude.{◌≡◌, List, Ok, Some, String, ℕ};
+ghost use Rattle.std.specs.Prelude.{◌≡◌, ◌<◌, List, Ok, Some, String, true, ℕ};
 ghost use Rattle.std.specs.declared.alloc.Global.{Global};
 ghost use Rattle.pay_words.specs.Asked.{AreApart, PlainAsked, asked_in};
 ghost use Rattle.pay_words.specs.Flags.{flag_of, flag_word};
+ghost use Rattle.pay_words.specs.Given.{flags_in};
+ghost use Rattle.pay_words.specs.Values.{has};
 ghost use Rattle.pay_words.specs.declared.flag.Flag.{Flag};
+ghost use Rattle.pay_words.specs.declared.flag.Flag.TheVariants as flags;
+ghost use Rattle.pay_words.specs.declared.given.Given.{Given};
 
 /// The law of flags: each flag is known by its word, and by no other. A call does nothing.
 pub fn flags_have_one_word()
@@ -15,4 +19,10 @@ pub fn flags_have_one_word()
 /// The law of names: the files that words name are apart, none of them without a name. A call does nothing.
 pub fn names_are_apart()
     ensures { (drawn : List ℕ) (words : List (String Global)) (asked : PlainAsked) → asked_in drawn words ≡ Ok asked → AreApart asked.names }
+{}
+
+/// The law of low rates: words that are read as asking for a rate below 1 satoshi per virtual byte give the flag
+/// `--allow-low-rate`. A call does nothing.
+pub fn low_rates_are_allowed()
+    ensures { (drawn : List ℕ) (words : List (String Global)) (given : List Given) (asked : PlainAsked) → flags_in words ≡ Ok given → asked_in drawn words ≡ Ok asked → asked.settings.rate < 1_000 → has given flags.AllowLowRate ≡ true }
 {}

@@ -15,5 +15,5 @@ mod values;
 pub use asked::{Asked, Names, read_pay};
 pub use fault::WordFault;
 pub use flag::{Flag, flag_word};
-pub use laws::{flags_have_one_word, names_are_apart};
+pub use laws::{flags_have_one_word, low_rates_are_allowed, names_are_apart};
 pub use sentence::{flag_about, word_place, word_sentence};

@@ -1,6 +1,5 @@
 pub mod AbandonedSteps
 pub mod AmongSteps
-pub mod AnySteps
 pub mod BackSteps
 pub mod Below
 pub mod CauseSteps
@@ -14,7 +13,6 @@ pub mod FitSteps
 pub mod GraphSteps
 pub mod KinSteps
 pub mod LeastSteps
-pub mod LeftSteps
 pub mod LookSteps
 pub mod MakerSteps
 pub mod MarkSteps

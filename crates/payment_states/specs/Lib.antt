@@ -1,4 +1,3 @@
-pub mod AnyCoin
 pub mod BookOf
 pub mod ByPlace
 pub mod Candidates
@@ -6,9 +5,7 @@ pub mod Causes
 pub mod Counts
 pub mod Graph
 pub mod Least
-pub mod LeftOut
 pub mod Makers
 pub mod Offered
 pub mod Payments
 pub mod PendingView
-pub mod Pendings

@@ -26,7 +26,7 @@ pub fn heights_of(alloc: Global, book: &Book, txids: &[Txid]) -> Result<Vec<Opti
     Ok(heights)
 }
 
-/// A set of these txids, in the same order where they are distinct.
+/// A set of these txids, in the same order where they are distinct. The error is out of memory.
 pub fn listed(alloc: Global, txids: &[Txid]) -> Result<IndexSet<Txid>, Memory>
     ensures has { (t : List ℕ) → IfOk result (λ s. contains bytes_eq s t ≡ is_listed txids.now t) }
     ensures keys { AllPairs (λ (s t : List ℕ). s ≢ t) txids.now → IfOk result (λ s. s.keys ≡ txids.now) }

@@ -24,7 +24,7 @@ impl Model for Parents {
 
 impl Parents {
     /// Parents at these places.
-    pub fn new(places: Vec<usize>) -> Parents
+    pub(crate) fn new(places: Vec<usize>) -> Parents
         ensures { result ≡ places.items }
     {
         Parents { places }

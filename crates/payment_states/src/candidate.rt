@@ -39,7 +39,7 @@ pub fn standing(
     }
 }
 
-/// The coin, with how it stands, by its transaction.
+/// The coin, with how it stands, by its transaction. The error is out of memory.
 pub fn described(
     alloc: Global,
     book: &Book,

@@ -32,7 +32,7 @@ fn is_pending_state(state: State) -> bool
     }
 }
 
-/// Which payments are Pending.
+/// Which payments are Pending, place by place. The error is out of memory.
 pub fn pending_of(alloc: Global, payments: &[Payment]) -> Result<Vec<bool>, Memory>
     ensures pending { IfOk result (λ v. v.items ≡ map (λ (p : Payment). is_pending_state p.state) payments.now) }
     ensures len { IfOk result (λ v. vec_len v ≡ length payments.now) }
@@ -117,7 +117,7 @@ impl Drop for SpokenFor {
     }
 }
 
-/// The outpoints that Pending transactions spend, and these that are locked.
+/// The outpoints that Pending transactions spend, and these that are locked. The error is out of memory.
 pub fn spoken_for(
     alloc: Global,
     txs: &[Tx],
@@ -192,7 +192,7 @@ fn is_doubtful(mine: bool, replaces: bool) -> bool
     !(mine && !replaces)
 }
 
-/// Those of the places that are flagged.
+/// Those of the places that are flagged, in order. The error is out of memory.
 pub fn kept(alloc: Global, places: &[usize], flags: &[bool]) -> Result<Vec<usize>, Memory>
     ensures { IfOk result (λ v. v.items ≡ filter (λ j. slice_index_or flags.now j false) places.now) }
 {

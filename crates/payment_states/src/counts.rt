@@ -201,7 +201,8 @@ fn count_kin(
     tally(marks, counted, unused, low, place)
 }
 
-/// How many counted ones are among a place and its ancestors, whether or not it is counted itself.
+/// How many counted ones are among a place and its ancestors, whether or not it is counted itself. The error is out of
+/// memory.
 pub fn count_at(
     alloc: Global,
     parents: &[Parents],

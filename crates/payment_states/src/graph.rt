@@ -53,7 +53,7 @@ fn parents_of(
     Ok(Parents::new(places))
 }
 
-/// The parents of each transaction of the pending list.
+/// The parents of each transaction of the pending list, by their places. The error is out of memory.
 pub fn graph_of(
     alloc: Global,
     book: &Book,

@@ -4,30 +4,31 @@
 
 mod abandoned;
 mod ancestry;
-mod any_coin;
 mod candidate;
 mod claims;
 mod conflicts;
 mod counts;
 mod graph;
 mod laws;
-mod left_out;
 mod own_coins;
 mod pending_facts;
-mod pendings;
 mod replaced;
 mod spendable;
 mod state;
 mod states;
 
-pub use any_coin::{coin_facts, facts_of_coins};
+pub use abandoned::listed;
+pub use ancestry::Parents;
+pub use candidate::described;
+pub use claims::{SpokenFor, kept, pending_of, spoken_for};
+pub use counts::{count_at, mark_kin};
+pub use graph::graph_of;
 pub use laws::{
-    candidates_by_rules, candidates_have_makers, counts_by_ways, finds_coins, finds_states,
-    left_out_as_never_written, parents_by_inputs, pending_stands_clear, reaches_by_steps,
-    safe_by_parents, states_by_causes,
+    candidates_by_rules, candidates_have_makers, counts_by_ways, finds_states, parents_by_inputs,
+    pending_stands_clear, reaches_by_steps, safe_by_parents, states_by_causes,
 };
-pub use left_out::confirmed_without;
-pub use pendings::{pending_ancestors, pending_descendants};
-pub use spendable::candidates;
+pub use own_coins::{Standing, flag_at, number_at};
+pub use pending_facts::{Facts, facts_of};
+pub use spendable::{candidates, is_deep, may_be_spent};
 pub use state::{Payment, State};
-pub use states::{States, all_states};
+pub use states::{States, all_states, states_of};

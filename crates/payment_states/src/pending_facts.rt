@@ -84,7 +84,7 @@ fn safe_of(
     Ok(safe)
 }
 
-/// What is known of the pending list.
+/// What is known of the pending list. The error is out of memory.
 pub fn facts_of(
     alloc: Global,
     book: &Book,

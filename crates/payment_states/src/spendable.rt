@@ -26,7 +26,7 @@ use std::alloc::Global;
 use tx_codec::Tx;
 use wallet_text::Wallet;
 
-/// Whether a coin is deep enough.
+/// Whether a coin is deep enough: a coinbase's is at least 101 blocks deep.
 pub fn is_deep(tip: u32, coin: &Coin) -> bool
     requires { tip < 4294967295 }
     ensures { result ≡ is_deep tip coin.now }

@@ -82,7 +82,7 @@ impl States {
     }
 
     /// The txids of the pending list, in order.
-    pub(crate) fn txids(&self) -> &IndexSet<Txid>
+    pub fn txids(&self) -> &IndexSet<Txid>
         ensures { result.now.keys ≡ map (λ (p : Payment). p.txid) self.now }
     {
         &self.txids
@@ -223,8 +223,8 @@ fn payments_of(
     Ok(list)
 }
 
-/// The state of each of these transactions.
-pub(crate) fn states_of(
+/// The state of each of these transactions, as if they were the pending list. The error is out of memory.
+pub fn states_of(
     alloc: Global,
     book: &Book,
     pending: &[Tx],

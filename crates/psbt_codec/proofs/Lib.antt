@@ -1,6 +1,7 @@
 pub mod Decoded
 pub mod EachLaws
 pub mod FinalFaults
+pub mod FirstPairLaws
 pub mod KeyLaws
 pub mod MapLaws
 pub mod MapMeaning

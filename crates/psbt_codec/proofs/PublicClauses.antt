@@ -127,7 +127,13 @@ no_magic_read : (bytes : List ℕ) → bytes_eq (take 5 bytes) magic ≡ false �
 unfolding psbt_at
 no_magic_read bytes other = rw other refl
 
-pub all_unmarked : (bytes : List ℕ) (result : Result PartialTransaction PsbtFault) → YieldsAll Memory (λ p. p) result (read_of bytes) → ((rest : List ℕ) → bytes ≢ magic ++ rest) → MatchResult result (λ _. ⊥) (λ e. e ≢ Memory → e ≡ Magic)
-all_unmarked bytes result given unmarked =
-    let other : bytes_eq (take 5 bytes) magic ≡ false = false_from_ne_true (bytes_eq (take 5 bytes) magic) (λ same. unmarked (drop 5 bytes) (sym (take-append-drop 5 bytes) ∙ ap (λ (l : List ℕ). l ++ drop 5 bytes) ((bytes_eq-Decides (take 5 bytes) magic).0 same))) in
-    tells bytes result Magic given (no_magic_read bytes other)
+-- a fault that is reported unless memory is short, where memory isn't
+unmarked_is : (result : Result PartialTransaction PsbtFault) → MatchResult result (λ _. ⊥) (λ d. d ≢ Memory → d ≡ Magic) → (result ≡ Err Memory → ⊥) → result ≡ Err Magic
+unmarked_is (Ok p) refused never = absurd refused
+unmarked_is (Err d) refused never = ap (λ (x : PsbtFault). Err x) (refused (λ memory. never (ap (λ (x : PsbtFault). Err x) memory)))
+
+pub all_unmarked : (bytes : List ℕ) (result : Result PartialTransaction PsbtFault) → YieldsAll Memory (λ p. p) result (read_of bytes) → (result ≡ Err Memory → take 5 bytes ≡ magic) → ((rest : List ℕ) → bytes ≢ magic ++ rest) → result ≡ Err Magic
+all_unmarked bytes result given short unmarked =
+    let no_magic : take 5 bytes ≡ magic → ⊥ = λ same. unmarked (drop 5 bytes) (sym (take-append-drop 5 bytes) ∙ ap (λ (l : List ℕ). l ++ drop 5 bytes) same) in
+    let other : bytes_eq (take 5 bytes) magic ≡ false = false_from_ne_true (bytes_eq (take 5 bytes) magic) (λ same. no_magic ((bytes_eq-Decides (take 5 bytes) magic).0 same)) in
+    unmarked_is result (tells bytes result Magic given (no_magic_read bytes other)) (λ memory. no_magic (short memory))

@@ -29,7 +29,7 @@ use Rattle.psbt_codec.proofs.Decoded.{tx_decodes, paid_decodes, known_is, known_
 -- ---- a value of a type that has a meaning
 
 -- the type of a key that is a type alone
-kind_of : (meant : List ℕ) (kind : ℕ) (k : IsKey meant (compact kind)) → kind < 2 ^ 64 → k.kind ≡ kind
+pub kind_of : (meant : List ℕ) (kind : ℕ) (k : IsKey meant (compact kind)) → kind < 2 ^ 64 → k.kind ≡ kind
 kind_of meant kind k small =
     let a = count_reads.again k.kind (start (compact kind)) k.key_data k.kind_fits k.parts in
     let b = count_reads.again kind (start (compact kind)) [] small (sym (append-nil (compact kind))) in

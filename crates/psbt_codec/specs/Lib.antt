@@ -1,4 +1,5 @@
 pub mod Fault
+pub mod FirstPair
 pub mod Keys
 pub mod PartialTransaction
 pub mod Psbt

@@ -7,6 +7,7 @@ ghost use Rattle.psbt_codec.specs.declared.fault.PsbtFault.TheVariants.{Field, M
 ghost use Rattle.psbt_codec.specs.declared.pairs.Part.TheVariants.{Input};
 ghost use Rattle.psbt_codec.specs.Reading.{cut, has_meaning, kind_in, unless, value_fits, has_key, input_value_fits, keyed_at, pair_at, map_at, value_of};
 ghost use Rattle.psbt_codec.specs.Fault.{type_fault};
+ghost use Rattle.psbt_codec.specs.FirstPair.{HasFirstPair};
 
 use crate::fault::PsbtFault;
 use crate::values::{check_version, paid_in, tx_in};
@@ -217,6 +218,7 @@ fn pair_of<'a>(
 ) -> Result<Option<Pair<'a>>, PsbtFault>
     ensures gives { Yields OutOfMemory (λ o. o) cursor.new result (pair_at part before.now cursor.old) }
     ensures short { result ≡ Err OutOfMemory → IsOkAnd (compact_at cursor.old) (λ len. len.0 ≢ 0) }
+    ensures input { result ≡ Err OutOfMemory → part ≡ Input }
 {
     let place = cursor.place();
     let len = cursor.compact()?;
@@ -236,6 +238,7 @@ pub fn pairs_of<'a>(
 ) -> Result<Vec<Pair<'a>>, PsbtFault>
     ensures gives { Yields OutOfMemory (λ v. v.items) cursor.new result (map_at part cursor.old) }
     ensures short { result ≡ Err OutOfMemory → 0 < length cursor.old.rest }
+    ensures begun { result ≡ Err OutOfMemory → part ≢ Input → HasFirstPair part cursor.old }
 {
     let mut seen = Seen::new(alloc);
     for _ in 0..cursor.rest().len() {

@@ -1,12 +1,14 @@
 //! PSBTs read. Pairs of a type that has no meaning here are passed over.
 
 ghost use Rattle.std.specs.Prelude.{◌≡◌, ◌≢◌, ◌==◌, ◌⊎◌, ℕ, List, [], ◌++◌, length, min, take, Err, IfOk, OnErr, IsSome, MatchResult};
-ghost use Rattle.fund_base.specs.Cursor.{IsBytes};
+ghost use Rattle.fund_base.specs.Cursor.{IsBytes, after};
 ghost use Rattle.fund_base.specs.Parsing.{Yields, YieldsAll};
 ghost use Rattle.psbt_codec.specs.declared.fault.PsbtFault.TheVariants.{Magic, WrongParent, Trailing, NotBase64, Memory as OutOfMemory};
+ghost use Rattle.psbt_codec.specs.declared.pairs.Part.TheVariants.{Global as OfGlobal};
+ghost use Rattle.psbt_codec.specs.FirstPair.{BeginsByPair, HasFirstPair};
 ghost use Rattle.psbt_codec.specs.PartialTransaction.{PartialTransaction};
 ghost use Rattle.psbt_codec.specs.Psbt.{IsFollowed, IsReadable, magic};
-ghost use Rattle.psbt_codec.specs.Reading.{unless, value_of, unsigned_of, global_at, spent_in, fits_input, input_at, each_at, next_input_at, next_output_at, maps_at, psbt_at, read_of};
+ghost use Rattle.psbt_codec.specs.Reading.{start, unless, value_of, unsigned_of, global_at, spent_in, fits_input, input_at, each_at, next_input_at, next_output_at, maps_at, psbt_at, read_of};
 
 use crate::fault::PsbtFault;
 use crate::pairs::{Pair, Part, pairs_of, value_of};
@@ -32,7 +34,8 @@ fn unsigned_of(alloc: Global, pairs: &[Pair]) -> Result<Tx, PsbtFault>
 
 #[tactic(auto, unfolding(crate::specs::Reading::global_at))]
 fn global_of(alloc: Global, cursor: &mut Cursor) -> Result<Tx, PsbtFault>
-    ensures { Yields OutOfMemory (λ t. t) cursor.new result (global_at cursor.old) }
+    ensures gives { Yields OutOfMemory (λ t. t) cursor.new result (global_at cursor.old) }
+    ensures begun { result ≡ Err OutOfMemory → HasFirstPair OfGlobal cursor.old }
 {
     let pairs = pairs_of(alloc, Part::Global, cursor)?;
     unsigned_of(alloc, &pairs)
@@ -112,7 +115,8 @@ fn outputs_of(alloc: Global, outputs: &[TxOut], cursor: &mut Cursor) -> Result<(
 
 #[tactic(auto, unfolding(crate::specs::Reading::maps_at))]
 fn maps_of(alloc: Global, cursor: &mut Cursor) -> Result<Psbt, PsbtFault>
-    ensures { Yields OutOfMemory (λ p. p) cursor.new result (maps_at cursor.old) }
+    ensures gives { Yields OutOfMemory (λ p. p) cursor.new result (maps_at cursor.old) }
+    ensures begun { result ≡ Err OutOfMemory → HasFirstPair OfGlobal cursor.old }
 {
     let tx = global_of(alloc, cursor)?;
     let spent = inputs_of(alloc, &tx.inputs, cursor)?;
@@ -124,6 +128,7 @@ fn maps_of(alloc: Global, cursor: &mut Cursor) -> Result<Psbt, PsbtFault>
 fn psbt_of(alloc: Global, cursor: &mut Cursor) -> Result<Psbt, PsbtFault>
     ensures gives { Yields OutOfMemory (λ p. p) cursor.new result (psbt_at cursor.old) }
     ensures short { result ≡ Err OutOfMemory → take 5 cursor.old.rest ≡ magic }
+    ensures begun { result ≡ Err OutOfMemory → HasFirstPair OfGlobal (after 5 cursor.old) }
 {
     match cursor.take(5) {
         Ok(first) if first == MAGIC.as_slice() => maps_of(alloc, cursor),
@@ -143,6 +148,8 @@ fn check_end(cursor: &Cursor) -> Result<(), PsbtFault>
 
 fn whole_of(alloc: Global, bytes: &[u8]) -> Result<Psbt, PsbtFault>
     ensures exact { YieldsAll OutOfMemory (λ p. p) result (read_of bytes.now) }
+    ensures short { result ≡ Err OutOfMemory → take 5 bytes.now ≡ magic }
+    ensures begun { result ≡ Err OutOfMemory → HasFirstPair OfGlobal (after 5 (start bytes.now)) }
     ensures bytes { IsBytes bytes.now }
 {
     let mut cursor = Cursor::new(bytes);
@@ -166,10 +173,13 @@ pub fn read_psbt(alloc: Global, bytes: &[u8]) -> Result<Psbt, PsbtFault>
     // Which fault it is.
     ensures exact { YieldsAll OutOfMemory (λ p. p) result (read_of bytes.now) }
     ensures magic { result ≡ Err Magic → (rest : List ℕ) → bytes.now ≢ magic ++ rest }
-    ensures unmarked { ((rest : List ℕ) → bytes.now ≢ magic ++ rest) → MatchResult result (λ _. ⊥) (λ e. e ≢ OutOfMemory → e ≡ Magic) }
+    ensures unmarked { ((rest : List ℕ) → bytes.now ≢ magic ++ rest) → result ≡ Err Magic }
     ensures trailing { (place : ℕ) → result ≡ Err (Trailing place) → IsFollowed bytes.now place }
     ensures followed { (place : ℕ) → IsFollowed bytes.now place → MatchResult result (λ _. ⊥) (λ e. e ≢ OutOfMemory → e ≡ Trailing place) }
     ensures never_text { result ≢ Err NotBase64 }
+
+    // Memory is asked for behind the first pair of the global map, so no fault that shows before is out of memory.
+    ensures begun { result ≡ Err OutOfMemory → BeginsByPair bytes.now }
 {
     whole_of(alloc, bytes)
 }

@@ -10,6 +10,7 @@ pub mod FormLaws
 pub mod HonestLaws
 pub mod JudgeLaws
 pub mod NamingLaws
+pub mod NoTriesLaws
 pub mod OneLaws
 pub mod PaidLaws
 pub mod PaymentLaws

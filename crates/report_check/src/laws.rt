@@ -1,8 +1,9 @@
 //! Laws of reports that are accepted. A call of any of them does nothing.
 
-ghost use Rattle.std.specs.Prelude.{◌≡◌, ◌≢◌, ◌≤◌, ◌+◌, ◌++◌, [], ℕ, List, All, Contains, None, Some, true};
+ghost use Rattle.std.specs.Prelude.{◌≡◌, ◌≢◌, ◌<◌, ◌≤◌, ◌+◌, ◌++◌, [], ℕ, List, All, Contains, None, Some, true};
 ghost use Rattle.std.specs.List.{AllByRecursion};
 ghost use Rattle.closing_log.specs.Log.{PlainLog};
+ghost use Rattle.closing_log.specs.declared.mark.Mark.TheVariants.{Given};
 ghost use Rattle.fee_rates.specs.Fee.{fee_of};
 ghost use Rattle.fee_rates.specs.Terms.{base_of};
 ghost use Rattle.fund_base.specs.declared.candidate.Candidate.{Candidate};
@@ -25,7 +26,7 @@ ghost use Rattle.search_run.specs.Searched.{AreSectionsOf};
 ghost use Rattle.search_run.specs.Step.{AreSteps};
 ghost use Rattle.search_run.specs.declared.ending.End.TheVariants as ends;
 ghost use Rattle.report_check.specs.Payment.{line_of};
-ghost use Rattle.report_check.specs.Proved.{HasTries, HasTriesLine, IsEndedText};
+ghost use Rattle.report_check.specs.Proved.{HasTries, HasTriesLine, IsEndedText, tries_place};
 ghost use Rattle.report_check.specs.Verdict.{BreaksFirst, IsAccepted, IsBacked, IsFault, IsPaid};
 ghost use Rattle.report_check.specs.Vouched.{IsOfPayment, Vouches};
 ghost use Rattle.report_check.specs.declared.fault.CheckFault.{CheckFault};
@@ -59,6 +60,14 @@ pub fn reports_have_one_verdict()
 /// The place that is told where the tries aren't those of the log is that of their line, in any text of the report.
 pub fn tries_have_their_line()
     ensures { (bytes : List ℕ) (r : Report) → IsReportText bytes r → HasTriesLine bytes r }
+{}
+
+/// The law of reports of the presets alone, which the mark given tells: no search is made for them. So one that is accepted
+/// tells of no try; and one that pays as it says and tells of a try that wasn't made is refused for the line of its tries,
+/// beside any log without sections.
+pub fn given_reports_tell_no_tries()
+    ensures accepted { (p : PlainPlan) (f : PlainFunded) (bytes : List ℕ) → f.mark ≡ Given → IsAccepted p (reports.Funded f) bytes → f.tries ≡ 0 }
+    ensures refused { (p : PlainPlan) (f : PlainFunded) (bytes : List ℕ) (log : PlainLog) → f.mark ≡ Given → 0 < f.tries → IsPaid p (reports.Funded f) → IsEndedText bytes log → log.closed ≡ [] → IsFault p (reports.Funded f) bytes (CheckFault.Report (tries_place (reports.Funded f))) }
 {}
 
 /// The law of honest reports: the answer of a plan is accepted, with any log that has an accepted section for each search up

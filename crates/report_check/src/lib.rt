@@ -28,6 +28,7 @@ mod up_to;
 pub use examiner::Examiner;
 pub use fault::CheckFault;
 pub use laws::{
-    accepted_reports_name_the_answer, honest_reports_are_accepted, logs_break_one_rule_first,
-    paid_reports_pay_the_burden, reports_have_one_verdict, tries_have_their_line,
+    accepted_reports_name_the_answer, given_reports_tell_no_tries, honest_reports_are_accepted,
+    logs_break_one_rule_first, paid_reports_pay_the_burden, reports_have_one_verdict,
+    tries_have_their_line,
 };

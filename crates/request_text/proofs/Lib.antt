@@ -9,5 +9,6 @@ pub mod RepeatLaws
 pub mod Repeats
 pub mod SeedLaws
 pub mod Seeds
+pub mod Stored
 pub mod TableLaws
 pub mod Witness

@@ -1,9 +1,8 @@
 -- Words and lists of a request file, without the order in which they are read.
-use Rattle.std.specs.Prelude.{ℕ, ◌≡◌, ◌≢◌, List, ◌∷◌, ◌++◌, length, codes, AllPairs, Contains}
+use Rattle.std.specs.Prelude.{ℕ, ◌≡◌, List, length, codes}
 use Rattle.std.specs.List.{AllPass}
 use Rattle.hex.specs.Hex.{is_hex_digit}
 use Rattle.serde_json.specs.Data.{Data, string}
-use Rattle.fund_base.specs.declared.outpoint.OutPoint.{OutPoint}
 use Rattle.request_text.specs.declared.request.Method.{Method}
 use Rattle.request_text.specs.declared.request.Method.TheVariants.{Auto, Changeless, Weight, Draw, Manual}
 

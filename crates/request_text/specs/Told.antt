@@ -9,19 +9,19 @@ use Rattle.request_text.specs.declared.fault.Refusal.TheVariants as plain
 use Rattle.request_text.specs.declared.fault.RequestFault.{RequestFault}
 use Rattle.request_text.specs.declared.fault.RequestFault.TheVariants.{NotJson, Kind, Member, Missing, Address, Script, AmountRange, Dust, SumRange, NoRecipients, RateRange, TriesRange, Repeat, Memory}
 
--- a fault with its name as bytes
+-- a fault with the name of a member as bytes
 abbrev pub plain_fault : RequestFault → Refusal
 plain_fault NotJson = plain.Field given.NotJson
-plain_fault (Kind name) = plain.Field (given.Kind (string_bytes name))
+plain_fault (Kind name) = plain.Field (given.Kind name)
 plain_fault (Member name) = plain.Field (given.Member (string_bytes name))
-plain_fault (Missing name) = plain.Field (given.Missing (string_bytes name))
+plain_fault (Missing name) = plain.Field (given.Missing name)
 plain_fault (Address index fault) = plain.Address index fault
 plain_fault (Script index) = plain.Script index
 plain_fault (AmountRange index) = plain.AmountRange index
 plain_fault (Dust index) = plain.Dust index
 plain_fault SumRange = plain.SumRange
 plain_fault NoRecipients = plain.NoRecipients
-plain_fault (RateRange name) = plain.RateRange (string_bytes name)
+plain_fault (RateRange name) = plain.RateRange name
 plain_fault TriesRange = plain.TriesRange
 plain_fault (Repeat index) = plain.Repeat index
 plain_fault Memory = plain.Field given.Memory

@@ -18,13 +18,13 @@ pub enum RequestFault {
     NotJson,
     /// The value of this name isn't of its kind, or a number is out of its range. The whole file is named `root`. A
     /// recipient that isn't an object, or that has both or neither of `address` and `script`, is named `recipients`.
-    Kind(String),
+    Kind(Name),
     /// An object has this member, which isn't known: of several, the least by bytes. Beside `bump` the member `coins`
     /// counts as one that isn't known.
     Member(String),
     /// An object lacks this member: of several, the first in the order of its table. A `seed` is lacking only where the
     /// method is left out, or is `auto` or `draw`.
-    Missing(String),
+    Missing(Name),
     /// The address of the recipient at this index is none, for this cause, which never is out of memory.
     Address(u32, AddrFault),
     /// The script of the recipient at this index is empty or longer than 10,000 bytes.
@@ -38,7 +38,7 @@ pub enum RequestFault {
     /// There is no recipient.
     NoRecipients,
     /// The rate of this name is above 100,000,000.
-    RateRange(String),
+    RateRange(Name),
     /// The number of tries isn't in 1 to 10,000,000.
     TriesRange,
     /// The coin at this index of `coins` stands before it too.
@@ -94,20 +94,20 @@ impl<T: Drop> From<AllocFailed<T>> for Refusal {
     }
 }
 
-/// The fault of a JSON file, with its name as a `String`.
+/// The fault of a JSON file. A name that the file spells is given out as a `String`.
 fn field_told(fault: FieldFault) -> RequestFault
     ensures { plain_fault result ≡ FieldRefusal fault }
 {
     match fault {
         FieldFault::NotJson => RequestFault::NotJson,
-        FieldFault::Kind(name) => RequestFault::Kind(name.into_string()),
+        FieldFault::Kind(name) => RequestFault::Kind(name),
         FieldFault::Member(name) => RequestFault::Member(name.into_string()),
-        FieldFault::Missing(name) => RequestFault::Missing(name.into_string()),
+        FieldFault::Missing(name) => RequestFault::Missing(name),
         FieldFault::Memory => RequestFault::Memory,
     }
 }
 
-/// The fault, with its name as a `String`. It takes no memory.
+/// The fault. It takes no memory.
 pub(crate) fn told(refusal: Refusal) -> RequestFault
     ensures { plain_fault result ≡ refusal }
 {
@@ -119,7 +119,7 @@ pub(crate) fn told(refusal: Refusal) -> RequestFault
         Refusal::Dust(index) => RequestFault::Dust(index),
         Refusal::SumRange => RequestFault::SumRange,
         Refusal::NoRecipients => RequestFault::NoRecipients,
-        Refusal::RateRange(name) => RequestFault::RateRange(name.into_string()),
+        Refusal::RateRange(name) => RequestFault::RateRange(name),
         Refusal::TriesRange => RequestFault::TriesRange,
         Refusal::Repeat(index) => RequestFault::Repeat(index),
     }

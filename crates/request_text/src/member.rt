@@ -16,73 +16,59 @@ use fund_base::{Txid, are_bytes};
 use hex::FromHex;
 use json_fields::{FieldFault, Name, flag_of, number_of, text_of, txid_of};
 use serde_json::Value;
-use std::alloc::Global;
 
 /// The greatest number of tries.
 const MAX_TRIES: u64 = 10_000_000;
 
-/// That the rate of this name is above its range.
-fn rate_range(alloc: Global, name: &str) -> Refusal
-    ensures fault { result ≢ FieldRefusal NoMemory → result ≡ BadRate name.now }
-    ensures cause { HasCause result }
-{
-    match Name::new(alloc, name) {
-        Ok(name) => Refusal::RateRange(name),
-        Err(_) => Refusal::Field(FieldFault::Memory),
-    }
-}
-
 /// The rate, of at most 100,000,000.
 #[tactic(auto, unfolding(crate::specs::RequestText::rate_at))]
-pub fn rate_of(alloc: Global, value: &Value, name: &str) -> Result<u64, Refusal>
-    ensures gives { Gives (λ n. n) result (rate_at name.now (view value.now)) }
+pub fn rate_of(value: &Value, name: &'static str) -> Result<u64, Refusal>
+    ensures exact { result ≡ rate_at name.now (view value.now) }
+    ensures never { result ≢ Err (FieldRefusal NoMemory) }
     ensures most { IfOk result (λ n. n ≤ MAX_RATE) }
     ensures cause { IfErr result HasCause }
 {
-    let rate = number_of(alloc, value, name, u64::MAX)?;
+    let rate = number_of(value, name, u64::MAX)?;
     if rate > MAX_RATE {
-        return Err(rate_range(alloc, name));
+        return Err(Refusal::RateRange(Name::new(name)));
     }
     Ok(rate)
 }
 
 /// The rate of the member of this name.
-pub fn rate_or(alloc: Global, whole: &Value, name: &str, default: u64) -> Result<u64, Refusal>
+pub fn rate_or(whole: &Value, name: &'static str, default: u64) -> Result<u64, Refusal>
     requires { default ≤ MAX_RATE }
-    ensures gives { Gives (λ n. n) result (or_else default (rate_at name.now) name.now (view whole.now)) }
+    ensures exact { result ≡ or_else default (rate_at name.now) name.now (view whole.now) }
+    ensures never { result ≢ Err (FieldRefusal NoMemory) }
     ensures most { IfOk result (λ n. n ≤ MAX_RATE) }
     ensures cause { IfErr result HasCause }
 {
     match whole.get(name) {
-        Some(value) => rate_of(alloc, value, name),
+        Some(value) => rate_of(value, name),
         None => Ok(default),
     }
 }
 
 /// The whole number, of at most `most`, of the member of this name.
-pub fn number_or(
-    alloc: Global,
-    whole: &Value,
-    name: &str,
-    most: u64,
-    default: u64,
-) -> Result<u64, Refusal>
+pub fn number_or(whole: &Value, name: &'static str, most: u64, default: u64) -> Result<u64, Refusal>
     requires { default ≤ most }
-    ensures gives { Gives (λ n. n) result (or_else default (λ m. field (number_at name.now most m)) name.now (view whole.now)) }
+    ensures exact { result ≡ or_else default (λ m. field (number_at name.now most m)) name.now (view whole.now) }
+    ensures never { result ≢ Err (FieldRefusal NoMemory) }
     ensures most { IfOk result (λ n. n ≤ most) }
 {
     match whole.get(name) {
-        Some(value) => Ok(number_of(alloc, value, name, most)?),
+        Some(value) => Ok(number_of(value, name, most)?),
         None => Ok(default),
     }
 }
 
 /// The truth value of the member of this name.
-pub fn flag_or(alloc: Global, whole: &Value, name: &str, default: bool) -> Result<bool, Refusal>
-    ensures { Gives (λ b. b) result (or_else default (λ m. field (flag_at name.now m)) name.now (view whole.now)) }
+pub fn flag_or(whole: &Value, name: &'static str, default: bool) -> Result<bool, Refusal>
+    ensures exact { result ≡ or_else default (λ m. field (flag_at name.now m)) name.now (view whole.now) }
+    ensures never { result ≢ Err (FieldRefusal NoMemory) }
 {
     match whole.get(name) {
-        Some(value) => Ok(flag_of(alloc, value, name)?),
+        Some(value) => Ok(flag_of(value, name)?),
         None => Ok(default),
     }
 }
@@ -108,42 +94,46 @@ pub fn method_in(word: &str) -> Option<Method>
 }
 
 #[tactic(auto, unfolding(crate::specs::RequestText::method_at))]
-fn method_of(alloc: Global, value: &Value) -> Result<Method, Refusal>
-    ensures { Gives (λ m. m) result (field (method_at (view value.now))) }
+fn method_of(value: &Value) -> Result<Method, Refusal>
+    ensures exact { result ≡ field (method_at (view value.now)) }
+    ensures never { result ≢ Err (FieldRefusal NoMemory) }
 {
-    match method_in(text_of(alloc, value, "method")?) {
+    match method_in(text_of(value, "method")?) {
         Some(method) => Ok(method),
-        None => Err(Refusal::Field(FieldFault::kind(alloc, "method"))),
+        None => Err(Refusal::Field(FieldFault::kind("method"))),
     }
 }
 
 /// The method, `auto` where it is left out.
-pub fn method_or_auto(alloc: Global, whole: &Value) -> Result<Method, Refusal>
-    ensures { Gives (λ m. m) result (or_else Method.Auto (λ m. field (method_at m)) (codes "method") (view whole.now)) }
+pub fn method_or_auto(whole: &Value) -> Result<Method, Refusal>
+    ensures exact { result ≡ or_else Method.Auto (λ m. field (method_at m)) (codes "method") (view whole.now) }
+    ensures never { result ≢ Err (FieldRefusal NoMemory) }
 {
     match whole.get("method") {
-        Some(value) => method_of(alloc, value),
+        Some(value) => method_of(value),
         None => Ok(Method::Auto),
     }
 }
 
 #[tactic(auto, unfolding(crate::specs::RequestText::seed_at))]
-fn seed_of(alloc: Global, value: &Value) -> Result<[u8; 32], Refusal>
-    ensures { Gives (λ s. s) result (field (seed_at (view value.now))) }
+fn seed_of(value: &Value) -> Result<[u8; 32], Refusal>
+    ensures exact { result ≡ field (seed_at (view value.now)) }
+    ensures never { result ≢ Err (FieldRefusal NoMemory) }
 {
-    match <[u8; 32] as FromHex>::from_hex(text_of(alloc, value, "seed")?) {
+    match <[u8; 32] as FromHex>::from_hex(text_of(value, "seed")?) {
         Ok(seed) => Ok(seed),
-        Err(_) => Err(Refusal::Field(FieldFault::kind(alloc, "seed"))),
+        Err(_) => Err(Refusal::Field(FieldFault::kind("seed"))),
     }
 }
 
 /// The seed, zeros where it is left out.
-pub fn seed_or_zeros(alloc: Global, whole: &Value) -> Result<[u8; 32], Refusal>
-    ensures gives { Gives (λ s. s) result (or_else (replicate 32 0) (λ m. field (seed_at m)) (codes "seed") (view whole.now)) }
+pub fn seed_or_zeros(whole: &Value) -> Result<[u8; 32], Refusal>
+    ensures exact { result ≡ or_else (replicate 32 0) (λ m. field (seed_at m)) (codes "seed") (view whole.now) }
+    ensures never { result ≢ Err (FieldRefusal NoMemory) }
     ensures is { IfOk result IsHash }
 {
     let seed = match whole.get("seed") {
-        Some(value) => seed_of(alloc, value)?,
+        Some(value) => seed_of(value)?,
         None => [0; 32],
     };
     are_bytes(&seed);
@@ -152,7 +142,8 @@ pub fn seed_or_zeros(alloc: Global, whole: &Value) -> Result<[u8; 32], Refusal>
 
 /// That the number of tries is in its range. It never runs out of memory.
 fn check_tries(tries: u64) -> Result<(), Refusal>
-    ensures { result ≡ (if (tries == 0) || nat_lt 10_000_000 tries then Err BadTries else Ok tt) }
+    ensures exact { result ≡ (if (tries == 0) || nat_lt 10_000_000 tries then Err BadTries else Ok tt) }
+    ensures never { result ≢ Err (FieldRefusal NoMemory) }
 {
     if tries == 0 || tries > MAX_TRIES {
         return Err(Refusal::TriesRange);
@@ -161,26 +152,27 @@ fn check_tries(tries: u64) -> Result<(), Refusal>
 }
 
 #[tactic(auto, unfolding(crate::specs::RequestText::tries_at))]
-fn tries_of(alloc: Global, value: &Value) -> Result<u64, Refusal>
-    ensures gives { Gives (λ n. n) result (tries_at (view value.now)) }
-    ensures given { IsOk (whole_at (codes "tries") (view value.now)) → result ≡ tries_at (view value.now) }
+fn tries_of(value: &Value) -> Result<u64, Refusal>
+    ensures exact { result ≡ tries_at (view value.now) }
+    ensures never { result ≢ Err (FieldRefusal NoMemory) }
     ensures range { IfOk result (λ n. (1 ≤ n) × (n ≤ 10_000_000)) }
     ensures cause { IfErr result HasCause }
 {
-    let tries = number_of(alloc, value, "tries", u64::MAX)?;
+    let tries = number_of(value, "tries", u64::MAX)?;
     check_tries(tries)?;
     Ok(tries)
 }
 
 /// The number of tries, 100,000 where it is left out.
-pub fn tries_or(alloc: Global, whole: &Value, default: u64) -> Result<u64, Refusal>
+pub fn tries_or(whole: &Value, default: u64) -> Result<u64, Refusal>
     requires { (1 ≤ default) × (default ≤ 10_000_000) }
-    ensures gives { Gives (λ n. n) result (or_else default tries_at (codes "tries") (view whole.now)) }
+    ensures exact { result ≡ or_else default tries_at (codes "tries") (view whole.now) }
+    ensures never { result ≢ Err (FieldRefusal NoMemory) }
     ensures range { IfOk result (λ n. (1 ≤ n) × (n ≤ 10_000_000)) }
     ensures cause { IfErr result HasCause }
 {
     match whole.get("tries") {
-        Some(value) => tries_of(alloc, value),
+        Some(value) => tries_of(value),
         None => Ok(default),
     }
 }
@@ -199,33 +191,36 @@ fn take_in(word: &str) -> Option<bool>
 }
 
 #[tactic(auto, unfolding(crate::specs::RequestText::take_at))]
-fn take_of(alloc: Global, value: &Value) -> Result<bool, Refusal>
-    ensures { Gives (λ b. b) result (field (take_at (view value.now))) }
+fn take_of(value: &Value) -> Result<bool, Refusal>
+    ensures exact { result ≡ field (take_at (view value.now)) }
+    ensures never { result ≢ Err (FieldRefusal NoMemory) }
 {
-    match take_in(text_of(alloc, value, "when_unfinished")?) {
+    match take_in(text_of(value, "when_unfinished")?) {
         Some(take) => Ok(take),
-        None => Err(Refusal::Field(FieldFault::kind(alloc, "when_unfinished"))),
+        None => Err(Refusal::Field(FieldFault::kind("when_unfinished"))),
     }
 }
 
 /// Whether the best that was found is taken: so where the member is left out.
-pub fn take_or_true(alloc: Global, whole: &Value) -> Result<bool, Refusal>
-    ensures { Gives (λ b. b) result (or_else true (λ m. field (take_at m)) (codes "when_unfinished") (view whole.now)) }
+pub fn take_or_true(whole: &Value) -> Result<bool, Refusal>
+    ensures exact { result ≡ or_else true (λ m. field (take_at m)) (codes "when_unfinished") (view whole.now) }
+    ensures never { result ≢ Err (FieldRefusal NoMemory) }
 {
     match whole.get("when_unfinished") {
-        Some(value) => take_of(alloc, value),
+        Some(value) => take_of(value),
         None => Ok(true),
     }
 }
 
 /// The txid of the transaction that is replaced, if there is one.
-pub fn bump_or_none(alloc: Global, whole: &Value) -> Result<Option<Txid>, Refusal>
-    ensures gives { Gives (λ b. b) result (or_else None (λ m. field (bump_at m)) (codes "bump") (view whole.now)) }
+pub fn bump_or_none(whole: &Value) -> Result<Option<Txid>, Refusal>
+    ensures exact { result ≡ or_else None (λ m. field (bump_at m)) (codes "bump") (view whole.now) }
+    ensures never { result ≢ Err (FieldRefusal NoMemory) }
     ensures is { IfOk result (λ b. IfSome b IsHash) }
     ensures there { IfOk result (λ b. IsSome b → is_some (get (codes "bump") (view whole.now)) ≡ true) }
 {
     match whole.get("bump") {
-        Some(value) => Ok(Some(txid_of(alloc, value, "bump")?)),
+        Some(value) => Ok(Some(txid_of(value, "bump")?)),
         None => Ok(None),
     }
 }

@@ -1,16 +1,19 @@
 //! Reading a request file.
 
-ghost use Rattle.std.specs.Prelude.{◌≡◌, IfOk, IfErr, is_some, codes, true};
+ghost use Rattle.std.specs.Prelude.{◌≡◌, Err, IfOk, IfErr, is_some, codes, true};
 ghost use Rattle.serde_json.specs.Data.{Data};
 ghost use Rattle.serde_json.specs.Find.{get};
 ghost use Rattle.serde_json.specs.View.{view};
 ghost use Rattle.fund_base.specs.Parsing.{YieldsAll};
 ghost use Rattle.json_fields.specs.Fields.{object_at, parsed, texts};
+ghost use Rattle.json_fields.specs.Memory.{StoresName};
 ghost use Rattle.json_fields.specs.declared.fault.FieldFault.TheVariants.{Memory as NoMemory};
 ghost use Rattle.request_text.specs.Parts.{parts_at};
 ghost use Rattle.request_text.specs.PlainRequest.{IsRequest, draws};
 ghost use Rattle.request_text.specs.RequestText.{known_in, needs_seed, request_of, required_in};
+ghost use Rattle.request_text.specs.Stores.{StoresRequest};
 ghost use Rattle.request_text.specs.Told.{Gives, HasCause, Reads, plain_fault};
+ghost use Rattle.request_text.specs.declared.fault.Refusal.TheVariants.{Field as FieldRefusal};
 
 use crate::coins::coins_or_none;
 use crate::fault::{Refusal, RequestFault, told};
@@ -48,7 +51,8 @@ fn needs_seed(value: &Value) -> bool
 
 /// That the value is an object with these known members and the required ones.
 fn whole_among(alloc: Global, value: &Value, known: &[&str]) -> Result<(), FieldFault>
-    ensures { YieldsAll NoMemory (λ _. tt) result (object_at (codes "root") (texts known.now) (required_in (view value.now)) (view value.now)) }
+    ensures gives { YieldsAll NoMemory (λ _. tt) result (object_at (codes "root") (texts known.now) (required_in (view value.now)) (view value.now)) }
+    ensures short { result ≡ Err NoMemory → StoresName (object_at (codes "root") (texts known.now) (required_in (view value.now)) (view value.now)) }
 {
     let required = ["recipients", "rate", "seed"];
     if needs_seed(value) {
@@ -67,7 +71,8 @@ fn has(value: &Value, name: &str) -> bool
 
 /// That the value is an object with known members and the required ones.
 fn whole_of(alloc: Global, value: &Value) -> Result<(), FieldFault>
-    ensures { YieldsAll NoMemory (λ _. tt) result (object_at (codes "root") (known_in (view value.now)) (required_in (view value.now)) (view value.now)) }
+    ensures gives { YieldsAll NoMemory (λ _. tt) result (object_at (codes "root") (known_in (view value.now)) (required_in (view value.now)) (view value.now)) }
+    ensures short { result ≡ Err NoMemory → StoresName (object_at (codes "root") (known_in (view value.now)) (required_in (view value.now)) (view value.now)) }
 {
     let known = [
         "coins",
@@ -98,16 +103,18 @@ fn whole_of(alloc: Global, value: &Value) -> Result<(), FieldFault>
 #[tactic(auto, unfolding(crate::specs::Parts::parts_at))]
 fn request_in(alloc: Global, value: &Value) -> Result<Request, Refusal>
     ensures gives { Gives (λ r. r) result (parts_at (view value.now)) }
+    // Memory runs out only where the name of an unknown member has to be stored, or behind the first recipient's script.
+    ensures short { result ≡ Err (FieldRefusal NoMemory) → StoresRequest (view value.now) }
     ensures seed { IfOk result (λ r. draws r.method ≡ true → is_some (get (codes "seed") (view value.now)) ≡ true) }
     ensures cause { IfErr result HasCause }
 {
     whole_of(alloc, value)?;
-    let recipients = recipients_of(alloc, member_of(alloc, value, "recipients")?)?;
-    let rates = rates_of(alloc, value)?;
-    let search = search_of(alloc, value)?;
-    let policy = policy_of(alloc, value)?;
+    let recipients = recipients_of(alloc, member_of(value, "recipients")?)?;
+    let rates = rates_of(value)?;
+    let search = search_of(value)?;
+    let policy = policy_of(value)?;
     let coins = coins_or_none(alloc, value)?;
-    let terms = terms_of(alloc, value)?;
+    let terms = terms_of(value)?;
     Ok(Request {
         recipients,
         rate: rates.rate,

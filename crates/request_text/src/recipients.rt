@@ -1,23 +1,27 @@
 //! The recipients of a request, each by an address or by a script.
 
-ghost use Rattle.std.specs.Prelude.{◌≡◌, ◌≤◌, ◌<◌, ◌==◌, ◌||◌, [], All, IfOk, IfErr, IsOk, IsTrue, ◌↔◌, Ok, Err, codes, length, nat_le, nat_lt, if◌then◌else◌};
+ghost use Rattle.std.specs.Prelude.{◌≡◌, ◌≢◌, ◌≤◌, ◌<◌, ◌==◌, ◌||◌, [], All, IfOk, IfErr, IsOk, IsTrue, ◌↔◌, Ok, Err, codes, length, nat_le, nat_lt, if◌then◌else◌};
 ghost use Rattle.serde_json.specs.Find.{get};
 ghost use Rattle.serde_json.specs.View.{view, items_view};
 ghost use Rattle.json_fields.specs.Fields.{each_from};
+ghost use Rattle.json_fields.specs.Memory.{StoresFirst, StoresList};
 ghost use Rattle.json_fields.specs.declared.fault.FieldFault.TheVariants.{Memory as NoMemory};
 ghost use Rattle.request_text.specs.PlainRequest.{IsRecipient, paid_to};
 ghost use Rattle.request_text.specs.RequestText.{amount_at, field, index_of, one_of, paid_at, recipient_behind, recipients_at, to_address_at, to_script_at};
+ghost use Rattle.request_text.specs.Stores.{StoresAddress, StoresRecipient, StoresScript};
 ghost use Rattle.request_text.specs.Told.{Gives, HasCause};
 ghost use Rattle.segwit_addr.specs.Reading.{decode_of};
-ghost use Rattle.fund_base.specs.Parsing.{YieldsAll, fault_as};
-ghost use Rattle.request_text.specs.declared.fault.Refusal.TheVariants.{Address as BadAddress, Field as FieldRefusal, NoRecipients as Empty, Script as BadScript, SumRange};
+ghost use Rattle.fund_base.specs.Parsing.{fault_as};
+ghost use Rattle.request_text.specs.declared.fault.Refusal.TheVariants.{Address as BadAddress, AmountRange, Field as FieldRefusal, NoRecipients as Empty, Script as BadScript, SumRange};
 
 use crate::bounds::index_of;
 use crate::fault::Refusal;
 use crate::request::Recipient;
 use fee_rates::dust;
 use fund_base::{MAX_MONEY, Script, are_bytes};
-use json_fields::{FieldFault, entries_of, hex_of, member_of, number_of, object_of, text_of};
+use json_fields::{
+    FieldFault, HexText, entries_of, hex_text_of, member_of, number_of, object_of, text_of,
+};
 use segwit_addr::{AddrFault, decode};
 use serde_json::Value;
 use std::alloc::Global;
@@ -26,22 +30,35 @@ use std::alloc::Global;
 const MAX_SCRIPT: usize = 10_000;
 
 /// That the entry has exactly one of an address and a script.
-fn one_of(alloc: Global, entry: &Value) -> Result<(), FieldFault>
-    ensures { YieldsAll NoMemory (λ _. tt) result (one_of (get (codes "address") (view entry.now)) (get (codes "script") (view entry.now))) }
+fn one_of(entry: &Value) -> Result<(), FieldFault>
+    ensures exact { result ≡ one_of (get (codes "address") (view entry.now)) (get (codes "script") (view entry.now)) }
+    ensures never { result ≢ Err NoMemory }
 {
     match (entry.get("address"), entry.get("script")) {
         (Some(_), None) | (None, Some(_)) => Ok(()),
-        _ => Err(FieldFault::kind(alloc, "recipients")),
+        _ => Err(FieldFault::kind("recipients")),
     }
 }
 
 /// The amount of the entry.
-fn amount_of(alloc: Global, entry: &Value) -> Result<u64, Refusal>
-    ensures gives { Gives (λ n. n) result (amount_at (view entry.now)) }
+fn amount_of(entry: &Value) -> Result<u64, Refusal>
+    ensures exact { result ≡ amount_at (view entry.now) }
+    ensures never { result ≢ Err (FieldRefusal NoMemory) }
     ensures cause { IfErr result HasCause }
 {
-    let amount = member_of(alloc, entry, "amount")?;
-    Ok(number_of(alloc, amount, "amount", u64::MAX)?)
+    let amount = member_of(entry, "amount")?;
+    Ok(number_of(amount, "amount", u64::MAX)?)
+}
+
+/// That the amount of the recipient at this index is at most 21,000,000 bitcoin. It never runs out of memory.
+fn check_amount(index: u32, amount: u64) -> Result<(), Refusal>
+    ensures exact { result ≡ (if nat_lt 2_100_000_000_000_000 amount then Err (AmountRange index) else Ok tt) }
+    ensures never { result ≢ Err (FieldRefusal NoMemory) }
+{
+    if amount > MAX_MONEY {
+        return Err(Refusal::AmountRange(index));
+    }
+    Ok(())
 }
 
 /// What is paid to the script, by the recipient at this index. It never runs out of memory.
@@ -49,15 +66,13 @@ fn amount_of(alloc: Global, entry: &Value) -> Result<u64, Refusal>
 fn paid(index: u32, script: Script, amount: u64) -> Result<Recipient, Refusal>
     requires some { 1 ≤ length script }
     requires most { length script ≤ 10_000 }
+    requires money { amount ≤ 2_100_000_000_000_000 }
     ensures exact { result ≡ paid_at index script amount }
-    ensures gives { Gives (λ r. r) result (paid_at index script amount) }
+    ensures never { result ≢ Err (FieldRefusal NoMemory) }
     ensures is { IfOk result IsRecipient }
     ensures cause { IfErr result HasCause }
 {
     are_bytes(script.bytes());
-    if amount > MAX_MONEY {
-        return Err(Refusal::AmountRange(index));
-    }
     if amount < dust(&script) {
         return Err(Refusal::Dust(index));
     }
@@ -81,7 +96,7 @@ fn script_of_address(alloc: Global, index: u32, text: &str) -> Result<Script, Re
 }
 
 /// The recipient of an entry that names an address.
-#[tactic(auto, unfolding(crate::specs::RequestText::to_address_at))]
+#[tactic(auto, unfolding(crate::specs::RequestText::to_address_at, crate::specs::RequestText::paid_at))]
 fn to_address(
     alloc: Global,
     index: u32,
@@ -89,47 +104,53 @@ fn to_address(
     entry: &Value,
 ) -> Result<Recipient, Refusal>
     ensures gives { Gives (λ r. r) result (to_address_at index (view address.now) (view entry.now)) }
+    ensures short { result ≡ Err (FieldRefusal NoMemory) → StoresAddress (view address.now) (view entry.now) }
     ensures is { IfOk result IsRecipient }
     ensures cause { IfErr result HasCause }
 {
-    let text = text_of(alloc, address, "address")?;
-    let amount = amount_of(alloc, entry)?;
+    let text = text_of(address, "address")?;
+    let amount = amount_of(entry)?;
     let script = script_of_address(alloc, index, text)?;
+    check_amount(index, amount)?;
     paid(index, script, amount)
 }
 
-/// That a script of these bytes may be paid to: it has 1 to 10,000 of them. It never runs out of memory.
-fn check_script(index: u32, bytes: &[u8]) -> Result<(), Refusal>
-    ensures { result ≡ (if (length bytes.now == 0) || nat_lt 10_000 (length bytes.now) then Err (BadScript index) else Ok tt) }
+/// That the script that is spelled may be paid to: it has 1 to 10,000 bytes. It never runs out of memory.
+fn check_script(index: u32, script: &HexText) -> Result<(), Refusal>
+    ensures exact { result ≡ (if (length script.now == 0) || nat_lt 10_000 (length script.now) then Err (BadScript index) else Ok tt) }
+    ensures never { result ≢ Err (FieldRefusal NoMemory) }
 {
-    if bytes.is_empty() || bytes.len() > MAX_SCRIPT {
+    if script.count() == 0 || script.count() > MAX_SCRIPT {
         return Err(Refusal::Script(index));
     }
     Ok(())
 }
 
-/// The recipient of an entry that spells its script.
-#[tactic(auto, unfolding(crate::specs::RequestText::to_script_at))]
+/// The recipient of an entry that spells its script, which is stored behind all rules but that of dust.
+#[tactic(auto, unfolding(crate::specs::RequestText::to_script_at, crate::specs::RequestText::paid_at))]
 fn to_script(alloc: Global, index: u32, entry: &Value) -> Result<Recipient, Refusal>
     ensures gives { Gives (λ r. r) result (to_script_at index (view entry.now)) }
+    ensures short { result ≡ Err (FieldRefusal NoMemory) → StoresScript (view entry.now) }
     ensures is { IfOk result IsRecipient }
     ensures cause { IfErr result HasCause }
 {
-    let spelled = member_of(alloc, entry, "script")?;
-    let bytes = hex_of(alloc, spelled, "script")?;
-    let amount = amount_of(alloc, entry)?;
-    check_script(index, &bytes)?;
-    paid(index, Script::new(bytes), amount)
+    let spelled = hex_text_of(member_of(entry, "script")?, "script")?;
+    let amount = amount_of(entry)?;
+    check_script(index, &spelled)?;
+    check_amount(index, amount)?;
+    let script = spelled.bytes(alloc)?;
+    paid(index, Script::new(script), amount)
 }
 
 /// The recipient that an entry after others is.
 #[tactic(auto, unfolding(crate::specs::RequestText::recipient_behind))]
 fn next_recipient(alloc: Global, before: &[Recipient], entry: &Value) -> Result<Recipient, Refusal>
     ensures gives { Gives (λ r. r) result (recipient_behind before.now (view entry.now)) }
+    ensures short { result ≡ Err (FieldRefusal NoMemory) → StoresRecipient (view entry.now) }
     ensures is { IfOk result IsRecipient }
     ensures cause { IfErr result HasCause }
 {
-    one_of(alloc, entry)?;
+    one_of(entry)?;
     object_of(
         alloc,
         entry,
@@ -147,6 +168,7 @@ fn next_recipient(alloc: Global, before: &[Recipient], entry: &Value) -> Result<
 /// The recipients that these entries are.
 fn recipients_from(alloc: Global, values: &[Value]) -> Result<Vec<Recipient>, Refusal>
     ensures gives { Gives (λ v. v.items) result (each_from recipient_behind [] (items_view values.now)) }
+    ensures short { result ≡ Err (FieldRefusal NoMemory) → StoresFirst StoresRecipient (items_view values.now) }
     ensures are { IfOk result (λ v. All IsRecipient v.items) }
     ensures cause { IfErr result HasCause }
 {
@@ -174,7 +196,8 @@ fn is_money(recipients: &[Recipient]) -> bool
 
 /// That there is a recipient, and that they get at most 21,000,000 bitcoin together. It never runs out of memory.
 fn check_recipients(recipients: &[Recipient]) -> Result<(), Refusal>
-    ensures { result ≡ (if length recipients.now == 0 then Err Empty else if nat_lt 2_100_000_000_000_000 (paid_to recipients.now) then Err SumRange else Ok tt) }
+    ensures exact { result ≡ (if length recipients.now == 0 then Err Empty else if nat_lt 2_100_000_000_000_000 (paid_to recipients.now) then Err SumRange else Ok tt) }
+    ensures never { result ≢ Err (FieldRefusal NoMemory) }
 {
     if recipients.is_empty() {
         return Err(Refusal::NoRecipients);
@@ -189,12 +212,13 @@ fn check_recipients(recipients: &[Recipient]) -> Result<(), Refusal>
 #[tactic(auto, unfolding(crate::specs::RequestText::recipients_at))]
 pub fn recipients_of(alloc: Global, value: &Value) -> Result<Vec<Recipient>, Refusal>
     ensures gives { Gives (λ v. v.items) result (recipients_at (view value.now)) }
+    ensures short { result ≡ Err (FieldRefusal NoMemory) → StoresList (codes "recipients") StoresRecipient (view value.now) }
     ensures some { IfOk result (λ v. 1 ≤ length v.items) }
     ensures are { IfOk result (λ v. All IsRecipient v.items) }
     ensures money { IfOk result (λ v. paid_to v.items ≤ 2_100_000_000_000_000) }
     ensures cause { IfErr result HasCause }
 {
-    let recipients = recipients_from(alloc, entries_of(alloc, value, "recipients")?)?;
+    let recipients = recipients_from(alloc, entries_of(value, "recipients")?)?;
     check_recipients(&recipients)?;
     Ok(recipients)
 }

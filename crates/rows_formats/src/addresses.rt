@@ -5,7 +5,7 @@
 
 use crate::answer::Answer;
 use crate::columns::{column, script_of};
-use command_end::address_fault_words;
+use command_end::address_fault_word;
 use fund_base::{Memory, Script};
 use segwit_addr::{decode, encode};
 
@@ -25,7 +25,10 @@ fn read(out: &mut Answer, text: &str) {
             out.word(" written ");
             put_address(out, &script);
         }
-        Err(fault) => out.words("fault ", address_fault_words(out.alloc, &fault)),
+        Err(fault) => {
+            out.word("fault ");
+            out.word(address_fault_word(fault));
+        }
     }
 }
 

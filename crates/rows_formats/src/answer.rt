@@ -1,6 +1,6 @@
 //! What is printed of a row.
 
-use command_end::shown_hash;
+use command_end::{Part, shown_hash, words_of};
 use fund_base::Memory;
 use itoa::Buffer;
 use std::alloc::Global;
@@ -47,6 +47,11 @@ impl Answer {
             Ok(words) => self.word(words.as_str()),
             Err(Memory) => self.lack(),
         }
+    }
+
+    /// Puts a word, and the words of a fault.
+    pub(crate) fn fault(&mut self, word: &str, parts: &[Part]) {
+        self.words(word, words_of(self.alloc, parts));
     }
 
     /// Puts a word and a number.

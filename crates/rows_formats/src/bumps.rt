@@ -5,10 +5,11 @@ ghost use Rattle.fund_files.specs.Chain.{IsHeld};
 
 use crate::answer::Answer;
 use crate::candidates::put_candidates;
-use command_end::bump_fault_words;
+use command_end::bump_fault_parts;
 use fee_bump::{BumpFault, BumpTerms, bump_terms};
 use fund_files::{Held, hold};
-use payment_states::{all_states, confirmed_without};
+use payment_facts::confirmed_without;
+use payment_states::all_states;
 use request_text::Request;
 use wallet_text::Wallet;
 
@@ -59,6 +60,6 @@ pub(crate) fn put_bump(out: &mut Answer, wallet: Wallet, tip: u32, request: &Req
         return out.word("no tip or nothing to replace");
     }
     if let Err(fault) = put_held(out, &held, tip, request) {
-        out.words("fault ", bump_fault_words(out.alloc, &fault));
+        out.fault("fault ", &bump_fault_parts(&fault));
     }
 }

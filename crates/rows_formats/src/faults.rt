@@ -2,7 +2,7 @@
 
 use crate::answer::Answer;
 use block_feed::FeedFault;
-use command_end::{address_fault_words, feed_fault_words, tx_fault_words};
+use command_end::{address_fault_word, feed_fault_parts, tx_fault_part};
 use segwit_addr::AddrFault;
 use tx_codec::TxFault;
 
@@ -18,7 +18,7 @@ pub(crate) fn transactions(out: &mut Answer) {
         TxFault::Trailing(60),
         TxFault::Memory,
     ] {
-        out.words("", tx_fault_words(out.alloc, &fault));
+        out.fault("", &[tx_fault_part(fault)]);
         out.word("\n");
     }
 }
@@ -37,7 +37,7 @@ pub(crate) fn blocks(out: &mut Answer) {
         FeedFault::Limit,
         FeedFault::Memory,
     ] {
-        out.words("", feed_fault_words(out.alloc, &fault));
+        out.fault("", &feed_fault_parts(&fault));
         out.word("\n");
     }
 }
@@ -54,7 +54,7 @@ pub(crate) fn addresses(out: &mut Answer) {
         AddrFault::Padding,
         AddrFault::Memory,
     ] {
-        out.words("", address_fault_words(out.alloc, &fault));
+        out.word(address_fault_word(fault));
         out.word("\n");
     }
 }

@@ -14,7 +14,7 @@ use crate::answer::Answer;
 use crate::columns::{bytes_of, column, hash_of, number_of, short_number};
 use crate::pieces::Pieces;
 use block_feed::{Block, Feed, FeedFault};
-use command_end::feed_fault_words;
+use command_end::feed_fault_parts;
 use fund_base::{MemShelf, Memory};
 use std::alloc::Global;
 use tx_codec::{txid, weight};
@@ -98,7 +98,7 @@ fn put_next(out: &mut Answer, source: &mut Source) -> bool {
             return true;
         }
         Ok(None) => out.word("none"),
-        Err(fault) => out.words("fault ", feed_fault_words(out.alloc, &fault)),
+        Err(fault) => out.fault("fault ", &feed_fault_parts(&fault)),
     }
     false
 }

@@ -13,23 +13,26 @@ use json_fields::{
     FieldFault, coin_of, entries_of, flag_of, hex_of, member_of, number_of, object_of, parse,
 };
 use serde_json::Value;
-use std::alloc::Global;
+
+/// Puts the fault of this name, and the name that it tells.
+fn put_named(out: &mut Answer, fault: &str, name: &str) {
+    out.word(fault);
+    out.word(name);
+}
 
 /// Puts a fault by its name, and the name that it tells.
 fn put_fault(out: &mut Answer, fault: &FieldFault) {
-    let (fault, name) = match fault {
-        FieldFault::NotJson => return out.word("NotJson"),
-        FieldFault::Kind(name) => ("Kind ", name),
-        FieldFault::Member(name) => ("Member ", name),
-        FieldFault::Missing(name) => ("Missing ", name),
-        FieldFault::Memory => return out.lack(),
-    };
-    out.word(fault);
-    out.word(name.as_str());
+    match fault {
+        FieldFault::NotJson => out.word("NotJson"),
+        FieldFault::Kind(name) => put_named(out, "Kind ", name.as_str()),
+        FieldFault::Member(name) => put_named(out, "Member ", name.as_str()),
+        FieldFault::Missing(name) => put_named(out, "Missing ", name.as_str()),
+        FieldFault::Memory => out.lack(),
+    }
 }
 
 fn number(out: &mut Answer, value: &Value) {
-    match number_of(out.alloc, value, "n", u64::MAX) {
+    match number_of(value, "n", u64::MAX) {
         Ok(number) => out.number("", number),
         Err(fault) => put_fault(out, &fault),
     }
@@ -42,12 +45,12 @@ fn object(out: &mut Answer, value: &Value) {
     }
 }
 
-fn read_coin(alloc: Global, value: &Value) -> Result<OutPoint, FieldFault> {
-    coin_of(alloc, member_of(alloc, value, "a")?, "a")
+fn read_coin(value: &Value) -> Result<OutPoint, FieldFault> {
+    coin_of(member_of(value, "a")?, "a")
 }
 
 fn coin(out: &mut Answer, value: &Value) {
-    match read_coin(out.alloc, value) {
+    match read_coin(value) {
         Ok(coin) => out.words("", coin_text(out.alloc, &coin)),
         Err(fault) => put_fault(out, &fault),
     }
@@ -55,7 +58,7 @@ fn coin(out: &mut Answer, value: &Value) {
 
 /// Puts an entry as `true` or `false`, and as bytes.
 fn put_entry(out: &mut Answer, entry: &Value) {
-    match flag_of(out.alloc, entry, "flag") {
+    match flag_of(entry, "flag") {
         Ok(flag) => out.flag("", flag),
         Err(fault) => put_fault(out, &fault),
     }
@@ -77,7 +80,7 @@ fn put_entries(out: &mut Answer, entries: &[Value]) {
 }
 
 fn list(out: &mut Answer, value: &Value) {
-    match entries_of(out.alloc, value, "list") {
+    match entries_of(value, "list") {
         Ok(entries) => put_entries(out, entries),
         Err(fault) => put_fault(out, &fault),
     }

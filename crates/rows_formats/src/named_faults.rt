@@ -1,7 +1,8 @@
-//! The faults of wallets and of requests, told in words. Those that have a name have that of the row.
+//! The faults of wallets and of requests, told in words. One that has a name of a file has that of the row.
 
 use crate::answer::Answer;
-use command_end::{request_fault_words, wallet_fault_words};
+use command_end::{request_fault_parts, wallet_fault_parts};
+use json_fields::Name;
 use request_text::RequestFault;
 use segwit_addr::AddrFault;
 use tx_codec::TxFault;
@@ -10,11 +11,11 @@ use wallet_text::WalletFault;
 /// The fault of a wallet of this kind.
 fn wallet_fault(kind: &str, name: String) -> WalletFault {
     match kind {
-        "kind" => WalletFault::Kind(name),
+        "kind" => WalletFault::Kind(Name::new("root")),
         "member" => WalletFault::Member(name),
-        "missing" => WalletFault::Missing(name),
-        "tx" => WalletFault::Tx(name, 0, TxFault::Truncated(5)),
-        "repeat" => WalletFault::Repeat(name, 3),
+        "missing" => WalletFault::Missing(Name::new("change")),
+        "tx" => WalletFault::Tx(Name::new("earlier"), 0, TxFault::Truncated(5)),
+        "repeat" => WalletFault::Repeat(Name::new("pending"), 3),
         _ => plain_wallet_fault(kind),
     }
 }
@@ -32,7 +33,7 @@ fn plain_wallet_fault(kind: &str) -> WalletFault {
 
 pub(crate) fn wallet(out: &mut Answer, kind: &str, name: &str) {
     match String::from_str(out.alloc, name) {
-        Ok(name) => out.words("", wallet_fault_words(out.alloc, &wallet_fault(kind, name))),
+        Ok(name) => out.fault("", &wallet_fault_parts(&wallet_fault(kind, name))),
         Err(_) => out.lack(),
     }
 }
@@ -40,10 +41,10 @@ pub(crate) fn wallet(out: &mut Answer, kind: &str, name: &str) {
 /// The fault of a request of this kind.
 fn request_fault(kind: &str, name: String) -> RequestFault {
     match kind {
-        "kind" => RequestFault::Kind(name),
+        "kind" => RequestFault::Kind(Name::new("recipients")),
         "member" => RequestFault::Member(name),
-        "missing" => RequestFault::Missing(name),
-        "rate" => RequestFault::RateRange(name),
+        "missing" => RequestFault::Missing(Name::new("seed")),
+        "rate" => RequestFault::RateRange(Name::new("long_term")),
         "address" => RequestFault::Address(0, AddrFault::Checksum),
         "json" => RequestFault::NotJson,
         "script" => RequestFault::Script(1),
@@ -66,10 +67,7 @@ fn plain_request_fault(kind: &str) -> RequestFault {
 
 pub(crate) fn request(out: &mut Answer, kind: &str, name: &str) {
     match String::from_str(out.alloc, name) {
-        Ok(name) => out.words(
-            "",
-            request_fault_words(out.alloc, &request_fault(kind, name)),
-        ),
+        Ok(name) => out.fault("", &request_fault_parts(&request_fault(kind, name))),
         Err(_) => out.lack(),
     }
 }

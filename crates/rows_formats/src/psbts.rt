@@ -9,14 +9,14 @@
 use crate::answer::Answer;
 use crate::columns::{bytes_of, column};
 use crate::transactions;
-use command_end::psbt_fault_words;
+use command_end::psbt_fault_parts;
 use fund_base::Memory;
 use psbt_codec::{Psbt, PsbtFault, Spent, from_text, read_psbt, to_text, write_psbt, write_text};
 use std::alloc::Global;
 use tx_codec::{txid, write_tx};
 
 fn put_fault(out: &mut Answer, fault: &PsbtFault) {
-    out.words("fault ", psbt_fault_words(out.alloc, fault));
+    out.fault("fault ", &psbt_fault_parts(*fault));
 }
 
 /// Puts what is known of a spent output: the txid of the whole transaction, and its value and script. `-` stands for what

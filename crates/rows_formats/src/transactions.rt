@@ -8,7 +8,7 @@
 
 use crate::answer::Answer;
 use crate::columns::{bytes_of, column, number_of, point_of, script_of, short_number};
-use command_end::tx_fault_words;
+use command_end::tx_fault_part;
 use fund_base::{Cursor, MAX_MONEY, Memory, Sat};
 use std::alloc::Global;
 use tx_codec::{
@@ -27,7 +27,7 @@ fn put_tx(out: &mut Answer, tx: &Tx) {
 fn put_read(out: &mut Answer, read: &Result<Tx, TxFault>) {
     match read {
         Ok(tx) => put_tx(out, tx),
-        Err(fault) => out.words("fault ", tx_fault_words(out.alloc, fault)),
+        Err(fault) => out.fault("fault ", &[tx_fault_part(*fault)]),
     }
 }
 

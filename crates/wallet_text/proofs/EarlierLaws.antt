@@ -1,6 +1,6 @@
 -- Earlier transactions alone: of the rules over whole lists only that of their txids may be broken.
-use Rattle.std.proofs.Common.{◌≡◌, ◌≢◌, ℕ, List, [], ◌∷◌, ◌++◌, length, ◌⊎◌, inl, inr, Err, ap, arith, length-append}
-use Rattle.std.specs.Prelude.{codes, string_bytes}
+use Rattle.std.proofs.Common.{◌≡◌, ◌≢◌, ℕ, List, [], ◌∷◌, length, ◌⊎◌, inl, inr, Err, ap, arith, length-append}
+use Rattle.std.specs.Prelude.{codes}
 use Rattle.json_fields.specs.declared.fault.FieldFault.TheVariants.{Memory as NoMemory}
 use Rattle.tx_codec.specs.Transaction.{Transaction}
 use Rattle.wallet_text.specs.Repeats.{IsEarlierRepeat, IsRepeat}
@@ -32,9 +32,9 @@ refuted earlier fault a b e = by (other earlier [] fault e)
 
 pub is_repeat : (earlier : List Earlier) (fault : WalletFault) → (refusal_of fault ≢ Field NoMemory → lists_at earlier [] ≡ Err (refusal_of fault)) → IsRepeat earlier fault
 is_repeat earlier told.Memory h = tt
-is_repeat earlier (told.Repeat list index) h = by (repeated earlier [] (string_bytes list) index (h (λ e. cc e)))
+is_repeat earlier (told.Repeat list index) h = by (repeated earlier [] list index (h (λ e. cc e)))
   where
-    by : (place : ℕ) × (index ≡ told_index place) × (((string_bytes list ≡ codes "earlier") × IsFirstRepeat (earlier_txids earlier) place) ⊎ ((string_bytes list ≡ codes "pending") × AreDistinctEarlier earlier × IsFirstRepeat {X = List ℕ} [] place)) → IsEarlierRepeat earlier (string_bytes list) index
+    by : (place : ℕ) × (index ≡ told_index place) × (((list ≡ codes "earlier") × IsFirstRepeat (earlier_txids earlier) place) ⊎ ((list ≡ codes "pending") × AreDistinctEarlier earlier × IsFirstRepeat {X = List ℕ} [] place)) → IsEarlierRepeat earlier list index
     by (place, is, inl r) = record { name = r.0; place = place; place_is = is; first = r.1 }
     by (place, is, inr r) = absurd (none_twice place r.2)
 is_repeat earlier (told.ParentLater index) h = let r = later earlier [] index (h (λ e. cc e)) in absurd (none_later r.0 r.4)

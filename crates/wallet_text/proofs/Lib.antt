@@ -5,6 +5,7 @@ pub mod NestedFaults
 pub mod Orders
 pub mod PartLaws
 pub mod Rules
+pub mod Stored
 pub mod Strings
 pub mod TableLaws
 pub mod TxEntryLaws

@@ -2,6 +2,7 @@ pub mod Parts
 pub mod PlainWallet
 pub mod Repeats
 pub mod ScriptEntries
+pub mod Stores
 pub mod Table
 pub mod Told
 pub mod TxEntries

@@ -1,5 +1,5 @@
 -- Why earlier transactions are those of no wallet.
-use Rattle.std.specs.Prelude.{ℕ, ◌≡◌, List, codes, string_bytes}
+use Rattle.std.specs.Prelude.{ℕ, ◌≡◌, List, codes}
 use Rattle.json_fields.specs.Repeats.{IsFirstRepeat}
 use Rattle.wallet_text.specs.WalletText.{earlier_txids, told_index}
 use Rattle.wallet_text.specs.declared.fault.WalletFault.{WalletFault}
@@ -15,6 +15,6 @@ pub record IsEarlierRepeat (earlier : List Earlier) (list : List ℕ) (index : �
 
 -- A txid stands twice, and the fault tells where; or memory ran out. There is no other fault.
 abbrev pub IsRepeat : List Earlier → WalletFault → Type 0
-IsRepeat earlier (told.Repeat list index) = IsEarlierRepeat earlier (string_bytes list) index
+IsRepeat earlier (told.Repeat list index) = IsEarlierRepeat earlier list index
 IsRepeat earlier told.Memory = Unit {0}
 IsRepeat earlier _ = ⊥

@@ -12,13 +12,13 @@ use Rattle.wallet_text.specs.declared.fault.WalletFault.TheVariants as told
 -- the refusal that a fault tells
 abbrev pub refusal_of : WalletFault → Refusal
 refusal_of told.NotJson = Field fields.NotJson
-refusal_of (told.Kind name) = Field (fields.Kind (string_bytes name))
+refusal_of (told.Kind name) = Field (fields.Kind name)
 refusal_of (told.Member name) = Field (fields.Member (string_bytes name))
-refusal_of (told.Missing name) = Field (fields.Missing (string_bytes name))
+refusal_of (told.Missing name) = Field (fields.Missing name)
 refusal_of (told.Script index) = Script index
 refusal_of (told.Weight index) = Weight index
-refusal_of (told.Tx list index fault) = Tx (string_bytes list) index fault
-refusal_of (told.Repeat list index) = Repeat (string_bytes list) index
+refusal_of (told.Tx list index fault) = Tx list index fault
+refusal_of (told.Repeat list index) = Repeat list index
 refusal_of (told.ParentLater index) = ParentLater index
 refusal_of told.Memory = Field fields.Memory
 

@@ -1,13 +1,13 @@
 //! Why a wallet file is refused.
 
-ghost use Rattle.std.specs.Prelude.{◌≡◌, ◌≢◌};
+ghost use Rattle.std.specs.Prelude.{◌≡◌};
 ghost use Rattle.json_fields.specs.declared.fault.FieldFault.TheVariants.{Memory as NoMemory};
 ghost use Rattle.wallet_text.specs.Told.{refusal_of};
 ghost use Rattle.wallet_text.specs.declared.fault.Refusal.TheVariants.{Field, Tx};
 
 use fund_base::Memory;
 use json_fields::{FieldFault, Name};
-use std::alloc::{AllocError, AllocFailed, Global};
+use std::alloc::{AllocError, AllocFailed};
 use tx_codec::TxFault;
 
 /// What is wrong with a wallet file: the first in the order in which it is tested. An index above 4,294,967,295 counts
@@ -17,20 +17,20 @@ pub enum WalletFault {
     /// `serde_json` doesn't take the bytes.
     NotJson,
     /// The value of this name isn't of its kind, or a number is out of its range. The whole has the name `root`.
-    Kind(String),
+    Kind(Name),
     /// An object has this member, which isn't known: of several, the least by bytes.
     Member(String),
     /// An object lacks this member: of several, the first in the order of its table.
-    Missing(String),
+    Missing(Name),
     /// The script at this index of `scripts` stands before it too, is empty, or is longer than 10,000 bytes. The index
     /// of `change`, which needs the same length, is the number of scripts.
     Script(u32),
     /// The weight there isn't in 165 to 400,000.
     Weight(u32),
     /// The entry at this index of the list, which is `earlier` or `pending`, isn't a transaction.
-    Tx(String, u32, TxFault),
+    Tx(Name, u32, TxFault),
     /// The txid of the entry at this index stood before in the same list.
-    Repeat(String, u32),
+    Repeat(Name, u32),
     /// The pending transaction at this index spends an output of itself, or of one after it.
     ParentLater(u32),
     /// There was not enough memory.
@@ -82,13 +82,10 @@ impl<T: Drop> From<AllocFailed<T>> for Refusal {
 
 impl Refusal {
     /// That the entry at this index of the list isn't a transaction.
-    pub fn tx(alloc: Global, list: &str, index: u32, fault: TxFault) -> Refusal
-        ensures { result ≢ Field NoMemory → result ≡ Tx list.now index fault }
+    pub fn tx(list: &'static str, index: u32, fault: TxFault) -> Refusal
+        ensures { result ≡ Tx list.now index fault }
     {
-        match Name::new(alloc, list) {
-            Ok(list) => Refusal::Tx(list, index, fault),
-            Err(_) => Refusal::Field(FieldFault::Memory),
-        }
+        Refusal::Tx(Name::new(list), index, fault)
     }
 
     /// The fault that tells it.
@@ -99,8 +96,8 @@ impl Refusal {
             Refusal::Field(fault) => told_field(fault),
             Refusal::Script(index) => WalletFault::Script(index),
             Refusal::Weight(index) => WalletFault::Weight(index),
-            Refusal::Tx(list, index, fault) => WalletFault::Tx(list.into_string(), index, fault),
-            Refusal::Repeat(list, index) => WalletFault::Repeat(list.into_string(), index),
+            Refusal::Tx(list, index, fault) => WalletFault::Tx(list, index, fault),
+            Refusal::Repeat(list, index) => WalletFault::Repeat(list, index),
             Refusal::ParentLater(index) => WalletFault::ParentLater(index),
         }
     }
@@ -111,9 +108,9 @@ fn told_field(fault: FieldFault) -> WalletFault
 {
     match fault {
         FieldFault::NotJson => WalletFault::NotJson,
-        FieldFault::Kind(name) => WalletFault::Kind(name.into_string()),
+        FieldFault::Kind(name) => WalletFault::Kind(name),
         FieldFault::Member(name) => WalletFault::Member(name.into_string()),
-        FieldFault::Missing(name) => WalletFault::Missing(name.into_string()),
+        FieldFault::Missing(name) => WalletFault::Missing(name),
         FieldFault::Memory => WalletFault::Memory,
     }
 }

@@ -53,22 +53,25 @@ fn first_repeat(seen: &mut IndexSet<Txid>, txids: &[Txid]) -> Result<Option<usiz
 }
 
 /// That no txid stands twice in the list of this name. The set has room for all of them, so it never runs out of memory.
-fn check_distinct(list: Name, seen: &mut IndexSet<Txid>, txids: &[Txid]) -> Result<(), Refusal>
+fn check_distinct(
+    list: &'static str,
+    seen: &mut IndexSet<Txid>,
+    txids: &[Txid],
+) -> Result<(), Refusal>
     requires empty { IsEmpty seen.old }
     requires room { length txids.now ≤ spare seen.old }
-    ensures { result ≡ refuse (λ i. Repeat list (told_index i)) (repeat_from [] txids.now) }
+    ensures { result ≡ refuse (λ i. Repeat list.now (told_index i)) (repeat_from [] txids.now) }
 {
     match first_repeat(seen, txids)? {
-        Some(index) => Err(Refusal::Repeat(list, told_index(index))),
+        Some(index) => Err(Refusal::Repeat(Name::new(list), told_index(index))),
         None => Ok(()),
     }
 }
 
 /// That no txid stands twice in the list of this name. Memory is taken before the list is looked at.
-fn judge_txids(alloc: Global, list: &str, txids: &[Txid]) -> Result<(), Refusal>
+fn judge_txids(alloc: Global, list: &'static str, txids: &[Txid]) -> Result<(), Refusal>
     ensures { Gives (λ _. tt) result (refuse (λ i. Repeat list.now (told_index i)) (repeat_from [] txids.now)) }
 {
-    let list = Name::new(alloc, list)?;
     let mut seen = IndexSet::with_capacity(alloc, txids.len())?;
     check_distinct(list, &mut seen, txids)
 }

@@ -1,15 +1,18 @@
 //! Reading a wallet file.
 
-ghost use Rattle.std.specs.Prelude.{◌≡◌, ◌≤◌, [], codes, IfOk, IfErr};
+ghost use Rattle.std.specs.Prelude.{◌≡◌, ◌≢◌, ◌≤◌, [], codes, Err, IfOk, IfErr, IsOk};
 ghost use Rattle.fund_base.specs.Parsing.{YieldsAll};
-ghost use Rattle.json_fields.specs.Fields.{IsHash, object_at, optional};
+ghost use Rattle.json_fields.specs.Fields.{IsHash, object_at, hash_at, coin_at, optional};
+ghost use Rattle.json_fields.specs.Memory.{Exactly, StoresName, StoresList, StoresOptional};
 ghost use Rattle.json_fields.specs.declared.fault.FieldFault.TheVariants.{Memory};
 ghost use Rattle.serde_json.specs.Find.{get};
 ghost use Rattle.serde_json.specs.View.{view};
 ghost use Rattle.wallet_text.specs.Parts.{head_at, listed_at, parts_at, watched_at};
+ghost use Rattle.wallet_text.specs.Stores.{StoresScript, StoresEarlier, StoresPending, StoresWatched, StoresWallet};
 ghost use Rattle.wallet_text.specs.Told.{Gives, HasReason, Reads};
 ghost use Rattle.wallet_text.specs.WalletRules.{IsWallet};
 ghost use Rattle.wallet_text.specs.WalletText.{known_names, required_names, scripts_at, earlier_list_at, pending_list_at, abandoned_list_at, locked_list_at, wallet_of};
+ghost use Rattle.wallet_text.specs.declared.fault.Refusal.TheVariants.{Field};
 
 use crate::entries::{
     abandoned_from, change_of, earlier_from, locked_from, pending_from, scripts_from,
@@ -28,54 +31,60 @@ const MOST_HEIGHT: u64 = 100_000_000;
 
 #[tactic(auto, unfolding(crate::specs::WalletText::scripts_at))]
 fn scripts_of(alloc: Global, value: &Value) -> Result<Vec<Watch>, Refusal>
-    ensures { Gives (λ v. v.items) result (scripts_at (view value.now)) }
+    ensures gives { Gives (λ v. v.items) result (scripts_at (view value.now)) }
+    ensures short { result ≡ Err (Field Memory) → StoresList (codes "scripts") StoresScript (view value.now) }
 {
-    scripts_from(alloc, entries_of(alloc, value, "scripts")?)
+    scripts_from(alloc, entries_of(value, "scripts")?)
 }
 
 #[tactic(auto, unfolding(crate::specs::WalletText::earlier_list_at))]
 fn earlier_of(alloc: Global, most: u32, value: &Value) -> Result<Vec<Earlier>, Refusal>
-    ensures { Gives (λ v. v.items) result (optional [] (earlier_list_at most) (get (codes "earlier") (view value.now))) }
+    ensures gives { Gives (λ v. v.items) result (optional [] (earlier_list_at most) (get (codes "earlier") (view value.now))) }
+    ensures short { result ≡ Err (Field Memory) → StoresOptional (StoresList (codes "earlier") (StoresEarlier most)) (get (codes "earlier") (view value.now)) }
 {
     match value.get("earlier") {
-        Some(list) => earlier_from(alloc, most, entries_of(alloc, list, "earlier")?),
+        Some(list) => earlier_from(alloc, most, entries_of(list, "earlier")?),
         None => Ok(Vec::new(alloc)),
     }
 }
 
 #[tactic(auto, unfolding(crate::specs::WalletText::pending_list_at))]
 fn pending_of(alloc: Global, value: &Value) -> Result<Vec<Tx>, Refusal>
-    ensures { Gives (λ v. v.items) result (optional [] pending_list_at (get (codes "pending") (view value.now))) }
+    ensures gives { Gives (λ v. v.items) result (optional [] pending_list_at (get (codes "pending") (view value.now))) }
+    ensures short { result ≡ Err (Field Memory) → StoresOptional (StoresList (codes "pending") StoresPending) (get (codes "pending") (view value.now)) }
 {
     match value.get("pending") {
-        Some(list) => pending_from(alloc, entries_of(alloc, list, "pending")?),
+        Some(list) => pending_from(alloc, entries_of(list, "pending")?),
         None => Ok(Vec::new(alloc)),
     }
 }
 
 #[tactic(auto, unfolding(crate::specs::WalletText::abandoned_list_at))]
 fn abandoned_of(alloc: Global, value: &Value) -> Result<Vec<Txid>, FieldFault>
-    ensures { YieldsAll Memory (λ v. v.items) result (optional [] abandoned_list_at (get (codes "abandoned") (view value.now))) }
+    ensures gives { YieldsAll Memory (λ v. v.items) result (optional [] abandoned_list_at (get (codes "abandoned") (view value.now))) }
+    ensures short { result ≡ Err Memory → StoresOptional (StoresList (codes "abandoned") (λ e. IsOk (hash_at (codes "abandoned") e))) (get (codes "abandoned") (view value.now)) }
 {
     match value.get("abandoned") {
-        Some(list) => abandoned_from(alloc, entries_of(alloc, list, "abandoned")?),
+        Some(list) => abandoned_from(alloc, entries_of(list, "abandoned")?),
         None => Ok(Vec::new(alloc)),
     }
 }
 
 #[tactic(auto, unfolding(crate::specs::WalletText::locked_list_at))]
 fn locked_of(alloc: Global, value: &Value) -> Result<Vec<OutPoint>, FieldFault>
-    ensures { YieldsAll Memory (λ v. v.items) result (optional [] locked_list_at (get (codes "locked") (view value.now))) }
+    ensures gives { YieldsAll Memory (λ v. v.items) result (optional [] locked_list_at (get (codes "locked") (view value.now))) }
+    ensures short { result ≡ Err Memory → StoresOptional (StoresList (codes "locked") (λ e. IsOk (coin_at (codes "locked") e))) (get (codes "locked") (view value.now)) }
 {
     match value.get("locked") {
-        Some(list) => locked_from(alloc, entries_of(alloc, list, "locked")?),
+        Some(list) => locked_from(alloc, entries_of(list, "locked")?),
         None => Ok(Vec::new(alloc)),
     }
 }
 
 /// That the value is an object with known members and the required ones.
 fn whole_of(alloc: Global, value: &Value) -> Result<(), FieldFault>
-    ensures { YieldsAll Memory (λ _. tt) result (object_at (codes "root") known_names required_names (view value.now)) }
+    ensures gives { YieldsAll Memory (λ _. tt) result (object_at (codes "root") known_names required_names (view value.now)) }
+    ensures short { result ≡ Err Memory → StoresName (object_at (codes "root") known_names required_names (view value.now)) }
 {
     let required = ["height", "hash", "scripts", "change"];
     let known = [
@@ -93,24 +102,26 @@ fn whole_of(alloc: Global, value: &Value) -> Result<(), FieldFault>
 
 /// The height and the hash.
 #[tactic(auto, unfolding(crate::specs::Parts::head_at))]
-fn head_of(alloc: Global, value: &Value) -> Result<(u32, [u8; 32]), FieldFault>
-    ensures gives { YieldsAll Memory (λ h. h) result (head_at (view value.now)) }
+fn head_of(value: &Value) -> Result<(u32, [u8; 32]), FieldFault>
+    ensures exact { Exactly (λ h. h) result (head_at (view value.now)) }
+    ensures never { result ≢ Err Memory }
     ensures height { IfOk result (λ h. h.0 ≤ MOST_HEIGHT) }
     ensures hash { IfOk result (λ h. IsHash h.1) }
 {
-    let height = member_of(alloc, value, "height")?;
-    let height = number_of(alloc, height, "height", MOST_HEIGHT)? as u32;
-    let hash = hash_of(alloc, member_of(alloc, value, "hash")?, "hash")?;
+    let height = member_of(value, "height")?;
+    let height = number_of(height, "height", MOST_HEIGHT)? as u32;
+    let hash = hash_of(member_of(value, "hash")?, "hash")?;
     Ok((height, hash))
 }
 
 /// The scripts, and the change entry.
 #[tactic(auto, unfolding(crate::specs::Parts::watched_at))]
 fn watched_of(alloc: Global, value: &Value) -> Result<(Vec<Watch>, Watch), Refusal>
-    ensures { Gives (λ w. (w.0.items, w.1)) result (watched_at (view value.now)) }
+    ensures gives { Gives (λ w. (w.0.items, w.1)) result (watched_at (view value.now)) }
+    ensures short { result ≡ Err (Field Memory) → StoresWatched (view value.now) }
 {
-    let scripts = scripts_of(alloc, member_of(alloc, value, "scripts")?)?;
-    let change = change_of(alloc, scripts.len(), member_of(alloc, value, "change")?)?;
+    let scripts = scripts_of(alloc, member_of(value, "scripts")?)?;
+    let change = change_of(alloc, scripts.len(), member_of(value, "change")?)?;
     Ok((scripts, change))
 }
 
@@ -126,7 +137,7 @@ struct Lists {
 /// These lists of a wallet at this height, which keep the rules over whole lists.
 #[tactic(auto, unfolding(crate::specs::Parts::listed_at))]
 fn lists_of(alloc: Global, height: u32, value: &Value) -> Result<Lists, Refusal>
-    ensures { Gives (λ l. record { earlier = l.earlier.items; pending = l.pending.items; abandoned = l.abandoned.items; locked = l.locked.items }) result (listed_at height (view value.now)) }
+    ensures gives { Gives (λ l. record { earlier = l.earlier.items; pending = l.pending.items; abandoned = l.abandoned.items; locked = l.locked.items }) result (listed_at height (view value.now)) }
 {
     let earlier = earlier_of(alloc, height, value)?;
     let pending = pending_of(alloc, value)?;
@@ -143,10 +154,12 @@ fn lists_of(alloc: Global, height: u32, value: &Value) -> Result<Lists, Refusal>
 
 #[tactic(auto, unfolding(crate::specs::Parts::parts_at))]
 fn wallet_of(alloc: Global, value: &Value) -> Result<Wallet, Refusal>
-    ensures { Gives (λ w. w) result (parts_at (view value.now)) }
+    ensures gives { Gives (λ w. w) result (parts_at (view value.now)) }
+    // Memory runs out only where the name of an unknown member has to be stored, or behind the first script.
+    ensures short { result ≡ Err (Field Memory) → StoresWallet (view value.now) }
 {
     whole_of(alloc, value)?;
-    let (height, hash) = head_of(alloc, value)?;
+    let (height, hash) = head_of(value)?;
     let (scripts, change) = watched_of(alloc, value)?;
     let Lists {
         earlier,

@@ -2,7 +2,9 @@ use Rattle.std.proofs.Common.{◌≡◌, ◌∙◌, ◌++◌, ◌∷◌, [], ◌
 use Rattle.coin_book.specs.Faults.{fault_behind}
 use Rattle.coin_book.specs.History.{Confirmed, confirmed_at}
 use Rattle.coin_book.specs.Invariant.{HoldsChain, points_in, weigher}
+use Rattle.coin_book.specs.declared.fault.BookFault.TheVariants.{Memory}
 use Rattle.coin_book.proofs.ChainSteps.{all_of, fault_early, fault_on, next_of, none_behind, ap_all, place_of}
+use Rattle.coin_book.proofs.ShortSteps.{same_fault, stops_at}
 use Rattle.coin_book.proofs.adding.ledger_behind.Goals as goal
 
 pub loop-index-init : goal.loop-index-init
@@ -50,3 +52,15 @@ returns-clause-exact c = λ before under at.
     let end = c.loop-index-test.false in
     let weigh = weigher c.args.weights.now.entries in
     ap_all (confirmed_at c.args.height) c.args.txs.now c.loop-index.index end (λ (l : List Confirmed). fault_behind (points_in weigh before) (points_in weigh l) ≡ None) (c.loop-index.invariant before under at).fresh
+
+pub returns-in-Err-clause-short : goal.returns-in-Err-clause-short
+returns-in-Err-clause-short c = λ before under at is.
+    let weigh = weigher c.args.weights.now.entries in
+    let f = confirmed_at c.args.height in
+    let i = c.loop-index.index in
+    let front = map f (take i c.args.txs.now) in
+    let one = f c.index-txs-index.result in
+    let inv = c.loop-index.invariant before under at in
+    let next = next_of f c.args.txs.now i c.index-txs-index.result c.loop-index-test.true c.index-txs-index.is in
+    let all = all_of f c.args.txs.now (i + 1) ∙ ap (λ (l : List Confirmed). l ++ map f (drop (i + 1) c.args.txs.now)) next in
+    stops_at weigh before (map f c.args.txs.now) front one (map f (drop (i + 1) c.args.txs.now)) all inv.fresh (c.in-Err.ensures.short before front under inv.holds (same_fault c.in-Err.fault Memory is))

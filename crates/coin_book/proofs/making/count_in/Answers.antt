@@ -19,11 +19,11 @@ loop-index-preserved c =
     let few = c.loop-index.invariant.few in
     elim c.if-is_coin.branch [
       | then-is_coin w ↦
-          let one = one_of (coin i) (sym c.is_coin.ensures ∙ w.if-is_coin.true) in
+          let one = one_of (coin i) (sym (c.is_coin.ensures None) ∙ w.if-is_coin.true) in
           let is = w.count-is in
           record { counted = omega arith; few = omega arith }
       | else-is_coin w ↦
-          let none = counted_none (coin i) (sym c.is_coin.ensures ∙ w.if-is_coin.false) in
+          let none = counted_none (coin i) (sym (c.is_coin.ensures None) ∙ w.if-is_coin.false) in
           let is = w.count-is in
           record { counted = omega arith; few = omega arith }
     ]

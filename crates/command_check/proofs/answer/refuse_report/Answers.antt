@@ -1,4 +1,7 @@
 use Rattle.command_check.proofs.answer.refuse_report.Goals as goal
 
-pub returns-in-Ok-clause-line : goal.returns-in-Ok-clause-line
-returns-in-Ok-clause-line g c = rw (c.as_str.ensures.value, c.in-Ok.ensures) at c.put_fault.ensures.line
+pub returns-clause-line : goal.returns-clause-line
+returns-clause-line g c = rw c.broken_parts.ensures at c.put_fault.ensures.line
+
+pub returns-clause-answered : goal.returns-clause-answered
+returns-clause-answered g c = rw c.broken_parts.ensures at c.put_fault.ensures.answered

@@ -13,7 +13,7 @@ returns-in-Ok-clause-ends g c =
 pub returns-in-Err-clause-ends : goal.returns-in-Err-clause-ends
 returns-in-Err-clause-ends g c =
     stop_ends _ _ (plain_sources c.args.sources.now) (plain_payment c.args.payment.now) c.args.report.now (g.H.Shelf.view c.args.shelf.now) (g.H.Shelf.view c.accepted.new.shelf) (g.O.Sink.view c.args.out.now) (g.O.Sink.view c.answer.new.out)
-    c.in-Err.stop c.answer.result c.in-Err.ensures.stop c.answer.ensures.line
+    c.in-Err.stop c.answer.result c.in-Err.ensures.stop c.answer.ensures.answered
 
 pub returns-in-Ok-clause-all_read : goal.returns-in-Ok-clause-all_read
 returns-in-Ok-clause-all_read g c = λ other. c.in-Ok.ensures.all_read (λ file e. cc) (λ file e. cc)
@@ -26,4 +26,4 @@ returns-in-Ok-clause-all_put g c = put_whole (g.O.Sink.view c.args.out.now) (g.O
 
 pub returns-in-Err-clause-all_put : goal.returns-in-Err-clause-all_put
 returns-in-Err-clause-all_put g c = λ whole.
-    absurd (stop_untold _ (plain_sources c.args.sources.now) (plain_payment c.args.payment.now) c.args.report.now c.in-Err.stop (g.O.Sink.view c.args.out.now) (g.O.Sink.view c.answer.new.out) c.answer.result c.answer.ensures.line whole)
+    absurd (stop_untold _ (plain_sources c.args.sources.now) (plain_payment c.args.payment.now) c.args.report.now c.in-Err.stop (g.O.Sink.view c.args.out.now) (g.O.Sink.view c.answer.new.out) c.answer.result c.answer.ensures.answered whole)

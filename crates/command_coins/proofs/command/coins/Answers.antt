@@ -16,7 +16,7 @@ returns-in-Ok-clause-unread_last g c = λ t is. absurd (printed_read _ _ (g.O.Si
 
 pub returns-in-Err-clause-unread_last : goal.returns-in-Err-clause-unread_last
 returns-in-Err-clause-unread_last g c = λ t is.
-    stopped_asks _ _ (plain_sources c.args.sources.now) c.in-Err.stop (g.H.Shelf.view c.args.shelf.now) (g.H.Shelf.view c.listed.new.shelf) (g.O.Sink.view c.args.out.now) (g.O.Sink.view c.answer.new.out) c.answer.result c.in-Err.ensures.stop c.answer.ensures.line
+    stopped_asks _ _ (plain_sources c.args.sources.now) c.in-Err.stop (g.H.Shelf.view c.args.shelf.now) (g.H.Shelf.view c.listed.new.shelf) (g.O.Sink.view c.args.out.now) (g.O.Sink.view c.answer.new.out) c.answer.result c.in-Err.ensures.stop c.answer.ensures.answered
     (c.in-Err.ensures.asked t) (c.in-Err.ensures.wallet_alone t) is
 
 pub returns-in-Ok-clause-all_read : goal.returns-in-Ok-clause-all_read
@@ -27,11 +27,11 @@ returns-in-Err-clause-all_read g c = λ other. c.in-Err.ensures.all_read (λ fil
 
 pub returns-in-Err-clause-ends : goal.returns-in-Err-clause-ends
 returns-in-Err-clause-ends g c =
-    stop_ends _ _ (plain_sources c.args.sources.now) c.in-Err.stop (g.H.Shelf.view c.args.shelf.now) (g.H.Shelf.view c.listed.new.shelf) (g.O.Sink.view c.args.out.now) (g.O.Sink.view c.answer.new.out) c.answer.result c.in-Err.ensures.stop c.answer.ensures.line
+    stop_ends _ _ (plain_sources c.args.sources.now) c.in-Err.stop (g.H.Shelf.view c.args.shelf.now) (g.H.Shelf.view c.listed.new.shelf) (g.O.Sink.view c.args.out.now) (g.O.Sink.view c.answer.new.out) c.answer.result c.in-Err.ensures.stop c.answer.ensures.answered
 
 pub returns-in-Ok-clause-all_put : goal.returns-in-Ok-clause-all_put
 returns-in-Ok-clause-all_put g c = put_whole (g.O.Sink.view c.args.out.now) (g.O.Sink.view c.put_report.new.out) c.put_report.result c.put_report.ensures.all_put
 
 pub returns-in-Err-clause-all_put : goal.returns-in-Err-clause-all_put
 returns-in-Err-clause-all_put g c = λ whole.
-    absurd (stop_untold _ (plain_sources c.args.sources.now) c.in-Err.stop (g.O.Sink.view c.args.out.now) (g.O.Sink.view c.answer.new.out) c.answer.result c.answer.ensures.line whole)
+    absurd (stop_untold _ (plain_sources c.args.sources.now) c.in-Err.stop (g.O.Sink.view c.args.out.now) (g.O.Sink.view c.answer.new.out) c.answer.result c.answer.ensures.answered whole)

@@ -12,7 +12,7 @@ returns-in-Ok-clause-ends g c =
 
 pub returns-in-Err-clause-ends : goal.returns-in-Err-clause-ends
 returns-in-Err-clause-ends g c =
-    stop_ends _ _ (plain_sources c.args.sources.now) c.args.psbt.now (g.H.Shelf.view c.args.shelf.now) (g.H.Shelf.view c.completed.new.shelf) (g.O.Sink.view c.args.out.now) (g.O.Sink.view c.answer.new.out) c.in-Err.stop c.answer.result c.in-Err.ensures.stop c.answer.ensures.line
+    stop_ends _ _ (plain_sources c.args.sources.now) c.args.psbt.now (g.H.Shelf.view c.args.shelf.now) (g.H.Shelf.view c.completed.new.shelf) (g.O.Sink.view c.args.out.now) (g.O.Sink.view c.answer.new.out) c.in-Err.stop c.answer.result c.in-Err.ensures.stop c.answer.ensures.answered
 
 pub returns-in-Ok-clause-all_read : goal.returns-in-Ok-clause-all_read
 returns-in-Ok-clause-all_read g c = λ other. c.in-Ok.ensures.unfailed
@@ -26,7 +26,7 @@ returns-in-Ok-clause-unread_last g c = λ t is.
 
 pub returns-in-Err-clause-unread_last : goal.returns-in-Err-clause-unread_last
 returns-in-Err-clause-unread_last g c = λ t is.
-    stop_asks _ _ (plain_sources c.args.sources.now) c.args.psbt.now c.in-Err.stop (g.H.Shelf.view c.args.shelf.now) (g.H.Shelf.view c.completed.new.shelf) (g.O.Sink.view c.args.out.now) (g.O.Sink.view c.answer.new.out) c.answer.result c.in-Err.ensures.stop c.answer.ensures.line
+    stop_asks _ _ (plain_sources c.args.sources.now) c.args.psbt.now c.in-Err.stop (g.H.Shelf.view c.args.shelf.now) (g.H.Shelf.view c.completed.new.shelf) (g.O.Sink.view c.args.out.now) (g.O.Sink.view c.answer.new.out) c.answer.result c.in-Err.ensures.stop c.answer.ensures.answered
     (c.in-Err.ensures.up_to t) is
 
 pub returns-in-Ok-clause-refused_alone : goal.returns-in-Ok-clause-refused_alone
@@ -40,4 +40,4 @@ returns-in-Ok-clause-all_put g c = put_whole (g.O.Sink.view c.args.out.now) (g.O
 
 pub returns-in-Err-clause-all_put : goal.returns-in-Err-clause-all_put
 returns-in-Err-clause-all_put g c = λ whole.
-    absurd (stop_untold _ (plain_sources c.args.sources.now) c.args.psbt.now c.in-Err.stop (g.O.Sink.view c.args.out.now) (g.O.Sink.view c.answer.new.out) c.answer.result c.answer.ensures.line whole)
+    absurd (stop_untold _ (plain_sources c.args.sources.now) c.args.psbt.now c.in-Err.stop (g.O.Sink.view c.args.out.now) (g.O.Sink.view c.answer.new.out) c.answer.result c.answer.ensures.answered whole)

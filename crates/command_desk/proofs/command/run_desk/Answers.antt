@@ -29,7 +29,7 @@ returns-in-Ok-clause-none_behind g c = λ t.
 pub returns-in-Err-clause-ends : goal.returns-in-Err-clause-ends
 returns-in-Err-clause-ends g c =
     stop_ends g.H.Shelf.tells g.O.Sink.tells (plain_sources c.args.sources.now) c.args.script.now (g.H.Shelf.view c.args.shelf.now) (g.H.Shelf.view c.read_start.new.shelf) (g.O.Sink.view c.args.out.now) (g.O.Sink.view c.answer.new.out) c.in-Err.stop c.answer.result c.in-Err.ensures.stop
-    c.answer.ensures.line
+    c.answer.ensures.answered
 
 pub returns-in-Err-clause-asked : goal.returns-in-Err-clause-asked
 returns-in-Err-clause-asked g c = λ t. stop_asked (plain_sources c.args.sources.now) c.args.script.now (g.H.Shelf.view c.args.shelf.now) (g.H.Shelf.view c.read_start.new.shelf) (c.read_start.ensures.asked t)
@@ -39,4 +39,4 @@ returns-in-Ok-clause-all_put g c = c.run_lines.ensures.all_put
 
 pub returns-in-Err-clause-all_put : goal.returns-in-Err-clause-all_put
 returns-in-Err-clause-all_put g c = λ whole.
-    absurd (stop_untold g.O.Sink.tells (plain_sources c.args.sources.now) c.args.script.now c.in-Err.stop (g.O.Sink.view c.args.out.now) (g.O.Sink.view c.answer.new.out) c.answer.result c.answer.ensures.line whole)
+    absurd (stop_untold g.O.Sink.tells (plain_sources c.args.sources.now) c.args.script.now c.in-Err.stop (g.O.Sink.view c.args.out.now) (g.O.Sink.view c.answer.new.out) c.answer.result c.answer.ensures.answered whole)

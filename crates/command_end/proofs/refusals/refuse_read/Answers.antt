@@ -1,5 +1,7 @@
-use Rattle.std.proofs.Common.{inl, refl}
 use Rattle.command_end.proofs.refusals.refuse_read.Goals as goal
 
 pub returns-clause-line : goal.returns-clause-line
-returns-clause-line g c = inl (refl, c.put_named.ensures.line)
+returns-clause-line g c = rw c.named.ensures at c.put_fault.ensures.line
+
+pub returns-clause-answered : goal.returns-clause-answered
+returns-clause-answered g c = rw c.named.ensures at c.put_fault.ensures.answered

@@ -34,7 +34,7 @@ returns-in-Ok-Funded-clause-ends g c =
 pub returns-in-Err-clause-ends : goal.returns-in-Err-clause-ends
 returns-in-Err-clause-ends g c =
     stop_ends _ _ _ (plain_sources c.args.sources.now) (plain_payment c.args.payment.now) (plain_job c.args.job) (g.K.Keeper.view c.args.keeper.now) c.in-Err.stop (g.H.Shelf.view c.args.shelf.now) (g.H.Shelf.view c.outcome.new.shelf) (g.O.Sink.view c.args.out.now) (g.O.Sink.view c.answer.new.out) c.answer.result
-    c.in-Err.ensures.stop c.outcome.ensures.frame.same c.answer.ensures.line
+    c.in-Err.ensures.stop c.outcome.ensures.frame.same c.answer.ensures.answered
 
 pub returns-in-Ok-Unfinished-clause-asked : goal.returns-in-Ok-Unfinished-clause-asked
 returns-in-Ok-Unfinished-clause-asked g c = λ t. asked_twice (plain_sources c.args.sources.now) (plain_payment c.args.payment.now) (g.H.Shelf.view c.args.shelf.now) (g.H.Shelf.view c.outcome.new.shelf) (g.H.Shelf.view c.leave.new.shelf) (c.outcome.ensures.asked t) (c.leave.ensures.asked t)
@@ -154,4 +154,4 @@ returns-in-Ok-Funded-clause-all_put g c = put_whole (g.O.Sink.view c.args.out.no
 
 pub returns-in-Err-clause-all_put : goal.returns-in-Err-clause-all_put
 returns-in-Err-clause-all_put g c = λ whole.
-    absurd (stop_untold _ (plain_sources c.args.sources.now) (plain_payment c.args.payment.now) c.in-Err.stop (g.O.Sink.view c.args.out.now) (g.O.Sink.view c.answer.new.out) c.answer.result c.answer.ensures.line whole)
+    absurd (stop_untold _ (plain_sources c.args.sources.now) (plain_payment c.args.payment.now) c.in-Err.stop (g.O.Sink.view c.args.out.now) (g.O.Sink.view c.answer.new.out) c.answer.result c.answer.ensures.answered whole)

@@ -23,7 +23,7 @@ returns-in-Ok-clause-unasked g c = λ none. absurd (let e = c.in-Some.is in cc)
 
 pub returns-in-Err-clause-left : goal.returns-in-Err-clause-left
 returns-in-Err-clause-left g c =
-    rw c.in-Some.is (inr (not_left _ (plain_sources c.args.sources.now) (plain_payment c.args.payment.now) c.in-Some.job.now c.in-Err.stop (g.H.Shelf.view c.args.shelf.now) (g.H.Shelf.view c.keep_anew.new.shelf) (g.O.Sink.view c.args.out.now) (g.O.Sink.view c.answer.new.out) (g.K.Keeper.view c.args.keeper.now) (g.K.Keeper.view c.keep_anew.new.keeper) c.answer.result c.in-Err.ensures.stop c.answer.ensures.line, λ k. c.in-Err.ensures.same k))
+    rw c.in-Some.is (inr (not_left _ (plain_sources c.args.sources.now) (plain_payment c.args.payment.now) c.in-Some.job.now c.in-Err.stop (g.H.Shelf.view c.args.shelf.now) (g.H.Shelf.view c.keep_anew.new.shelf) (g.O.Sink.view c.args.out.now) (g.O.Sink.view c.answer.new.out) (g.K.Keeper.view c.args.keeper.now) (g.K.Keeper.view c.keep_anew.new.keeper) c.answer.result c.in-Err.ensures.stop c.answer.ensures.answered, λ k. c.in-Err.ensures.same k))
 
 pub returns-in-Err-clause-jobs : goal.returns-in-Err-clause-jobs
 returns-in-Err-clause-jobs g c = λ k. same_jobs _ _ (g.K.Keeper.view c.args.keeper.now) (g.K.Keeper.view c.keep_anew.new.keeper) (c.in-Err.ensures.same k)
@@ -57,7 +57,7 @@ returns-in-Ok-clause-all_put g c = put_whole (g.O.Sink.view c.args.out.now) (g.O
 
 pub returns-in-Err-clause-all_put : goal.returns-in-Err-clause-all_put
 returns-in-Err-clause-all_put g c = λ whole.
-    absurd (stop_untold _ (plain_sources c.args.sources.now) (plain_payment c.args.payment.now) c.in-Err.stop (g.O.Sink.view c.args.out.now) (g.O.Sink.view c.answer.new.out) c.answer.result c.answer.ensures.line whole)
+    absurd (stop_untold _ (plain_sources c.args.sources.now) (plain_payment c.args.payment.now) c.in-Err.stop (g.O.Sink.view c.args.out.now) (g.O.Sink.view c.answer.new.out) c.answer.result c.answer.ensures.answered whole)
 
 pub returns-in-None-clause-all_put : goal.returns-in-None-clause-all_put
 returns-in-None-clause-all_put g c = put_whole (g.O.Sink.view c.args.out.now) (g.O.Sink.view c.put_report-in-None.new.out) c.put_report-in-None.result c.put_report-in-None.ensures.all_put

@@ -40,7 +40,7 @@ returns-in-Ok-Funded-clause-ends g c =
 pub returns-in-Err-clause-ends : goal.returns-in-Err-clause-ends
 returns-in-Err-clause-ends g c =
     stop_ends _ _ _ (plain_sources c.args.sources.now) (plain_payment c.args.payment.now) c.args.job.now c.in-Err.stop (g.H.Shelf.view c.args.shelf.now) (g.H.Shelf.view c.go_on.new.shelf) (g.O.Sink.view c.args.out.now) (g.O.Sink.view c.answer.new.out)
-    (g.K.Keeper.view c.args.keeper.now) (g.K.Keeper.view c.go_on.new.keeper) c.answer.result c.in-Err.ensures.stop c.go_on.ensures.frame.same c.go_on.ensures.jobs c.answer.ensures.line
+    (g.K.Keeper.view c.args.keeper.now) (g.K.Keeper.view c.go_on.new.keeper) c.answer.result c.in-Err.ensures.stop c.go_on.ensures.frame.same c.go_on.ensures.jobs c.answer.ensures.answered
 
 pub leave-requires : goal.leave-requires
 leave-requires g c =
@@ -142,4 +142,4 @@ returns-in-Ok-Funded-clause-all_put g c = put_whole (g.O.Sink.view c.args.out.no
 
 pub returns-in-Err-clause-all_put : goal.returns-in-Err-clause-all_put
 returns-in-Err-clause-all_put g c = λ whole.
-    absurd (stop_untold _ (plain_sources c.args.sources.now) (plain_payment c.args.payment.now) c.in-Err.stop (g.O.Sink.view c.args.out.now) (g.O.Sink.view c.answer.new.out) c.answer.result c.answer.ensures.line whole)
+    absurd (stop_untold _ (plain_sources c.args.sources.now) (plain_payment c.args.payment.now) c.in-Err.stop (g.O.Sink.view c.args.out.now) (g.O.Sink.view c.answer.new.out) c.answer.result c.answer.ensures.answered whole)

@@ -12,10 +12,10 @@ answer-requires g c = reads_none c.args.number c.args.count c.in-Err.stop c.in-E
 
 pub returns-in-Err-clause-ends : goal.returns-in-Err-clause-ends
 returns-in-Err-clause-ends g c =
-    stop_ends g.O.Sink.tells c.args.number c.args.count c.in-Err.stop (g.O.Sink.view c.args.out.now) (g.O.Sink.view c.answer.new.out) c.answer.result c.in-Err.ensures.stop c.answer.ensures.line
+    stop_ends g.O.Sink.tells c.args.number c.args.count c.in-Err.stop (g.O.Sink.view c.args.out.now) (g.O.Sink.view c.answer.new.out) c.answer.result c.in-Err.ensures.stop c.answer.ensures.answered
 
 pub returns-in-Ok-clause-all_put : goal.returns-in-Ok-clause-all_put
 returns-in-Ok-clause-all_put g c = put_whole (g.O.Sink.view c.args.out.now) (g.O.Sink.view c.put_report.new.out) c.put_report.result c.put_report.ensures.all_put
 
 pub returns-in-Err-clause-all_put : goal.returns-in-Err-clause-all_put
-returns-in-Err-clause-all_put g c = λ whole. absurd (stop_untold _ c.in-Err.stop (g.O.Sink.view c.args.out.now) (g.O.Sink.view c.answer.new.out) c.answer.result c.answer.ensures.line whole)
+returns-in-Err-clause-all_put g c = λ whole. absurd (stop_untold _ c.in-Err.stop (g.O.Sink.view c.args.out.now) (g.O.Sink.view c.answer.new.out) c.answer.result c.answer.ensures.answered whole)

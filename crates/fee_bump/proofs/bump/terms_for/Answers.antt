@@ -9,8 +9,8 @@ use Rattle.tx_codec.specs.Weight.{weight_of}
 use Rattle.fee_rates.specs.Fee.{vsize_of}
 use Rattle.wallet_text.specs.PlainWallet.{PlainWallet}
 use Rattle.wallet_text.specs.WalletRules.{IsWallet}
-use Rattle.payment_states.specs.AnyCoin.{facts_among}
-use Rattle.payment_states.specs.LeftOut.{confirmed_without_of}
+use Rattle.payment_facts.specs.AnyCoin.{facts_among}
+use Rattle.payment_facts.specs.LeftOut.{confirmed_without_of}
 use Rattle.payment_states.specs.Makers.{HasMaker}
 use Rattle.payment_states.specs.PendingView.{no_tx, tx_at, view_of}
 use Rattle.fee_bump.specs.Bump.{added_of, burden_at, fee_in, fees_in, least_vsize, presets_at, replaced_txids, spent_by}

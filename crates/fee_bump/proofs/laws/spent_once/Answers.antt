@@ -1,6 +1,6 @@
 use Rattle.std.proofs.Common.{Contains, map, subst}
 use Rattle.tx_codec.specs.declared.tx.TxIn.{TxIn}
-use Rattle.payment_states.proofs.LeftSteps.{map_from, map_has}
+use Rattle.payment_facts.proofs.LeftSteps.{map_from, map_has}
 use Rattle.fee_bump.proofs.FitLaws.{once_apart}
 use Rattle.fee_bump.proofs.TermLaws.{once_from, once_has}
 use Rattle.fee_bump.proofs.laws.spent_once.Goals as goal

@@ -2,7 +2,7 @@ use Rattle.std.proofs.Common.{◌∙◌, List, ap, subst, sym}
 use Rattle.fund_base.specs.declared.outpoint.OutPoint.{OutPoint}
 use Rattle.fund_payment.proofs.ParentLaws.{held_book}
 use Rattle.payment_states.proofs.FitSteps.{fit}
-use Rattle.payment_states.specs.AnyCoin.{facts_among}
+use Rattle.payment_facts.specs.AnyCoin.{facts_among}
 use Rattle.desk_machine.specs.State.{candidates_in, points}
 use Rattle.fund_desk.specs.Ready.{IsOneAtEach}
 use Rattle.fund_desk.proofs.ReadyLaws.{all_ready, one_at_each}

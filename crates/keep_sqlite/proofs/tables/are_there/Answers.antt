@@ -11,3 +11,6 @@ returns-clause-left g c =
       inside = λ inside clean. told_stays old new inside _ _ c.query_row.result c.are_made_by.result (c.query_row.ensures.row clean) c.are_made_by.ensures;
       survives = c.query_row.ensures.survives;
     }
+
+pub returns-clause-told : goal.returns-clause-told
+returns-clause-told g c clean = (c.query_row.result, rw (c.params-to_sql.ensures, c.params-to_sql-2.ensures) at (c.query_row.ensures.row clean), c.are_made_by.ensures)

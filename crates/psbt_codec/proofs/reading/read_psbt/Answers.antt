@@ -1,3 +1,4 @@
+use Rattle.psbt_codec.proofs.FirstPairLaws.{begins}
 use Rattle.psbt_codec.proofs.PublicClauses.{all_found, all_only, all_without_magic, all_unmarked, all_trailing, all_followed, all_without_text}
 use Rattle.psbt_codec.proofs.reading.read_psbt.Goals as goal
 
@@ -11,7 +12,7 @@ pub returns-clause-magic : goal.returns-clause-magic
 returns-clause-magic c = all_without_magic c.args.bytes.now c.whole_of.result c.whole_of.ensures.exact
 
 pub returns-clause-unmarked : goal.returns-clause-unmarked
-returns-clause-unmarked c = all_unmarked c.args.bytes.now c.whole_of.result c.whole_of.ensures.exact
+returns-clause-unmarked c = all_unmarked c.args.bytes.now c.whole_of.result c.whole_of.ensures.exact c.whole_of.ensures.short
 
 pub returns-clause-trailing : goal.returns-clause-trailing
 returns-clause-trailing c = all_trailing c.args.bytes.now c.whole_of.ensures.bytes c.whole_of.result c.whole_of.ensures.exact
@@ -21,3 +22,6 @@ returns-clause-followed c = all_followed c.args.bytes.now c.whole_of.ensures.byt
 
 pub returns-clause-never_text : goal.returns-clause-never_text
 returns-clause-never_text c = all_without_text c.args.bytes.now c.whole_of.result c.whole_of.ensures.exact
+
+pub returns-clause-begun : goal.returns-clause-begun
+returns-clause-begun c = λ memory. begins c.args.bytes.now c.whole_of.ensures.bytes (c.whole_of.ensures.short memory) (c.whole_of.ensures.begun memory)

@@ -1,6 +1,8 @@
+use Rattle.std.proofs.Common.{refl, inr}
 use Rattle.serde_json.specs.View.{view}
 use Rattle.request_text.proofs.Alone.{alone}
 use Rattle.request_text.proofs.Seeds.{seed_given}
+use Rattle.request_text.proofs.Stored.{recipients_stored}
 use Rattle.request_text.proofs.reading.request_in.Goals as goal
 
 pub invariant_of-result : goal.invariant_of-result
@@ -19,9 +21,13 @@ invariant_of-result c =
       coins = c.in_ok-coins.ensures.are;
       distinct = c.in_ok-coins.ensures.distinct;
       bump = c.in_ok-terms.ensures.bump;
-      alone = λ there. alone (view c.args.value.now) _ c.in_ok-whole_of.ensures (c.in_ok-terms.ensures.there there) c.in_ok-coins.ensures.gives;
+      alone = λ there. alone (view c.args.value.now) _ c.in_ok-whole_of.ensures.gives (c.in_ok-terms.ensures.there there) c.in_ok-coins.ensures.gives;
       locktime = c.in_ok-terms.ensures.locktime;
     }
 
 pub returns-clause-seed : goal.returns-clause-seed
-returns-clause-seed c h = seed_given (view c.args.value.now) _ c.in_ok-whole_of.ensures c.in_ok-search.ensures.method h
+returns-clause-seed c h = seed_given (view c.args.value.now) _ c.in_ok-whole_of.ensures.gives c.in_ok-search.ensures.method h
+
+pub returns-in_err-coins-clause-short : goal.returns-in_err-coins-clause-short
+returns-in_err-coins-clause-short c m =
+    inr (rw c.in_ok-whole_of.ensures.gives refl, rw c.in_ok-member_of.ensures.exact (recipients_stored _ c.in_ok-recipients.recipients.items c.in_ok-recipients.ensures.gives))

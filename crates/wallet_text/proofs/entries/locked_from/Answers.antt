@@ -1,17 +1,24 @@
+use Rattle.std.proofs.Common.{refl, sym}
 use Rattle.std.proofs.lemmas.Result.{err_from_is_err_and}
-use Rattle.std.specs.Prelude.{codes}
+use Rattle.std.specs.Prelude.{IsOk, codes}
 use Rattle.json_fields.specs.Fields.{coin_at}
-use Rattle.json_fields.proofs.Loops.{goes_on, ends, is_done}
+use Rattle.json_fields.proofs.Loops.{goes_on, ends, is_done, stored_first}
 use Rattle.wallet_text.proofs.entries.locked_from.Goals as goal
 
-pub returns-in_err-coin : goal.returns-in_err-coin
-returns-in_err-coin c =
+pub returns-in_err-coin-clause-gives : goal.returns-in_err-coin-clause-gives
+returns-in_err-coin-clause-gives c =
     let p = err_from_is_err_and c.from_residual.result c.from_residual.ensures.1 in
-    rw (p.1, p.2) (ends _ c.in_err-coin.field-0.0 (λ _. coin_at (codes "locked")) _ _ _ c.value-item.result _ c.loop-value-test.true c.value-item.is c.in_err-coin.ensures.gives c.loop-value.invariant)
+    rw (p.1, p.2) (ends _ c.in_err-coin.field-0.0 (λ _. coin_at (codes "locked")) _ _ _ c.value-item.result _ c.loop-value-test.true c.value-item.is (λ _. sym c.in_err-coin.ensures.exact) c.loop-value.invariant.read)
+
+pub returns-in_err-push-clause-short : goal.returns-in_err-push-clause-short
+returns-in_err-push-clause-short c m =
+    stored_first (λ e. IsOk (coin_at (codes "locked") e)) _ _ c.value-item.result c.loop-value-test.true c.value-item.is c.loop-value.invariant.stores (rw (sym c.in_ok-coin.ensures.exact) refl)
 
 pub loop-value-preserved : goal.loop-value-preserved
-loop-value-preserved c =
-    rw c.in_ok-push.ensures.items (goes_on (λ _. coin_at (codes "locked")) _ _ _ c.value-item.result c.in_ok-coin.coin _ c.loop-value-test.true c.value-item.is c.in_ok-coin.ensures.gives c.loop-value.invariant)
+loop-value-preserved c = record {
+  read = rw c.in_ok-push.ensures.items (goes_on (λ _. coin_at (codes "locked")) _ _ _ c.value-item.result c.in_ok-coin.coin _ c.loop-value-test.true c.value-item.is (sym c.in_ok-coin.ensures.exact) c.loop-value.invariant.read);
+  stores = λ _. stored_first (λ e. IsOk (coin_at (codes "locked") e)) _ _ c.value-item.result c.loop-value-test.true c.value-item.is c.loop-value.invariant.stores (rw (sym c.in_ok-coin.ensures.exact) refl);
+}
 
-pub returns : goal.returns
-returns c = is_done (λ _. coin_at (codes "locked")) _ _ _ _ c.loop-value-test.false c.loop-value.invariant
+pub returns-clause-gives : goal.returns-clause-gives
+returns-clause-gives c = is_done (λ _. coin_at (codes "locked")) _ _ _ _ c.loop-value-test.false c.loop-value.invariant.read

@@ -8,4 +8,4 @@ use Rattle.wallet_text.proofs.reading.read.Goals as goal
 
 pub returns : goal.returns
 returns c =
-    subst (λ (r : Result PlainWallet Refusal). Gives (λ w. w) c.wallet_of.result r) (sym (parts_of c.args.bytes.now (view c.in_ok-value.value) c.in_ok-value.ensures)) c.wallet_of.ensures
+    subst (λ (r : Result PlainWallet Refusal). Gives (λ w. w) c.wallet_of.result r) (sym (parts_of c.args.bytes.now (view c.in_ok-value.value) c.in_ok-value.ensures)) c.wallet_of.ensures.gives

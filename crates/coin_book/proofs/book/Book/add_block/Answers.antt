@@ -1,12 +1,15 @@
-use Rattle.std.proofs.Common.{◌∙◌, ◌++◌, ◌∷◌, ◌+◌, [], List, Bool, cond, Some, ap, sym, subst, arith, map, length}
-use Rattle.std.specs.Prelude.{nat_le}
+use Rattle.std.proofs.Common.{◌∙◌, ◌++◌, ◌∷◌, ◌+◌, ◌≤◌, [], List, Bool, cond, Some, ap, inl, inr, sym, subst, arith, map, length}
+use Rattle.std.specs.Prelude.{◌^◌, nat_le}
 use Rattle.std.specs.declared.snapshot.Snapshot.{Snapshot}
 use Rattle.block_feed.specs.Block.{ChainBlock}
 use Rattle.coin_book.specs.Faults.{fault_behind, fault_of}
 use Rattle.coin_book.specs.History.{Confirmed, History, confirmed_at, confirmed_in, with_block}
 use Rattle.coin_book.specs.Invariant.{IsKept, history_of, points_in, weigher}
+use Rattle.coin_book.specs.Short.{IsShortFor}
 use Rattle.coin_book.specs.declared.fault.BookFault.{BookFault}
+use Rattle.coin_book.specs.declared.fault.BookFault.TheVariants.{Memory}
 use Rattle.coin_book.proofs.BlockSteps.{block_back, block_fault, block_full, block_kept, block_next, block_sound, kept_chain, one_block}
+use Rattle.coin_book.proofs.ShortSteps.{same_fault, short_block}
 use Rattle.coin_book.proofs.ListSteps.{on_err, only_err}
 use Rattle.coin_book.proofs.book.Book.add_block.Goals as goal
 
@@ -98,3 +101,57 @@ returns-clause-exact c =
     sym (ap (λ (h : History). fault_of (with_block h c.args.block.now)) c.self.view_is)
     ∙ block_sound h c.args.block.now ws l c.in-Ok.more ps txids c.self.inside.count c.left_of-left.result next
     (sym (λ j. nat_le (c.len-2.ensures.len j + c.len-3.ensures.len j + c.left_of-left.result) 100_000) ∙ c.in-Ok-check_fits.ensures.fits)
+
+pub returns-in-Err-clause-short : goal.returns-in-Err-clause-short
+returns-in-Err-clause-short c = λ is.
+    let h = history_of c.self.inside.wallet.value c.self.inside.blocks.items c.self.inside.waiting.items in
+    let ws = c.self.inside.weights.entries in
+    let l = c.self.inside.ledger in
+    let ps = c.self.inside.pending.entries in
+    let txids = c.self.inside.txids.keys in
+    let k = c.self.invariant in
+    let chain = kept_chain h ws l ps txids c.self.inside.count k in
+    let same = (λ j. map (confirmed_at c.block.inside.height) (c.deref.ensures.value j)) ∙ ap confirmed_in c.block.view_is in
+    subst (λ (h : History). IsShortFor h c.args.block.now) c.self.view_is
+    (short_block h ws l ps txids c.self.inside.count c.args.block.now (map (confirmed_at c.block.inside.height) c.deref.result.now) k same (c.in-Err.ensures.short h.confirmed chain k.count_is (same_fault c.in-Err.fault Memory is)))
+
+pub returns-in_default-clause-short : goal.returns-in_default-clause-short
+returns-in_default-clause-short c = λ _.
+    let h = history_of c.self.inside.wallet.value c.self.inside.blocks.items c.self.inside.waiting.items in
+    let many : 2 ^ 64 ≤ length h.confirmed + length c.block.inside.txs.items = omega (arith, c.in_default.ensures, c.self.invariant.count_is, c.len.ensures) in
+    subst (λ (h : History). IsShortFor h c.args.block.now) c.self.view_is
+    (inr (inr (subst (λ (b : ChainBlock). 2 ^ 64 ≤ length h.confirmed + length b.txs) c.block.view_is many)))
+
+pub returns-in_err-reserve-clause-short : goal.returns-in_err-reserve-clause-short
+returns-in_err-reserve-clause-short c = λ _.
+    inr (inl (
+    let h = history_of c.self.inside.wallet.value c.self.inside.blocks.items c.self.inside.waiting.items in
+    let ws = c.self.inside.weights.entries in
+    let l = c.self.inside.ledger in
+    let ps = c.self.inside.pending.entries in
+    let txids = c.self.inside.txids.keys in
+    let k = c.self.invariant in
+    let chain = kept_chain h ws l ps txids c.self.inside.count k in
+    let same = (λ j. map (confirmed_at c.block.inside.height) (c.deref.ensures.value j)) ∙ ap confirmed_in c.block.view_is in
+    let next = block_next h c.args.block.now ws l c.in-Ok.more ps txids c.self.inside.count c.left_of-left.result _ k same (c.in-Ok.ensures.holds h.confirmed chain k.count_is) (c.in-Ok.ensures.exact h.confirmed chain k.count_is) c.left_of-left.ensures in
+    sym (ap (λ (h : History). fault_of (with_block h c.args.block.now)) c.self.view_is)
+    ∙ block_sound h c.args.block.now ws l c.in-Ok.more ps txids c.self.inside.count c.left_of-left.result next
+    (sym (λ j. nat_le (c.len-2.ensures.len j + c.len-3.ensures.len j + c.left_of-left.result) 100_000) ∙ c.in-Ok-check_fits.ensures.fits)
+    ))
+
+pub returns-in_err-append-clause-short : goal.returns-in_err-append-clause-short
+returns-in_err-append-clause-short c = λ _.
+    inr (inl (
+    let h = history_of c.self.inside.wallet.value c.self.inside.blocks.items c.self.inside.waiting.items in
+    let ws = c.self.inside.weights.entries in
+    let l = c.self.inside.ledger in
+    let ps = c.self.inside.pending.entries in
+    let txids = c.self.inside.txids.keys in
+    let k = c.self.invariant in
+    let chain = kept_chain h ws l ps txids c.self.inside.count k in
+    let same = (λ j. map (confirmed_at c.block.inside.height) (c.deref.ensures.value j)) ∙ ap confirmed_in c.block.view_is in
+    let next = block_next h c.args.block.now ws l c.in-Ok.more ps txids c.self.inside.count c.left_of-left.result _ k same (c.in-Ok.ensures.holds h.confirmed chain k.count_is) (c.in-Ok.ensures.exact h.confirmed chain k.count_is) c.left_of-left.ensures in
+    sym (ap (λ (h : History). fault_of (with_block h c.args.block.now)) c.self.view_is)
+    ∙ block_sound h c.args.block.now ws l c.in-Ok.more ps txids c.self.inside.count c.left_of-left.result next
+    (sym (λ j. nat_le (c.len-2.ensures.len j + c.len-3.ensures.len j + c.left_of-left.result) 100_000) ∙ c.in-Ok-check_fits.ensures.fits)
+    ))

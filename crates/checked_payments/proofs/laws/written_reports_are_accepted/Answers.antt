@@ -1,5 +1,0 @@
-use Rattle.checked_payments.proofs.CommandLaws.{funded_checked, none_checked, open_checked}
-use Rattle.checked_payments.proofs.laws.written_reports_are_accepted.Goals as goal
-
-pub returns : goal.returns
-returns c = record { funded = funded_checked; none = none_checked; unfinished = open_checked }

@@ -1,0 +1,15 @@
+pub mod AnswerLaws
+pub mod ChainRuleLaws
+pub mod CommandLaws
+pub mod FoundLaws
+pub mod LengthLaws
+pub mod LineLaws
+pub mod PsbtLaws
+pub mod ReportLaws
+pub mod ResumeLaws
+pub mod RunLaws
+pub mod ScriptLaws
+pub mod ShortLaws
+pub mod SummaryLaws
+pub mod TellLaws
+pub mod WalletRuleLaws

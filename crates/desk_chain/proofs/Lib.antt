@@ -1,0 +1,5 @@
+pub mod BlockLaws
+pub mod ChainLaws
+pub mod SetLaws
+pub mod ShelfLaws
+pub mod TxidLaws

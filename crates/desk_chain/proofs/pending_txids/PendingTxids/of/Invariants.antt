@@ -1,0 +1,6 @@
+use Rattle.std.proofs.Common.{take}
+use Rattle.desk_chain.specs.Kept.{AreTxidsOf}
+use Rattle.desk_chain.proofs.pending_txids.PendingTxids.of.Given as goal
+
+abbrev pub invariant-loop-tx : goal.invariant-loop-tx
+invariant-loop-tx l = AreTxidsOf (take l.tx-index l.pending) l.all

@@ -1,5 +1,0 @@
-use Rattle.std.proofs.Common.{◌∙◌}
-use Rattle.fund_desk.proofs.pending_txids.PendingTxids.is_parent.Goals as goal
-
-pub returns : goal.returns
-returns c = λ pending h. c.contains.ensures ∙ h.parents c.args.id.now

@@ -1,0 +1,3 @@
+pub mod AnySteps
+pub mod LeftSteps
+pub mod PendingSteps

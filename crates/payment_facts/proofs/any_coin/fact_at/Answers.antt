@@ -1,0 +1,15 @@
+use Rattle.std.proofs.Common.{◌∙◌, Some, ap}
+use Rattle.std.specs.Prelude.{option_map}
+use Rattle.fund_base.specs.declared.candidate.Candidate.{Candidate}
+use Rattle.payment_facts.specs.AnyCoin.{facts_at}
+use Rattle.payment_states.specs.Candidates.{candidate_of}
+use Rattle.payment_facts.proofs.any_coin.fact_at.Goals as goal
+
+pub returns-in_ok-candidate-in-Some-clause-exact : goal.returns-in_ok-candidate-in-Some-clause-exact
+unfolding facts_at
+returns-in_ok-candidate-in-Some-clause-exact c =
+    ap (λ (x : Candidate). Some x) c.in_ok-candidate-in-Some.ensures ∙ ap (option_map (candidate_of c.args.wallet.now c.args.book.now c.args.tip)) c.in-Some.ensures
+
+pub returns-in-None-clause-exact : goal.returns-in-None-clause-exact
+unfolding facts_at
+returns-in-None-clause-exact c = ap (option_map (candidate_of c.args.wallet.now c.args.book.now c.args.tip)) c.in-None.ensures

@@ -1,0 +1,3 @@
+pub mod AnyCoin
+pub mod LeftOut
+pub mod Pendings
