@@ -32,10 +32,10 @@ SHARES = (
     ("system, reading files and pages of memory", r"\[k\]"),
     ("memory: taken, given back, moved", r"libc\.so|rattle_alloc|Destruct::drop|std_alloc::"),
     ("pools and plan", r"output_groups::|fund_steps::|fund_plan::|fee_rates::|core::slice::(sort|edits)"),
-    ("states and candidates", r"payment_states::"),
+    ("states and candidates", r"payment_states::|coin_candidates::"),
     ("book of coins", r"coin_book::|indexmap::"),
     ("JSON and hex", r"serde_json|\bjson|json_fields::|wallet_text::|request_text::|\bhex::"),
-    ("reading transactions and blocks", r"tx_codec::|block_feed::|fund_base::|fund_top::blocks"),
+    ("reading transactions and blocks", r"tx_codec::|block_feed::|fund_base::|fund_shelf::|fund_top::blocks"),
 )
 subprocess.run(["perf", "record", "-q", "-F", "4999", "-o", "perf.data", *command], check=True, stdout=subprocess.DEVNULL)
 report = subprocess.run(["perf", "report", "-i", "perf.data", "--no-children", "--stdio"], check=True, capture_output=True, text=True).stdout

@@ -1,7 +1,7 @@
 //! Reading a block file whole.
 
 use block_feed::{Feed, FeedFault};
-use fund_base::{FileShelf, Shelf};
+use fund_shelf::{FileShelf, Shelf};
 use std::alloc::Global;
 use std::io;
 

@@ -1,9 +1,10 @@
 //! Finding the pool of made-up coins, ten to a script.
 
 ghost use Rattle.std.specs.Prelude.{◌≤◌, IfOk};
-ghost use Rattle.fund_base.specs.Candidates.{AreCandidates};
+ghost use Rattle.coin_candidates.specs.Candidates.{AreCandidates};
 
-use fund_base::{Candidate, Memory, OutPoint, Script, Txid};
+use coin_candidates::Candidate;
+use fund_base::{Memory, OutPoint, Script, Txid};
 use output_groups::{Groups, ladder, pool};
 use std::alloc::Global;
 use std::cmp::Reverse;

@@ -6,8 +6,8 @@ use Rattle.std.proofs.lemmas.List.Elements.{All-append}
 use Rattle.fund_base.specs.Cursor.{IsBytes}
 use Rattle.fund_base.specs.Parsing.{YieldsAll}
 use Rattle.fund_base.specs.Writer.{Feeds}
-use Rattle.fund_base.specs.declared.shelf.Fault.{Fault}
-use Rattle.fund_base.specs.declared.shelf.Fault.TheVariants as shelf
+use Rattle.fund_shelf.specs.declared.shelf.Fault.{Fault}
+use Rattle.fund_shelf.specs.declared.shelf.Fault.TheVariants as shelf
 use Rattle.fund_base.proofs.Laws.{bind_is}
 use Rattle.block_feed.specs.Block.{ChainBlock, IsLinked, height_after}
 use Rattle.block_feed.specs.Digest.{HasTaken}

@@ -6,7 +6,7 @@ use Rattle.std.proofs.Math.Seq.{take-add}
 use Rattle.std.proofs.lemmas.Bool.{cases_lt, eqb-true, lt-ltb, le-ltb}
 use Rattle.std.proofs.lemmas.List.{take-append-drop, take_all, take-take, drop-drop, drop-take, length-take, length-take-le, length-drop}
 use Rattle.std.proofs.lemmas.List.Folds.{list_all-append}
-use Rattle.fund_base.specs.Causes.{IsRead, NeverFall}
+use Rattle.fund_shelf.specs.Causes.{IsRead}
 use Rattle.block_feed.specs.Parts.{IsFirstPart}
 
 -- ---- what is read
@@ -187,14 +187,6 @@ none_left n piece empty is told long = sym long ∙ eqb-true n 0 (sym is ∙ tol
 pub some_if : {X E : Type 0} (len : X → ℕ) (n : ℕ) (r : Result X E) → 0 < n → IfOk r (λ x. len x ≡ n) → IfOk r (λ x. 0 < len x)
 some_if len n (Ok x) some is = omega (arith, is)
 some_if len n (Err e) some is = tt
-
--- counts that are as before have not fallen
-pub never_same : (before now : List ℕ → ℕ) → now ≡ before → NeverFall before now
-never_same before now is name = omega (arith, ap (λ (f : List ℕ → ℕ). f name) is)
-
--- nor have those that have not fallen since
-pub never_then : (before middle now : List ℕ → ℕ) → middle ≡ before → NeverFall middle now → NeverFall before now
-never_then before middle now is never = subst (λ (f : List ℕ → ℕ). NeverFall f now) is never
 
 -- before the first piece there is nothing
 pub part_none : (part file : List ℕ) (n at : ℕ) → part ≡ [] → n ≡ 0 → part ≡ take n (drop at file)

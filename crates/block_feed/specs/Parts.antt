@@ -1,6 +1,5 @@
 -- Parts of a file that is read piece by piece.
-use Rattle.std.specs.Prelude.{ℕ, ◌≡◌, ◌+◌, ◌-◌, ◌≤◌, ◌<◌, [], ◌∷◌, ◌++◌, List, length, take, vec_len}
-use Rattle.fund_base.specs.Causes.{Asks, NeverFall, Rose, ShelfView}
+use Rattle.std.specs.Prelude.{ℕ, ◌≡◌, ◌+◌, ◌-◌, ◌≤◌, ◌<◌, ◌++◌, List, length, take, vec_len}
 use Rattle.fund_base.specs.Cursor.{IsBytes}
 use Rattle.fund_base.specs.Writer.{Feeds}
 use Rattle.block_feed.specs.Block.{ChainBlock, IsLinked, height_after}
@@ -13,16 +12,6 @@ pub record IsFirstPart (bytes piece : List ℕ) : Type 0 where
   pub count : ℕ
   pub some : 0 < count
   pub is : piece ≡ take count bytes
-
--- What a call that reads the file of this name alone leaves of a shelf. Where it failed that name's count of failed
--- reads rose, and otherwise no count changed.
-pub record ReadsOne (told failed : Type 0) (name : List ℕ) (before now : ShelfView) : Type 0 where
-  pub same : told → now.files ≡ before.files
-  pub reads : NeverFall before.reads now.reads
-  pub writes : now.writes ≡ before.writes
-  pub cause : failed → Rose (before.reads name) (now.reads name)
-  pub unfailed : (failed → ⊥) → now.reads ≡ before.reads
-  pub asked : told → Asks (name ∷ []) before.asked now.asked
 
 -- A record that stands at this place of a file: its bytes are the next ones there, where these are told, and it lies
 -- within what is read of a file.

@@ -2,8 +2,8 @@
 use Rattle.std.specs.Prelude.{ℕ, ◌+◌, ◌==◌, Bool, not, ◌&&◌, ◌||◌, List, length, map, take, drop, nat_lt, bytes_eq, Option, Some, None, Result, Ok, Err, if◌then◌else◌}
 use Rattle.std.specs.Int.{w32, from_le_bytes}
 use Rattle.std.specs.List.{list_all}
-use Rattle.fund_base.specs.declared.shelf.Fault.{Fault}
-use Rattle.fund_base.specs.declared.shelf.Fault.TheVariants as shelf
+use Rattle.fund_shelf.specs.declared.shelf.Fault.{Fault}
+use Rattle.fund_shelf.specs.declared.shelf.Fault.TheVariants as shelf
 use Rattle.fund_base.specs.Cursor.{At, take_at, compact_at}
 use Rattle.fund_base.specs.Parsing.{◌>>=◌, fault_as, many_at}
 use Rattle.tx_codec.specs.declared.fault.TxFault.{TxFault}

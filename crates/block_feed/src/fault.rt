@@ -3,7 +3,7 @@
 ghost use Rattle.std.specs.Prelude.{◌≡◌};
 ghost use Rattle.block_feed.specs.declared.fault.FeedFault.TheVariants.{Memory};
 
-use fund_base::Fault;
+use fund_shelf::Fault;
 use std::alloc::{AllocError, AllocFailed};
 use tx_codec::TxFault;
 

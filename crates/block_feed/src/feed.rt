@@ -1,13 +1,13 @@
 //! The feed of linked blocks.
 
-ghost use Rattle.std.specs.Prelude.{ℕ, ◌≡◌, ◌≢◌, ◌+◌, ◌-◌, ◌≤◌, ◌<◌, [], ◌∷◌, ◌++◌, length, drop, take, nat_lt, option_map, List, Some, None, Ok, Err, IfOk, IfErr, IfSome, IfNone, is_some, IsSome, IsErrOf, MatchOption, MatchResult};
-ghost use Rattle.fund_base.specs.Causes.{Asks, Rose, NeverFall};
+ghost use Rattle.std.specs.Prelude.{ℕ, ◌≡◌, ◌≢◌, ◌+◌, ◌-◌, ◌≤◌, ◌<◌, [], ◌++◌, length, drop, take, nat_lt, option_map, List, Some, None, Ok, Err, IfOk, IfErr, IfSome, IfNone, is_some, IsSome, IsErrOf, MatchOption, MatchResult};
+ghost use Rattle.fund_shelf.specs.Causes.{ReadsOne};
 ghost use Rattle.fund_base.specs.Writer.{Feeds};
 ghost use Rattle.block_feed.specs.Block.{ChainBlock, IsLinked, Begins, height_after};
 ghost use Rattle.block_feed.specs.BlockFile.{IsBlockFile};
 ghost use Rattle.block_feed.specs.Digest.{HasTaken, IsDigest};
 ghost use Rattle.block_feed.specs.Feed.{IsOutside, IsEnd, StandsBefore, IsFirst, next_in, next_of, seen_from, Finds, Gives, Moves, Digests};
-ghost use Rattle.block_feed.specs.Parts.{IsNextAt, IsPast, ReadsOne, behind_record};
+ghost use Rattle.block_feed.specs.Parts.{IsNextAt, IsPast, behind_record};
 ghost use Rattle.block_feed.specs.declared.fault.FeedFault.TheVariants.{Tx, Read, Limit, Memory};
 ghost use Rattle.tx_codec.specs.declared.fault.TxFault.TheVariants.{Memory as NoMemory};
 
@@ -16,7 +16,7 @@ use crate::digest::{copy_of, digest_of, take_in};
 use crate::fault::FeedFault;
 use crate::reading::block_of;
 use crate::records::{Record, record_from};
-use fund_base::Shelf;
+use fund_shelf::Shelf;
 use sha2::{Digest, Sha256};
 use std::alloc::Global;
 use std::marker::Model;
@@ -241,8 +241,6 @@ impl Feed {
         ensures kept { IfErr result (λ e. e ≢ Memory → e ≢ Read → self.new.fault ≡ Some e) }
         ensures memory { IsErrOf result FeedFault.Memory → self.new ≡ self.old }
         ensures read { IsErrOf result FeedFault.Read → self.new ≡ self.old }
-        ensures cause { IsErrOf result FeedFault.Read → Rose ((H.view shelf.old).reads name.now) ((H.view shelf.new).reads name.now) }
-        ensures unfailed { result ≢ Err Read → (H.view shelf.new).reads ≡ (H.view shelf.old).reads }
 
         // What the digest takes, where one is asked for: the bytes of each record, and at the end all that is left.
         ensures digests { H.tells → self.old.fault ≡ None → Digests ((H.view shelf.old).files name.now) self.old self.new result }
@@ -251,11 +249,9 @@ impl Feed {
         // A fault of a transaction is one of its text, and never that memory was short.
         ensures never_memory { (at : ℕ) → result ≢ Err (Tx at NoMemory) }
 
-        // What the call leaves of the shelf, and that it asks for this name alone.
-        ensures same { H.tells → (H.view shelf.new).files ≡ (H.view shelf.old).files }
-        ensures reads { NeverFall (H.view shelf.old).reads (H.view shelf.new).reads }
-        ensures writes { (H.view shelf.new).writes ≡ (H.view shelf.old).writes }
-        ensures asked { H.tells → Asks (name.now ∷ []) (H.view shelf.old).asked (H.view shelf.new).asked }
+        // What the call leaves of the shelf: its files; its counts, unless it fails to read, where that of failed reads of
+        // this name rises; and that it asks for this name alone.
+        ensures frame { ReadsOne H.tells (IsErrOf result FeedFault.Read) name.now (H.view shelf.old) (H.view shelf.new) }
     {
         self.advance(alloc, shelf, name)
     }

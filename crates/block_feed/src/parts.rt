@@ -4,9 +4,10 @@ ghost use Rattle.std.specs.Prelude.{◌≡◌, ◌+◌, ◌≤◌, ◌<◌, ◌=
 ghost use Rattle.std.specs.List.{list_all};
 ghost use Rattle.fund_base.specs.Cursor.{IsBytes};
 ghost use Rattle.block_feed.specs.Feed.{seen_from};
-ghost use Rattle.block_feed.specs.Parts.{IsFirstPart, ReadsOne};
+ghost use Rattle.fund_shelf.specs.Causes.{ReadsOne};
+ghost use Rattle.block_feed.specs.Parts.{IsFirstPart};
 
-use fund_base::{Fault, Shelf};
+use fund_shelf::{Fault, Shelf};
 use std::alloc::{AllocError, Global};
 
 /// How many bytes of a block file are read at most.

@@ -2,12 +2,12 @@
 
 ghost use Rattle.std.specs.Prelude.{◌≡◌, ◌≢◌, ◌+◌, ◌≤◌, ◌<◌, [], ◌∷◌, ℕ, length, take, nat_lt, option_map, IfOk, IfSome, IfNone, is_some, IsErrOf, Err};
 ghost use Rattle.std.specs.Int.{w32, from_le_bytes};
-ghost use Rattle.fund_base.specs.Causes.{Asks, Rose, NeverFall};
+ghost use Rattle.fund_shelf.specs.Causes.{Asks, NeverFall, ReadsOne, Rose};
 ghost use Rattle.fund_base.specs.Parsing.{YieldsAll};
 ghost use Rattle.fund_base.specs.Writer.{Feeds};
 ghost use Rattle.block_feed.specs.Digest.{HasTaken};
 ghost use Rattle.block_feed.specs.Feed.{Finds, seen_from};
-ghost use Rattle.block_feed.specs.Parts.{ReadsOne, StandsAt, body_in};
+ghost use Rattle.block_feed.specs.Parts.{StandsAt, body_in};
 ghost use Rattle.block_feed.specs.Reading.{cut_off, magic_at, size_at, record_at};
 ghost use Rattle.block_feed.specs.declared.fault.FeedFault.TheVariants.{Tx, Read, Memory};
 ghost use Rattle.tx_codec.specs.declared.fault.TxFault.TheVariants.{Memory as NoMemory};
@@ -15,7 +15,7 @@ ghost use Rattle.tx_codec.specs.declared.fault.TxFault.TheVariants.{Memory as No
 use crate::fault::FeedFault;
 use crate::parts::{is_longer, is_zero, part_of};
 use crate::tail::end_at;
-use fund_base::Shelf;
+use fund_shelf::Shelf;
 use sha2::Sha256;
 use std::alloc::Global;
 

@@ -5,7 +5,7 @@ ghost use Rattle.std.specs.List.{list_all};
 ghost use Rattle.fund_base.specs.Writer.{Feeds};
 ghost use Rattle.block_feed.specs.Digest.{HasTaken};
 ghost use Rattle.block_feed.specs.Feed.{Finds, seen_from};
-ghost use Rattle.block_feed.specs.Parts.{ReadsOne};
+ghost use Rattle.fund_shelf.specs.Causes.{ReadsOne};
 ghost use Rattle.block_feed.specs.Reading.{ended_at};
 ghost use Rattle.block_feed.specs.declared.fault.FeedFault.TheVariants.{Tx};
 ghost use Rattle.tx_codec.specs.declared.fault.TxFault.TheVariants.{Memory as NoMemory};
@@ -13,7 +13,7 @@ ghost use Rattle.tx_codec.specs.declared.fault.TxFault.TheVariants.{Memory as No
 use crate::digest::take_in;
 use crate::fault::FeedFault;
 use crate::parts::{is_longer, is_zero, piece_at};
-use fund_base::{Fault, Shelf};
+use fund_shelf::{Fault, Shelf};
 use sha2::Sha256;
 use std::alloc::Global;
 

@@ -4,7 +4,7 @@ use Rattle.std.proofs.Common.{refl, arith}
 use Rattle.std.proofs.lemmas.List.Elements.{All-nil, All-cons}
 use Rattle.block_feed.specs.Block.{ChainBlock}
 use Rattle.block_feed.specs.BlockFile.{IsBlockFile}
-use Rattle.fund_base.specs.Candidates.{AreCandidates}
+use Rattle.coin_candidates.specs.Candidates.{AreCandidates}
 use Rattle.tx_codec.specs.TransactionText.{IsTransaction}
 use Rattle.wallet_text.specs.PlainWallet.{PlainWallet}
 use Rattle.payment_states.specs.BookOf.{IsBookOf}

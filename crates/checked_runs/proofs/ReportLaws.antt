@@ -10,8 +10,8 @@ use Rattle.std.proofs.lemmas.List.Sums.{sum_by-le}
 use Rattle.fee_rates.specs.Fee.{fee_of, input_fee_of, vsize_of}
 use Rattle.fee_rates.specs.Terms.{base_of}
 use Rattle.fee_rates.specs.declared.terms.Load.{Load}
-use Rattle.fund_base.specs.Candidates.{IsCandidate}
-use Rattle.fund_base.specs.declared.candidate.Candidate.{Candidate}
+use Rattle.coin_candidates.specs.Candidates.{IsCandidate}
+use Rattle.coin_candidates.specs.declared.candidate.Candidate.{Candidate}
 use Rattle.fund_plan.specs.Answer.{IsPayment, IsSelection}
 use Rattle.fund_plan.specs.Chosen.{load_for}
 use Rattle.fund_plan.specs.Figures.{figures_of, spending_of}

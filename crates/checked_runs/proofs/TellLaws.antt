@@ -6,7 +6,7 @@ use Rattle.std.proofs.lemmas.List.{length-append}
 use Rattle.base64.specs.Engines.{standard}
 use Rattle.base64.specs.GeneralPurpose.{encode_of}
 use Rattle.coin_book.specs.History.{History}
-use Rattle.fund_base.specs.declared.candidate.Candidate.{Candidate}
+use Rattle.coin_candidates.specs.declared.candidate.Candidate.{Candidate}
 use Rattle.fund_plan.specs.Answer.{IsPayment}
 use Rattle.fund_plan.specs.Pays.{payment_from, payment_of, unsigned_input}
 use Rattle.fund_plan.specs.Selection.{PlainFunded}

@@ -2,7 +2,7 @@
 
 ghost use Rattle.std.specs.Prelude.{◌≡◌, ℕ, List, All, Ok};
 ghost use Rattle.block_feed.specs.Block.{ChainBlock};
-ghost use Rattle.fund_base.specs.Candidates.{AreCandidates};
+ghost use Rattle.coin_candidates.specs.Candidates.{AreCandidates};
 ghost use Rattle.fund_base.specs.Cursor.{IsBytes};
 ghost use Rattle.request_text.specs.PlainRequest.{IsRequest, PlainRequest};
 ghost use Rattle.request_text.specs.RequestText.{request_of};

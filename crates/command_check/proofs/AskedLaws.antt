@@ -1,7 +1,7 @@
 -- Which files were asked for.
 use Rattle.std.proofs.Common.{◌≡◌, ℕ, List, [], ◌∷◌, sym, subst}
-use Rattle.fund_base.specs.Causes.{Asks, ShelfView}
-use Rattle.fund_base.proofs.Asking.{asks_first, asks_then}
+use Rattle.fund_shelf.specs.Causes.{Asks, ShelfView}
+use Rattle.fund_shelf.proofs.Asking.{asks_first, asks_then}
 use Rattle.command_end.specs.Names.{Sources}
 use Rattle.command_fund.specs.Names.{Payment}
 use Rattle.command_fund.specs.Inputs as inputs

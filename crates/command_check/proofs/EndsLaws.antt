@@ -1,7 +1,7 @@
 -- How a check ends, by how its parts do.
 use Rattle.std.proofs.Common.{◌≡◌, ◌∙◌, ℕ, List, inl, inr, refl, sym, ap, subst}
 use Rattle.std.specs.Prelude.{◌⊎◌, ◌++◌, codes}
-use Rattle.fund_base.specs.Causes.{ShelfView, SinkView, Rose}
+use Rattle.fund_shelf.specs.Causes.{ShelfView, SinkView, Rose}
 use Rattle.command_end.proofs.WholeLaws.{answered_stops, wanting_stops}
 use Rattle.command_end.specs.AnswerLines.{IsWanting}
 use Rattle.command_end.specs.Lines.{GotLine, fault_line}

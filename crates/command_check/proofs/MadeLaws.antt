@@ -1,7 +1,7 @@
 -- The plan of the files, against which reports are judged.
 use Rattle.std.proofs.Common.{◌≡◌, ◌∙◌, ℕ, List, Result, Ok, Err, ap, subst}
 use Rattle.std.specs.Prelude.{IfErr, IfOk}
-use Rattle.fund_base.specs.Causes.{ShelfView}
+use Rattle.fund_shelf.specs.Causes.{ShelfView}
 use Rattle.fund_plan.specs.Selection.{PlainFunded}
 use Rattle.fund_steps.specs.Plan.{IsPlan, PlainPlan}
 use Rattle.request_text.specs.PlainRequest.{PlainRequest}

@@ -2,8 +2,8 @@
 use Rattle.std.proofs.Common.{◌≡◌, ℕ, List, Result, Ok, Err, inl, inr, refl, sym, subst}
 use Rattle.std.specs.Prelude.{IfErr, IfOk, String, string_bytes}
 use Rattle.std.specs.declared.alloc.Global.{Global}
-use Rattle.fund_base.proofs.Outside.{rose_earlier}
-use Rattle.fund_base.specs.Causes.{OnlyReads, Rose, ShelfView}
+use Rattle.fund_shelf.proofs.Outside.{rose_earlier}
+use Rattle.fund_shelf.specs.Causes.{OnlyReads, Rose, ShelfView}
 use Rattle.fund_report.specs.declared.fault.ReportFault.{ReportFault}
 use Rattle.fund_report.specs.declared.fault.ReportFault.TheVariants as forms
 use Rattle.fund_report.specs.Told.{IsFault as IsReportFault}

@@ -1,6 +1,6 @@
 -- Which files are asked for, and in what order.
 use Rattle.std.specs.Prelude.{ℕ, List, [], ◌∷◌}
-use Rattle.fund_base.specs.Causes.{Asks, ShelfView}
+use Rattle.fund_shelf.specs.Causes.{Asks, ShelfView}
 use Rattle.command_end.specs.Names.{Sources}
 use Rattle.command_fund.specs.Names.{Payment}
 

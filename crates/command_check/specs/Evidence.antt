@@ -1,7 +1,7 @@
 -- What is judged, and against what.
 use Rattle.std.specs.Prelude.{ℕ, ◌≡◌, ◌<◌, ◌≤◌, List, length}
 use Rattle.block_feed.specs.Block.{ChainBlock}
-use Rattle.fund_base.specs.Causes.{ShelfView, Rose}
+use Rattle.fund_shelf.specs.Causes.{ShelfView, Rose}
 use Rattle.fund_plan.specs.Selection.{PlainFunded}
 use Rattle.fund_report.specs.ReportText.{IsReportText}
 use Rattle.fund_report.specs.declared.report.Report as reports

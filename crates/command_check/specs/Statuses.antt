@@ -1,8 +1,8 @@
 -- How a check ends, by its status.
 use Rattle.std.specs.Prelude.{ℕ, ◌≡◌, ◌≢◌, ◌⊎◌, List, ◌++◌, codes}
 use Rattle.block_feed.specs.Block.{ChainBlock}
-use Rattle.fund_base.specs.Causes.{ShelfView, SinkView, Rose, HasPart}
-use Rattle.fund_base.specs.declared.candidate.Candidate.{Candidate}
+use Rattle.fund_shelf.specs.Causes.{ShelfView, SinkView, Rose, HasPart}
+use Rattle.coin_candidates.specs.declared.candidate.Candidate.{Candidate}
 use Rattle.fund_files.specs.Chain.{history_of}
 use Rattle.fund_files.specs.declared.refusal.File.{File}
 use Rattle.fund_plan.specs.Selection as plans

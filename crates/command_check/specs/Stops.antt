@@ -1,8 +1,8 @@
 -- Why a check stops before it says that the report is accepted.
 use Rattle.std.specs.Prelude.{ℕ, ◌≡◌, ◌≢◌, List}
-use Rattle.fund_base.specs.Causes.{ShelfView, Rose}
-use Rattle.fund_base.specs.declared.pieces.ReadError.{ReadError}
-use Rattle.fund_base.specs.declared.pieces.ReadError.TheVariants as reads
+use Rattle.fund_shelf.specs.Causes.{ShelfView, Rose}
+use Rattle.fund_shelf.specs.declared.pieces.ReadError.{ReadError}
+use Rattle.fund_shelf.specs.declared.pieces.ReadError.TheVariants as reads
 use Rattle.fund_report.specs.declared.fault.ReportFault.{ReportFault}
 use Rattle.fund_report.specs.declared.fault.ReportFault.TheVariants as forms
 use Rattle.fund_report.specs.declared.report.Report as reports

@@ -4,7 +4,7 @@ use Rattle.std.specs.Fmt.{decimal}
 use Rattle.closing_log.specs.MarkWord.{mark_word}
 use Rattle.command_end.specs.Coin.{coin_text}
 use Rattle.command_end.specs.Words.{log_fault_words, psbt_fault_words}
-use Rattle.fund_base.specs.Causes.{SinkView}
+use Rattle.fund_shelf.specs.Causes.{SinkView}
 use Rattle.fund_report.specs.ReportText.{line}
 use Rattle.fund_report.specs.declared.report.Report as reports
 use Rattle.fund_report.specs.declared.report.Report.TheVariants.{Funded, NoSelection, Unfinished}

@@ -1,7 +1,7 @@
 //! The fault line of a report that isn't accepted.
 
 ghost use Rattle.std.specs.Prelude.{◌≡◌, ◌++◌, codes};
-ghost use Rattle.fund_base.specs.Causes.{CountsNeverFall};
+ghost use Rattle.fund_shelf.specs.Causes.{CountsNeverFall};
 ghost use Rattle.fund_files.specs.declared.refusal.File.{File};
 ghost use Rattle.command_end.specs.AnswerLines.{IsAnswered};
 ghost use Rattle.command_end.specs.Lines.{GotLine, fault_line};
@@ -16,7 +16,7 @@ use crate::stop::{Evidence, Stop};
 use crate::words::{broken_parts, evidence_word};
 use command_end::{Part, Sources, Status, put_fault, refuse_read, want_of_memory};
 use command_fund::{Payment, answer as answer_payment};
-use fund_base::Sink;
+use fund_shelf::Sink;
 use report_check::CheckFault;
 
 /// The name of a file that is judged.

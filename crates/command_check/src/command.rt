@@ -1,7 +1,7 @@
 //! The command.
 
 ghost use Rattle.std.specs.Prelude.{◌≡◌, ◌≢◌, ◌⊎◌};
-ghost use Rattle.fund_base.specs.Causes.{CountsNeverFall, OnlyReads};
+ghost use Rattle.fund_shelf.specs.Causes.{CountsNeverFall, OnlyReads};
 ghost use Rattle.fund_steps.specs.Plan.{PlainPlan};
 ghost use Rattle.command_end.specs.Names.{plain_sources};
 ghost use Rattle.command_end.specs.Printed.{TellsWhole, TookAll};
@@ -16,7 +16,7 @@ use crate::answer::answer;
 use crate::judging::accepted;
 use command_end::{Sources, Status, put_report};
 use command_fund::Payment;
-use fund_base::{Shelf, Sink};
+use fund_shelf::{Shelf, Sink};
 use std::alloc::Global;
 
 /// Puts what is printed of a report that is accepted, or the line of a stop.

@@ -1,14 +1,14 @@
 //! The report and the log, read one by one.
 
 ghost use Rattle.std.specs.Prelude.{◌≡◌, ◌≢◌, ◌↔◌, [], ◌∷◌, IfErr, IfOk, IsTrue, OnOk};
-ghost use Rattle.fund_base.specs.Causes.{Asks, OnlyReads};
+ghost use Rattle.fund_shelf.specs.Causes.{Asks, OnlyReads};
 ghost use Rattle.report_check.specs.Verdict.{HasLog};
 ghost use Rattle.command_check.specs.Evidence.{HasReport, IsTooLong, IsWithin};
 ghost use Rattle.command_check.specs.Stops.{StopsAtLog, StopsAtReport, StopsReading, form_stop_of, read_stop_of};
 
 use crate::stop::{Evidence, Stop};
-use fund_base::{ReadError, Shelf, read_whole};
 use fund_report::{Report, ReportFault, read_report};
+use fund_shelf::{ReadError, Shelf, read_whole};
 use report_check::CheckFault;
 use std::alloc::Global;
 

@@ -1,7 +1,7 @@
 //! What a report of the files is judged against.
 
 ghost use Rattle.std.specs.Prelude.{◌≡◌, ◌≢◌, None, IfErr, IfOk};
-ghost use Rattle.fund_base.specs.Causes.{OnlyReads};
+ghost use Rattle.fund_shelf.specs.Causes.{OnlyReads};
 ghost use Rattle.fund_files.specs.Chain.{IsHeld};
 ghost use Rattle.fund_files.specs.declared.refusal.File.{File};
 ghost use Rattle.fund_plan.specs.Selection.{PlainFunded};
@@ -18,8 +18,8 @@ ghost use Rattle.command_check.specs.Evidence.{IsReplacingPlan};
 use command_end::Sources;
 use command_fund::{Inputs, Payment, PlanCoins, Stop, plan_coins, read_inputs};
 use fee_bump::BumpTerms;
-use fund_base::Shelf;
 use fund_files::Held;
+use fund_shelf::Shelf;
 use report_check::Examiner;
 use request_text::Request;
 use std::alloc::Global;

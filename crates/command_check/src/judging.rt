@@ -1,7 +1,7 @@
 //! Whether a report of the files is accepted with its log.
 
 ghost use Rattle.std.specs.Prelude.{◌≡◌, ◌≢◌, ◌∷◌, [], IfErr, IfOk, string_bytes};
-ghost use Rattle.fund_base.specs.Causes.{Asks, OnlyReads};
+ghost use Rattle.fund_shelf.specs.Causes.{Asks, OnlyReads};
 ghost use Rattle.fund_files.specs.declared.refusal.File.{File};
 ghost use Rattle.command_end.specs.Names.{plain_sources};
 ghost use Rattle.command_fund.specs.Inputs.{NoneBehind};
@@ -21,8 +21,8 @@ use crate::stop::{Evidence, Stop};
 use crate::words::accepted_text;
 use command_end::Sources;
 use command_fund::{Payment, Stop as PaymentStop};
-use fund_base::Shelf;
 use fund_report::Report;
+use fund_shelf::Shelf;
 use report_check::Examiner;
 use std::alloc::Global;
 

@@ -1,7 +1,7 @@
 -- Which files a listing asks for where one wasn't read.
 use Rattle.std.proofs.Common.{◌≡◌, ◌∙◌, ◌++◌, ℕ, List, [], ◌∷◌, true, inl, inr, refl, sym}
 use Rattle.std.specs.Prelude.{codes}
-use Rattle.fund_base.specs.Causes.{Asks, ShelfView, SinkView}
+use Rattle.fund_shelf.specs.Causes.{Asks, ShelfView, SinkView}
 use Rattle.fund_files.specs.Cause as causes
 use Rattle.fund_files.specs.Cause.{FileCause, cause_of}
 use Rattle.fund_files.specs.FileStops.{StopsChain, is_of_wallet}

@@ -1,7 +1,7 @@
 -- How a listing ends that stops.
 use Rattle.std.proofs.Common.{◌≡◌, ℕ, List, ◌++◌, Result, inl, inr, refl, sym, subst}
 use Rattle.std.specs.Prelude.{codes}
-use Rattle.fund_base.specs.Causes.{ShelfView, SinkView}
+use Rattle.fund_shelf.specs.Causes.{ShelfView, SinkView}
 use Rattle.fund_files.specs.Cause.{cause_of}
 use Rattle.fund_files.specs.FileStops.{StopsChain}
 use Rattle.fund_files.specs.declared.refusal.File.TheVariants.{Wallet, Blocks, Request}

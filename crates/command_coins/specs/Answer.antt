@@ -1,6 +1,6 @@
 -- How a listing that stops is answered.
 use Rattle.std.specs.Prelude.{ℕ, List, ◌++◌, codes}
-use Rattle.fund_base.specs.Causes.{SinkView}
+use Rattle.fund_shelf.specs.Causes.{SinkView}
 use Rattle.fund_files.specs.Cause.{cause_of}
 use Rattle.fund_files.specs.declared.stop.Stop.{Stop}
 use Rattle.fund_files.specs.declared.stop.Stop.TheVariants as stops

@@ -1,6 +1,6 @@
 -- How a listing ends, by its status.
 use Rattle.std.specs.Prelude.{ℕ, ◌≡◌, ◌⊎◌, List, [], ◌∷◌, ◌++◌, codes, Result, Ok, Err}
-use Rattle.fund_base.specs.Causes.{Asks, ShelfView, SinkView, Rose, HasPart}
+use Rattle.fund_shelf.specs.Causes.{Asks, ShelfView, SinkView, Rose, HasPart}
 use Rattle.block_feed.specs.Block.{ChainBlock}
 use Rattle.wallet_text.specs.PlainWallet.{PlainWallet}
 use Rattle.fund_files.specs.Cause.{FileCause, cause_of}

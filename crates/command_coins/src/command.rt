@@ -1,7 +1,7 @@
 //! The command.
 
 ghost use Rattle.std.specs.Prelude.{◌≡◌, ◌≢◌, [], ◌∷◌, true, IfErr, IfOk, string_bytes};
-ghost use Rattle.fund_base.specs.Causes.{Asks, CountsNeverFall, OnlyReads};
+ghost use Rattle.fund_shelf.specs.Causes.{Asks, CountsNeverFall, OnlyReads};
 ghost use Rattle.fund_files.specs.Cause.{FileCause};
 ghost use Rattle.fund_files.specs.FileStops.{IsWalletCause, StopsChain, is_of_wallet};
 ghost use Rattle.command_end.specs.Lines.{GotLine, fault_line};
@@ -13,8 +13,9 @@ ghost use Rattle.command_coins.specs.Statuses.{AsksToUnread, Ends, IsListed};
 
 use crate::chain_listing::listing_text;
 use command_end::{Sources, Status, put_report, refuse_file, refuse_read, want_of_memory};
-use fund_base::{Memory, Shelf, Sink};
+use fund_base::Memory;
 use fund_files::{File, Stop, read_chain};
+use fund_shelf::{Shelf, Sink};
 use std::alloc::Global;
 
 /// The listing, or why the command stops.

@@ -3,8 +3,9 @@
 ghost use Rattle.std.specs.Prelude.{◌≡◌, ◌++◌, ◌∷◌, [], IfOk, string_bytes};
 ghost use Rattle.command_coins.specs.Listing.{coin_line, own_word, payment_line, safe_word, standing_words, state_words, tip_line};
 
+use coin_candidates::Candidate;
 use command_end::{coin_text, shown_hash};
-use fund_base::{Candidate, Memory};
+use fund_base::Memory;
 use payment_states::{Payment, State};
 use std::alloc::Global;
 

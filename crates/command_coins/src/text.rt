@@ -5,7 +5,8 @@ ghost use Rattle.command_end.specs.LinesText.{lines_text};
 ghost use Rattle.command_coins.specs.Listing.{coin_line, listing_of, payment_line};
 
 use crate::lines::{coin_line, payment_line, tip_line};
-use fund_base::{Candidate, Memory};
+use coin_candidates::Candidate;
+use fund_base::Memory;
 use payment_states::Payment;
 use std::alloc::Global;
 

@@ -1,6 +1,6 @@
 -- Which files are asked for, and which reads are told.
 use Rattle.std.proofs.Common.{◌≡◌, ℕ, List, inl, inr, refl}
-use Rattle.fund_base.specs.Causes.{ShelfView, SinkView}
+use Rattle.fund_shelf.specs.Causes.{ShelfView, SinkView}
 use Rattle.fund_files.specs.declared.refusal.File.{File}
 use Rattle.fund_files.specs.declared.stop.Stop.{Stop as ChainStop}
 use Rattle.fund_files.specs.declared.stop.Stop.TheVariants as chains

@@ -1,7 +1,7 @@
 -- How the command ends, by how its parts do.
 use Rattle.std.proofs.Common.{◌≡◌, ◌∙◌, ℕ, List, inl, inr, refl, sym, ap, subst}
 use Rattle.std.specs.Prelude.{◌⊎◌, ◌++◌, codes}
-use Rattle.fund_base.specs.Causes.{ShelfView, SinkView, Rose}
+use Rattle.fund_shelf.specs.Causes.{ShelfView, SinkView, Rose}
 use Rattle.fund_files.specs.Cause as causes
 use Rattle.fund_files.specs.Cause.{FileCause, cause_of}
 use Rattle.fund_files.specs.FileStops as chain_stops

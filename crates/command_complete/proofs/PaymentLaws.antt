@@ -7,7 +7,7 @@ use Rattle.std.proofs.lemmas.List.Elements.{All-head, All-tail}
 use Rattle.coin_book.specs.Coins.{parent_of}
 use Rattle.coin_book.specs.History.{History}
 use Rattle.fee_rates.specs.Output.{is_program_of}
-use Rattle.fund_base.specs.declared.candidate.Candidate.{Candidate}
+use Rattle.coin_candidates.specs.declared.candidate.Candidate.{Candidate}
 use Rattle.fund_files.specs.Chain.{HasTexts}
 use Rattle.fund_payment.specs.Report.{psbt_of, spent_of}
 use Rattle.fund_plan.specs.Pays.{payment_from, unsigned_input}

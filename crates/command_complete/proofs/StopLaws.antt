@@ -2,11 +2,11 @@
 use Rattle.std.proofs.Common.{◌≡◌, ◌≢◌, ◌∙◌, ℕ, List, [], ◌∷◌, Result, Ok, Err, Vec, Global, refl, sym, ap, subst}
 use Rattle.std.specs.Prelude.{IfErr, IfOk, MatchResult}
 use Rattle.coin_book.specs.History.{History}
-use Rattle.fund_base.proofs.Asking.{asks_first, asks_then}
-use Rattle.fund_base.proofs.Outside.{rose_earlier}
-use Rattle.fund_base.specs.Causes.{Asks, OnlyReads, ShelfView}
-use Rattle.fund_base.specs.declared.pieces.ReadError.{ReadError}
-use Rattle.fund_base.specs.declared.pieces.ReadError.TheVariants as reads
+use Rattle.fund_shelf.proofs.Asking.{asks_first, asks_then}
+use Rattle.fund_shelf.proofs.Outside.{rose_earlier}
+use Rattle.fund_shelf.specs.Causes.{Asks, OnlyReads, ShelfView}
+use Rattle.fund_shelf.specs.declared.pieces.ReadError.{ReadError}
+use Rattle.fund_shelf.specs.declared.pieces.ReadError.TheVariants as reads
 use Rattle.fund_files.specs.Behind.{AreHeld}
 use Rattle.fund_files.specs.Chain.{history_of}
 use Rattle.fund_files.specs.declared.held.Held.{Held}

@@ -1,6 +1,6 @@
 -- Which files are asked for, and in what order.
 use Rattle.std.specs.Prelude.{ℕ, ◌≡◌, ◌⊎◌, true, List, [], ◌∷◌}
-use Rattle.fund_base.specs.Causes.{Asks, Rose, ShelfView}
+use Rattle.fund_shelf.specs.Causes.{Asks, Rose, ShelfView}
 use Rattle.fund_files.specs.FileStops.{is_of_wallet}
 use Rattle.command_coins.specs.Statuses as chains
 use Rattle.command_end.specs.Names.{Sources}

@@ -2,7 +2,7 @@
 use Rattle.std.specs.Prelude.{ℕ, ◌≡◌, ◌⊎◌, List, ◌++◌, codes}
 use Rattle.block_feed.specs.Block.{ChainBlock}
 use Rattle.coin_book.specs.History.{History}
-use Rattle.fund_base.specs.Causes.{ShelfView, SinkView, Rose, HasPart}
+use Rattle.fund_shelf.specs.Causes.{ShelfView, SinkView, Rose, HasPart}
 use Rattle.fund_files.specs.Cause.{cause_of}
 use Rattle.fund_files.specs.Chain.{history_of}
 use Rattle.fund_files.specs.Contents.{HasChain}

@@ -1,9 +1,9 @@
 -- Why the command stops before it prints a PSBT.
 use Rattle.std.specs.Prelude.{ℕ, List}
 use Rattle.coin_book.specs.History.{History}
-use Rattle.fund_base.specs.Causes.{ShelfView, Rose}
-use Rattle.fund_base.specs.declared.pieces.ReadError.{ReadError}
-use Rattle.fund_base.specs.declared.pieces.ReadError.TheVariants as reads
+use Rattle.fund_shelf.specs.Causes.{ShelfView, Rose}
+use Rattle.fund_shelf.specs.declared.pieces.ReadError.{ReadError}
+use Rattle.fund_shelf.specs.declared.pieces.ReadError.TheVariants as reads
 use Rattle.fund_files.specs.FileStops.{StopsChain}
 use Rattle.fund_files.specs.declared.stop.Stop.TheVariants as chains
 use Rattle.psbt_codec.specs.declared.fault.PsbtFault.{PsbtFault}

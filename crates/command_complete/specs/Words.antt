@@ -3,7 +3,7 @@ use Rattle.std.specs.Prelude.{ℕ, ◌≡◌, List, ◌∷◌, ◌++◌, codes}
 use Rattle.std.specs.Fmt.{decimal}
 use Rattle.command_end.specs.Coin.{coin_text}
 use Rattle.command_end.specs.Words.{psbt_fault_words}
-use Rattle.fund_base.specs.Causes.{SinkView}
+use Rattle.fund_shelf.specs.Causes.{SinkView}
 use Rattle.command_complete.specs.declared.fault.CompleteFault.{CompleteFault}
 use Rattle.command_complete.specs.declared.fault.CompleteFault.TheVariants.{Missing, OtherOutput, Memory}
 use Rattle.command_coins.specs.Answer as chains

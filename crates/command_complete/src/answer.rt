@@ -1,7 +1,7 @@
 //! The fault line of a PSBT that isn't made whole.
 
 ghost use Rattle.std.specs.Prelude.{◌≡◌, codes};
-ghost use Rattle.fund_base.specs.Causes.{CountsNeverFall};
+ghost use Rattle.fund_shelf.specs.Causes.{CountsNeverFall};
 ghost use Rattle.command_end.specs.AnswerLines.{IsAnswered};
 ghost use Rattle.command_end.specs.Lines.{GotLine, fault_line};
 ghost use Rattle.command_end.specs.Names.{plain_sources};
@@ -12,7 +12,7 @@ use crate::stop::{Refusal, Stop};
 use crate::words::refusal_parts;
 use command_coins::refuse_chain;
 use command_end::{Sources, Status, put_fault, put_line, refuse_read, want_of_memory};
-use fund_base::Sink;
+use fund_shelf::Sink;
 
 /// The line of a PSBT file that is too long.
 const LIMIT_LINE: &[u8] = b"fault limit psbt\n";

@@ -1,7 +1,7 @@
 //! The command.
 
 ghost use Rattle.std.specs.Prelude.{◌≡◌, ◌≢◌, ◌⊎◌, [], ◌∷◌};
-ghost use Rattle.fund_base.specs.Causes.{Asks, CountsNeverFall, OnlyReads};
+ghost use Rattle.fund_shelf.specs.Causes.{Asks, CountsNeverFall, OnlyReads};
 ghost use Rattle.coin_book.specs.History.{History};
 ghost use Rattle.fund_files.specs.Cause.{FileCause};
 ghost use Rattle.fund_files.specs.FileStops.{IsWalletCause};
@@ -14,7 +14,7 @@ ghost use Rattle.command_complete.specs.Statuses.{Ends, NoneFailed, NoneUnread};
 use crate::answer::answer;
 use crate::files::completed;
 use command_end::{Sources, Status, put_report};
-use fund_base::{Shelf, Sink};
+use fund_shelf::{Shelf, Sink};
 use std::alloc::Global;
 
 /// Puts the PSBT made whole, or the line of a stop.

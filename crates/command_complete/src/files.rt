@@ -1,7 +1,7 @@
 //! The files of a PSBT, read one by one.
 
 ghost use Rattle.std.specs.Prelude.{◌≡◌, ◌≢◌, ◌∷◌, [], Err, IfErr, IfOk, MatchResult, OnOk};
-ghost use Rattle.fund_base.specs.Causes.{Asks, OnlyReads};
+ghost use Rattle.fund_shelf.specs.Causes.{Asks, OnlyReads};
 ghost use Rattle.coin_book.specs.History.{History};
 ghost use Rattle.fund_files.specs.Cause.{FileCause};
 ghost use Rattle.fund_files.specs.FileStops.{IsWalletCause};
@@ -14,8 +14,8 @@ ghost use Rattle.command_complete.specs.Stops.{StopsFor, StopsReading, TellsRead
 use crate::making::made;
 use crate::stop::Stop;
 use command_end::Sources;
-use fund_base::{ReadError, Shelf, read_whole};
 use fund_files::read_chain;
+use fund_shelf::{ReadError, Shelf, read_whole};
 use std::alloc::Global;
 
 /// The greatest length of a PSBT file, in bytes.

@@ -1,6 +1,6 @@
 -- What a call gave for either of its arms is what its caller gives.
 use Rattle.std.specs.Prelude.{ℕ, ◌≡◌, ◌++◌, List, Option, option_map, Result, Ok, Err, IfErr, OnOk}
-use Rattle.fund_base.specs.Causes.{ShelfView, SinkView}
+use Rattle.fund_shelf.specs.Causes.{ShelfView, SinkView}
 use Rattle.desk_machine.specs.Commands.{Command, plain_command}
 use Rattle.desk_machine.specs.State.{PlainDesk}
 use Rattle.desk_machine.specs.declared.command.Command as given

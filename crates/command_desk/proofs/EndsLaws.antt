@@ -1,9 +1,9 @@
 -- How a desk ends whose lines were run, by how their run ends.
 use Rattle.std.specs.Prelude.{ℕ, ◌≡◌, List, [], ◌∷◌, ◌++◌, codes, Result, Ok, Err}
 use Rattle.std.proofs.Common.{subst, inl, inr, arith}
-use Rattle.fund_base.specs.Causes.{Asks, OnlyReads, ShelfView, SinkView}
-use Rattle.fund_base.proofs.Asking.{asks_first, asks_then}
-use Rattle.fund_base.proofs.Outside.{rose_earlier}
+use Rattle.fund_shelf.specs.Causes.{Asks, OnlyReads, ShelfView, SinkView}
+use Rattle.fund_shelf.proofs.Asking.{asks_first, asks_then}
+use Rattle.fund_shelf.proofs.Outside.{rose_earlier}
 use Rattle.fund_files.proofs.StopLaws.{not_refused}
 use Rattle.command_end.specs.Names.{Sources}
 use Rattle.command_end.specs.declared.status.Status.{Status}

@@ -1,8 +1,8 @@
 -- How a run ends at a line that isn't done.
 use Rattle.std.specs.Prelude.{ℕ, ◌≡◌, List, [], ◌∷◌, ◌++◌, Bool, true, false, codes}
 use Rattle.std.proofs.Common.{refl, sym, ap, ◌∙◌, subst, inl, inr}
-use Rattle.fund_base.specs.Causes.{Asks, HasPart, Rose, ShelfView, SinkView}
-use Rattle.fund_base.proofs.Outside.{rose_earlier}
+use Rattle.fund_shelf.specs.Causes.{Asks, HasPart, Rose, ShelfView, SinkView}
+use Rattle.fund_shelf.proofs.Outside.{rose_earlier}
 use Rattle.command_end.proofs.WholeLaws.{not_whole, wanting_stops}
 use Rattle.command_end.specs.AnswerLines.{IsWanting}
 use Rattle.command_end.specs.Lines.{GotLine, fault_line}

@@ -1,7 +1,7 @@
 -- One line of a script: its command, its reply, and why it isn't done.
 use Rattle.std.specs.Prelude.{ℕ, ◌≡◌, List, Option, Some, None, option_map, Result, Err}
 use Rattle.std.proofs.Common.{sym, subst}
-use Rattle.fund_base.specs.Causes.{ShelfView, SinkView}
+use Rattle.fund_shelf.specs.Causes.{ShelfView, SinkView}
 use Rattle.desk_machine.specs.Commands.{Command, plain_command}
 use Rattle.desk_machine.specs.State.{PlainDesk}
 use Rattle.desk_machine.specs.declared.command.Command as given

@@ -2,8 +2,8 @@
 use Rattle.std.specs.Prelude.{ℕ, ◌≡◌, List, [], ◌∷◌, ◌++◌, Bool, true, false, length}
 use Rattle.std.proofs.Common.{refl, sym, ap, ◌∙◌, subst, append_assoc, arith}
 use Rattle.std.proofs.lemmas.List.{append-nil}
-use Rattle.fund_base.specs.Causes.{Asks, CountsNeverFall, OnlyReads, ShelfView, SinkView}
-use Rattle.fund_base.proofs.Asking.{asks_first, asks_then}
+use Rattle.fund_shelf.specs.Causes.{Asks, CountsNeverFall, OnlyReads, ShelfView, SinkView}
+use Rattle.fund_shelf.proofs.Asking.{asks_first, asks_then}
 use Rattle.fund_files.proofs.FrameLaws.{only_reads_on}
 use Rattle.command_end.proofs.WholeLaws.{took_on}
 use Rattle.command_end.specs.Printed.{TookAll}

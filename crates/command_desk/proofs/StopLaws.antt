@@ -1,8 +1,8 @@
 -- Why the reading stops before the first line, and which files it asked for.
 use Rattle.std.specs.Prelude.{ℕ, ◌≡◌, List, [], ◌∷◌}
 use Rattle.std.proofs.Common.{refl, sym, subst, inl, inr}
-use Rattle.fund_base.specs.Causes.{Asks, ShelfView, SinkView}
-use Rattle.fund_base.proofs.Asking.{asks_first, asks_then}
+use Rattle.fund_shelf.specs.Causes.{Asks, ShelfView, SinkView}
+use Rattle.fund_shelf.proofs.Asking.{asks_first, asks_then}
 use Rattle.fund_files.proofs.StopLaws.{not_refused}
 use Rattle.fund_files.specs.Behind.{AreHeld}
 use Rattle.fund_files.specs.Cause.{FileCause, cause_of}

@@ -1,7 +1,7 @@
 -- Which files a desk asks for, and in what order.
 use Rattle.std.specs.Prelude.{ℕ, ◌<◌, List, [], ◌∷◌, ◌++◌, length, Option, Some, None}
 use Rattle.block_feed.specs.Block.{ChainBlock}
-use Rattle.fund_base.specs.Causes.{Asks, ShelfView}
+use Rattle.fund_shelf.specs.Causes.{Asks, ShelfView}
 use Rattle.wallet_text.specs.PlainWallet.{PlainWallet}
 use Rattle.fund_files.specs.Cause.{FileCause}
 use Rattle.fund_files.specs.Contents.{HasChain}

@@ -1,6 +1,6 @@
 -- How a desk ends before the first line of its script is done, by the status.
 use Rattle.std.specs.Prelude.{ℕ, ◌≡◌, ◌⊎◌, List, ◌++◌, codes}
-use Rattle.fund_base.specs.Causes.{Asks, ShelfView, SinkView, Rose}
+use Rattle.fund_shelf.specs.Causes.{Asks, ShelfView, SinkView, Rose}
 use Rattle.fund_files.specs.Cause.{cause_of}
 use Rattle.fund_files.specs.FileStops.{IsReached, IsUnread}
 use Rattle.fund_files.specs.Refusals.{IsChainCause}

@@ -1,10 +1,10 @@
 -- Why a line of a script isn't done, what is done of it, and how the run ends there.
 use Rattle.std.specs.Prelude.{ℕ, ◌≡◌, ◌<◌, ◌++◌, List, Bool, true, false, codes, length, Option, Some, None}
-use Rattle.fund_base.specs.Causes.{ShelfView, SinkView, Rose, HasPart}
-use Rattle.fund_base.specs.declared.pieces.ReadError.{ReadError}
-use Rattle.fund_base.specs.declared.pieces.ReadError.TheVariants as reads
-use Rattle.fund_base.specs.declared.shelf.Fault.{Fault}
-use Rattle.fund_base.specs.declared.shelf.Fault.TheVariants as faults
+use Rattle.fund_shelf.specs.Causes.{ShelfView, SinkView, Rose, HasPart}
+use Rattle.fund_shelf.specs.declared.pieces.ReadError.{ReadError}
+use Rattle.fund_shelf.specs.declared.pieces.ReadError.TheVariants as reads
+use Rattle.fund_shelf.specs.declared.shelf.Fault.{Fault}
+use Rattle.fund_shelf.specs.declared.shelf.Fault.TheVariants as faults
 use Rattle.command_end.specs.AnswerLines.{IsWanting}
 use Rattle.command_end.specs.Lines.{GotLine, fault_line}
 use Rattle.command_end.specs.declared.status.Status.{Status}

@@ -1,7 +1,7 @@
 -- How the run of the lines of a script ends at a desk. The text is the script's, and the names are those of the files that
 -- were read before the first line.
 use Rattle.std.specs.Prelude.{ℕ, ◌≡◌, ◌⊎◌, List, [], ◌∷◌, ◌++◌, codes, Some}
-use Rattle.fund_base.specs.Causes.{Asks, ShelfView, SinkView, Rose, HasPart}
+use Rattle.fund_shelf.specs.Causes.{Asks, ShelfView, SinkView, Rose, HasPart}
 use Rattle.command_end.specs.Lines.{GotLine, fault_line}
 use Rattle.command_end.specs.declared.status.Status.{Status}
 use Rattle.command_end.specs.declared.status.Status.TheVariants as statuses

@@ -1,6 +1,6 @@
 -- How a desk ends, by its status.
 use Rattle.std.specs.Prelude.{ℕ, ◌≡◌, ◌⊎◌, List, Contains, Some}
-use Rattle.fund_base.specs.Causes.{ShelfView, SinkView, Rose}
+use Rattle.fund_shelf.specs.Causes.{ShelfView, SinkView, Rose}
 use Rattle.fund_files.specs.FileStops.{IsUnread}
 use Rattle.fund_files.specs.declared.refusal.File.{File}
 use Rattle.command_end.specs.Names.{Sources}

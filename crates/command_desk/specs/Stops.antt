@@ -1,8 +1,8 @@
 -- Why the reading stops before the first line is done, and how that is answered.
 use Rattle.std.specs.Prelude.{ℕ, ◌≡◌, ◌<◌, List, ◌++◌, codes, length}
-use Rattle.fund_base.specs.Causes.{Asks, ShelfView, SinkView, Rose}
-use Rattle.fund_base.specs.declared.pieces.ReadError.{ReadError}
-use Rattle.fund_base.specs.declared.pieces.ReadError.TheVariants as reads
+use Rattle.fund_shelf.specs.Causes.{Asks, ShelfView, SinkView, Rose}
+use Rattle.fund_shelf.specs.declared.pieces.ReadError.{ReadError}
+use Rattle.fund_shelf.specs.declared.pieces.ReadError.TheVariants as reads
 use Rattle.fund_files.specs.FileStops.{StopsChain}
 use Rattle.fund_files.specs.declared.stop.Stop as files
 use Rattle.fund_files.specs.declared.stop.Stop.TheVariants as chains

@@ -1,7 +1,7 @@
 //! The fault line of a desk that stops before the first line of its script.
 
 ghost use Rattle.std.specs.Prelude.{◌≡◌, ◌++◌, codes};
-ghost use Rattle.fund_base.specs.Causes.{CountsNeverFall};
+ghost use Rattle.fund_shelf.specs.Causes.{CountsNeverFall};
 ghost use Rattle.fund_files.specs.declared.refusal.File.{File};
 ghost use Rattle.command_end.specs.Lines.{GotLine, fault_line};
 ghost use Rattle.command_end.specs.Names.{plain_sources};
@@ -10,8 +10,8 @@ ghost use Rattle.command_desk.specs.Stops.{IsStopped, stop_status, stop_words};
 use crate::stop::Stop;
 use command_coins::refuse_chain;
 use command_end::{Sources, Status, put_line, refuse_read, want_of_memory};
-use fund_base::Sink;
 use fund_files::Stop as ChainStop;
+use fund_shelf::Sink;
 
 /// The line of a script that is too long.
 const LIMIT_LINE: &[u8] = b"fault limit script\n";

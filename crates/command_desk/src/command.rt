@@ -1,7 +1,7 @@
 //! The command.
 
 ghost use Rattle.std.specs.Prelude.{◌≡◌, ◌≢◌, ◌⊎◌, ◌++◌};
-ghost use Rattle.fund_base.specs.Causes.{Asks, CountsNeverFall, OnlyReads};
+ghost use Rattle.fund_shelf.specs.Causes.{Asks, CountsNeverFall, OnlyReads};
 ghost use Rattle.command_end.specs.Names.{plain_sources};
 ghost use Rattle.command_end.specs.Printed.{TellsWhole, TookAll};
 ghost use Rattle.command_desk.specs.Script.{lines_of};
@@ -13,7 +13,7 @@ use crate::answer::answer;
 use crate::running::run_lines;
 use crate::starting::{Start, read_start};
 use command_end::{Sources, Status};
-use fund_base::{Shelf, Sink};
+use fund_shelf::{Shelf, Sink};
 use std::alloc::Global;
 
 /// Runs the lines of a script, or puts the line of a stop.

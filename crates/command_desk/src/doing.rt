@@ -1,7 +1,7 @@
 //! One line of a script: its file read, its command done, its reply printed.
 
 ghost use Rattle.std.specs.Prelude.{◌≡◌, ◌≢◌, ◌++◌, IfErr, IfOk, IfSome, OnErr, OnOk, option_map, string_bytes};
-ghost use Rattle.fund_base.specs.Causes.{Asks, CountsNeverFall, OnlyReads};
+ghost use Rattle.fund_shelf.specs.Causes.{Asks, CountsNeverFall, OnlyReads};
 ghost use Rattle.command_end.specs.Printed.{TookAll};
 ghost use Rattle.desk_machine.specs.Commands.{IsCommand, plain_command};
 ghost use Rattle.desk_machine.specs.Machine.{step_of};
@@ -17,8 +17,9 @@ use crate::line::Line;
 use crate::reading::command_of;
 use crate::reply_text::{other_line, reply_line};
 use desk_machine::{Command, Reply};
-use fund_base::{Memory, Shelf, Sink, put_all};
+use fund_base::Memory;
 use fund_desk::Desk;
+use fund_shelf::{Shelf, Sink, put_all};
 use std::alloc::Global;
 
 /// The reply, unless it is that there was not enough memory.

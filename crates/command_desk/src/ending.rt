@@ -1,7 +1,7 @@
 //! The end of a run at a line that isn't done.
 
 ghost use Rattle.std.specs.Prelude.{◌≡◌, ◌++◌, codes};
-ghost use Rattle.fund_base.specs.Causes.{CountsNeverFall};
+ghost use Rattle.fund_shelf.specs.Causes.{CountsNeverFall};
 ghost use Rattle.command_end.specs.Lines.{GotLine, fault_line};
 ghost use Rattle.command_desk.specs.Lent.{plain_line};
 ghost use Rattle.command_desk.specs.Course.{file_name, long_word};
@@ -10,7 +10,7 @@ ghost use Rattle.command_desk.specs.Halts.{EndsAt, EndsFirst, status_of};
 use crate::halt::Halt;
 use crate::line::Line;
 use command_end::{Status, put_line, refuse_read, want_of_memory};
-use fund_base::Sink;
+use fund_shelf::Sink;
 
 /// The status of a line that isn't done.
 fn status_of(halt: Halt) -> Status

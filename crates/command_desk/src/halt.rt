@@ -3,7 +3,7 @@
 ghost use Rattle.std.specs.Prelude.{◌≡◌};
 ghost use Rattle.command_desk.specs.Halts.{put_halt_of, read_halt_of};
 
-use fund_base::{Fault, ReadError};
+use fund_shelf::{Fault, ReadError};
 
 /// Why a line isn't done. The run of the script ends there.
 #[derive(Clone, Copy, PartialEq, Eq)]

@@ -1,7 +1,7 @@
 //! The command of a line, whose file is read.
 
 ghost use Rattle.std.specs.Prelude.{◌≡◌, ◌≢◌, ◌≤◌, [], ◌∷◌, IfErr, IfOk, OnOk, length, string_bytes};
-ghost use Rattle.fund_base.specs.Causes.{Asks, OnlyReads};
+ghost use Rattle.fund_shelf.specs.Causes.{Asks, OnlyReads};
 ghost use Rattle.command_desk.specs.Lent.{plain_line};
 ghost use Rattle.command_desk.specs.Line.{Blocks, Open, wanted};
 ghost use Rattle.command_desk.specs.Asked.{file_in};
@@ -10,7 +10,8 @@ ghost use Rattle.command_desk.specs.Halts.{HaltsAt, HaltsReading, HasCommand, Is
 use crate::halt::{Halt, read_halt};
 use crate::line::Line;
 use desk_machine::Command;
-use fund_base::{Memory, Shelf, read_whole};
+use fund_base::Memory;
+use fund_shelf::{Shelf, read_whole};
 use std::alloc::Global;
 
 /// The greatest length of a request file, in bytes.

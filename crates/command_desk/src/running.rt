@@ -1,7 +1,7 @@
 //! The lines of a script, done one after the other.
 
 ghost use Rattle.std.specs.Prelude.{◌≡◌, ◌≢◌, []};
-ghost use Rattle.fund_base.specs.Causes.{Asks, CountsNeverFall, OnlyReads};
+ghost use Rattle.fund_shelf.specs.Causes.{Asks, CountsNeverFall, OnlyReads};
 ghost use Rattle.command_end.specs.Printed.{TellsWhole, TookAll};
 ghost use Rattle.command_desk.specs.Script.{lines_of};
 ghost use Rattle.command_desk.specs.Asked.{files_in};
@@ -12,8 +12,8 @@ use crate::ending::end_at;
 use crate::line::parse;
 use crate::script::next_line;
 use command_end::Status;
-use fund_base::{Shelf, Sink};
 use fund_desk::Desk;
+use fund_shelf::{Shelf, Sink};
 use std::alloc::Global;
 
 /// Does the lines of a script at a desk, one after the other: the reply to each is printed before the file of the next is read.

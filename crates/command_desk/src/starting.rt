@@ -1,7 +1,7 @@
 //! What the run of a script starts from: the desk of a wallet and its blocks, and the text of the script.
 
 ghost use Rattle.std.specs.Prelude.{◌≡◌, ◌≢◌, ◌≤◌, [], ◌∷◌, IfErr, IfOk, OnOk, length};
-ghost use Rattle.fund_base.specs.Causes.{Asks, OnlyReads};
+ghost use Rattle.fund_shelf.specs.Causes.{Asks, OnlyReads};
 ghost use Rattle.fund_files.specs.Chain.{IsHeld};
 ghost use Rattle.fund_files.specs.declared.refusal.File.{File};
 ghost use Rattle.command_end.specs.Names.{plain_sources};
@@ -12,9 +12,10 @@ ghost use Rattle.command_desk.specs.Stops.{StopsFor, StopsReading};
 
 use crate::stop::{Stop, read_stop};
 use command_end::Sources;
-use fund_base::{Memory, Shelf, read_whole};
+use fund_base::Memory;
 use fund_desk::Desk;
 use fund_files::{Held, Stop as ChainStop, read_chain};
+use fund_shelf::{Shelf, read_whole};
 use std::alloc::Global;
 
 /// The greatest length of a script, in bytes.

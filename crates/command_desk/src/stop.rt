@@ -3,8 +3,8 @@
 ghost use Rattle.std.specs.Prelude.{◌≡◌};
 ghost use Rattle.command_desk.specs.Stops.{read_stop_of};
 
-use fund_base::ReadError;
 use fund_files::Stop as ChainStop;
+use fund_shelf::ReadError;
 
 /// Why the reading stops before the first line is done.
 #[derive(Drop)]

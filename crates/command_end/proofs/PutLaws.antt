@@ -5,11 +5,11 @@ use Rattle.std.specs.Fmt.{decimal}
 use Rattle.std.specs.List.{flat_map}
 use Rattle.std.proofs.lemmas.List.{append-nil, drop_more, flat_map_more, take_more, take-append-drop}
 use Rattle.std.proofs.lemmas.Grind.{flat_map-append}
-use Rattle.fund_base.proofs.Outside.{part_first, part_second, rose_earlier}
-use Rattle.fund_base.specs.Causes.{CountsNeverFall, HasPart, Rose, SinkView}
+use Rattle.fund_shelf.proofs.Outside.{part_first, part_second, rose_earlier}
+use Rattle.fund_shelf.specs.Causes.{CountsNeverFall, HasPart, Rose, SinkView}
 use Rattle.fund_base.specs.declared.outpoint.OutPoint.{OutPoint}
-use Rattle.fund_base.specs.declared.shelf.Fault.{Fault}
-use Rattle.fund_base.specs.declared.shelf.Fault.TheVariants as kinds
+use Rattle.fund_shelf.specs.declared.shelf.Fault.{Fault}
+use Rattle.fund_shelf.specs.declared.shelf.Fault.TheVariants as kinds
 use Rattle.command_end.specs.Coin.{coin_text, shown_hash}
 use Rattle.command_end.specs.Lines.{GotLine}
 use Rattle.command_end.specs.Puts.{IsCut, IsGathered, IsWhole}

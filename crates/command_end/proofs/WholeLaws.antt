@@ -1,7 +1,7 @@
 -- A status that tells what is printed whole: what it says of the sink, and that no stop has one.
 use Rattle.std.proofs.Common.{◌≡◌, ℕ, List, subst, ◌∙◌}
 use Rattle.std.specs.Prelude.{◌≢◌}
-use Rattle.fund_base.specs.Causes.{SinkView}
+use Rattle.fund_shelf.specs.Causes.{SinkView}
 use Rattle.fund_files.specs.Cause as causes
 use Rattle.fund_files.specs.Cause.{FileCause}
 use Rattle.command_end.specs.AnswerLines.{IsAnswered, IsWanting}

@@ -2,7 +2,7 @@
 use Rattle.std.specs.Prelude.{ℕ, ◌≡◌, ◌⊎◌, List, [], ◌∷◌, ◌++◌, codes}
 use Rattle.command_end.specs.Coin.{coin_text}
 use Rattle.command_end.specs.Words.{feed_fault_words, request_fault_words, wallet_fault_words}
-use Rattle.fund_base.specs.Causes.{SinkView, Rose, HasPart}
+use Rattle.fund_shelf.specs.Causes.{SinkView, Rose, HasPart}
 use Rattle.fund_files.specs.Cause as causes
 use Rattle.fund_files.specs.declared.refusal.File.{File}
 use Rattle.fund_files.specs.declared.refusal.File.TheVariants.{Wallet, Blocks, Request}

@@ -1,6 +1,6 @@
 -- How the writing of the log and the printing of the report end.
 use Rattle.std.specs.Prelude.{ℕ, ◌≡◌, ◌⊎◌, List, ◌++◌, codes}
-use Rattle.fund_base.specs.Causes.{ShelfView, SinkView, Rose, HasPart}
+use Rattle.fund_shelf.specs.Causes.{ShelfView, SinkView, Rose, HasPart}
 use Rattle.command_end.specs.declared.status.Status.{Status}
 use Rattle.command_end.specs.declared.status.Status.TheVariants as statuses
 use Rattle.command_end.specs.Lines.{GotLine, fault_line}

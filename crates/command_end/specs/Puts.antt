@@ -1,6 +1,6 @@
 -- What becomes of bytes that are put.
 use Rattle.std.specs.Prelude.{ℕ, ◌≡◌, ◌≤◌, ◌⊎◌, List, ◌++◌}
-use Rattle.fund_base.specs.Causes.{HasPart, Rose, SinkView}
+use Rattle.fund_shelf.specs.Causes.{HasPart, Rose, SinkView}
 
 -- A sink has got these bytes whole, and no count changed.
 pub record IsWhole (told : Type 0) (bytes : List ℕ) (old new : SinkView) : Type 0 where

@@ -1,7 +1,7 @@
 //! What a command prints and writes.
 
 ghost use Rattle.std.specs.Prelude.{◌≡◌, ◌≢◌, ◌⊎◌, ◌++◌, codes};
-ghost use Rattle.fund_base.specs.Causes.{CountsNeverFall, NeverFall, SameElsewhere};
+ghost use Rattle.fund_shelf.specs.Causes.{CountsNeverFall, NeverFall, SameElsewhere};
 ghost use Rattle.command_end.specs.AnswerLines.{IsAnswered};
 ghost use Rattle.command_end.specs.Lines.{GotLine, fault_line};
 ghost use Rattle.command_end.specs.Parts.{parts_text};
@@ -10,7 +10,7 @@ ghost use Rattle.command_end.specs.Printed.{IsEnd, IsPut, IsUnwritten, IsWithout
 use crate::parts::{Part, named};
 use crate::putting::put_words;
 use crate::status::Status;
-use fund_base::{Fault, Shelf, Sink, put_all};
+use fund_shelf::{Fault, Shelf, Sink, put_all};
 
 /// The line of want of memory.
 const MEMORY_LINE: &[u8] = b"fault memory\n";

@@ -13,7 +13,8 @@ ghost use Rattle.command_end.specs.Puts.{IsCut, IsGathered, IsWhole};
 use crate::name_words::stands_plain;
 use crate::parts::Part;
 use arrayvec::ArrayVec;
-use fund_base::{Fault, OutPoint, Sink, put_all};
+use fund_base::OutPoint;
+use fund_shelf::{Fault, Sink, put_all};
 use itoa::Buffer;
 
 /// The bytes that are gathered and not put yet.

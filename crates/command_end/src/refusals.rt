@@ -1,7 +1,7 @@
 //! The fault lines of files that are refused or weren't read.
 
 ghost use Rattle.std.specs.Prelude.{◌≡◌, ◌++◌, codes};
-ghost use Rattle.fund_base.specs.Causes.{CountsNeverFall};
+ghost use Rattle.fund_shelf.specs.Causes.{CountsNeverFall};
 ghost use Rattle.fund_files.specs.Cause.{cause_of};
 ghost use Rattle.command_end.specs.AnswerLines.{IsAnswered};
 ghost use Rattle.command_end.specs.Lines.{GotLine, fault_line, file_refusal_words, file_word, status_of_file};
@@ -13,8 +13,8 @@ use crate::parts::{Part, alone, behind, named};
 use crate::request_words::request_fault_parts;
 use crate::status::Status;
 use crate::wallet_words::wallet_fault_parts;
-use fund_base::Sink;
 use fund_files::{File, FileRefusal};
+use fund_shelf::Sink;
 
 /// How a fault line names a file.
 fn file_word<'a>(file: File) -> &'a str

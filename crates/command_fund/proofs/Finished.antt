@@ -1,8 +1,8 @@
 -- How the writing and the printing end is how the command ends.
 use Rattle.std.proofs.Common.{◌≡◌, ◌∙◌, ◌++◌, ℕ, List, Option, Some, None, inl, inr, refl, sym, ap, subst, arith}
 use Rattle.std.specs.Prelude.{◌⊎◌, codes}
-use Rattle.fund_base.proofs.Outside.{rose_earlier}
-use Rattle.fund_base.specs.Causes.{OnlyReads, ShelfView, SinkView, Rose}
+use Rattle.fund_shelf.proofs.Outside.{rose_earlier}
+use Rattle.fund_shelf.specs.Causes.{OnlyReads, ShelfView, SinkView, Rose}
 use Rattle.block_feed.specs.Block.{ChainBlock}
 use Rattle.fund_outside.specs.Kept.{KeeperView}
 use Rattle.fund_plan.specs.State.{PlanState, moved}

@@ -6,9 +6,9 @@ use Rattle.fee_bump.proofs.CauseLaws.{bump_means}
 use Rattle.fee_bump.specs.Faults.{fault_of as bump_fault_of}
 use Rattle.fee_bump.specs.declared.fault.BumpFault.{BumpFault}
 use Rattle.fee_bump.specs.declared.fault.BumpFault.TheVariants as bumps
-use Rattle.fund_base.specs.Causes.{Asks, OnlyReads, ShelfView}
-use Rattle.fund_base.proofs.Asking.{asks_first, asks_then}
-use Rattle.fund_base.proofs.Outside.{rose_earlier}
+use Rattle.fund_shelf.specs.Causes.{Asks, OnlyReads, ShelfView}
+use Rattle.fund_shelf.proofs.Asking.{asks_first, asks_then}
+use Rattle.fund_shelf.proofs.Outside.{rose_earlier}
 use Rattle.block_feed.specs.Block.{ChainBlock}
 use Rattle.request_text.specs.PlainRequest.{PlainRequest}
 use Rattle.wallet_text.specs.PlainWallet.{PlainWallet}

@@ -1,8 +1,8 @@
 -- How a run that is unfinished is left: the digest of its job, the jobs, and why none is kept.
 use Rattle.std.proofs.Common.{◌≡◌, ◌∙◌, ℕ, List, [], ◌∷◌, Option, Some, inl, inr, refl, sym, ap, subst}
-use Rattle.fund_base.proofs.Asking.{asks_first, asks_then}
-use Rattle.fund_base.proofs.Outside.{rose_earlier}
-use Rattle.fund_base.specs.Causes.{Asks, NeverFall, Rose, ShelfView, SinkView}
+use Rattle.fund_shelf.proofs.Asking.{asks_first, asks_then}
+use Rattle.fund_shelf.proofs.Outside.{rose_earlier}
+use Rattle.fund_shelf.specs.Causes.{Asks, NeverFall, Rose, ShelfView, SinkView}
 use Rattle.fund_files.specs.declared.refusal.File.TheVariants.{Wallet, Blocks, Request}
 use Rattle.fund_outside.specs.Kept.{KeeperView, KeptJob, SameForOthers}
 use Rattle.fund_outside.specs.declared.keeper.KeepFault.{KeepFault}

@@ -5,8 +5,8 @@ use Rattle.block_feed.specs.Block.{ChainBlock}
 use Rattle.closing_log.specs.Log.{PlainLog}
 use Rattle.coin_book.specs.Faults.{fault_of as book_fault}
 use Rattle.closing_log.specs.LogText.{IsLogText, text_of as log_text_of}
-use Rattle.fund_base.specs.Causes.{ShelfView}
-use Rattle.fund_base.specs.declared.candidate.Candidate.{Candidate}
+use Rattle.fund_shelf.specs.Causes.{ShelfView}
+use Rattle.coin_candidates.specs.declared.candidate.Candidate.{Candidate}
 use Rattle.fund_plan.proofs.ClaimLaws.{funded_claims, none_claims, open_claims}
 use Rattle.fund_plan.proofs.EligibleLaws.{payment_may}
 use Rattle.fund_plan.proofs.EndLaws.{end_back, moved_none, new_told}

@@ -18,7 +18,7 @@ use Rattle.fee_bump.specs.Meant.{CanReplace, GoesWith}
 use Rattle.fee_rates.proofs.FeeLaws.{vsize_below, vsize_least}
 use Rattle.fee_rates.specs.Fee.{fee_of, vsize_of}
 use Rattle.fee_rates.specs.Terms.{base_of}
-use Rattle.fund_base.specs.declared.candidate.Candidate.{Candidate}
+use Rattle.coin_candidates.specs.declared.candidate.Candidate.{Candidate}
 use Rattle.fund_plan.proofs.BurdenLaws.{burden_paid, burden_weight}
 use Rattle.fund_plan.proofs.SpendLaws.{ones, order_sum}
 use Rattle.fund_plan.specs.Answer.{IsPayment}

@@ -8,8 +8,8 @@ use Rattle.fee_bump.proofs.PlanLaws.{candidates_alone_fit, presets_alone_fit, pr
 use Rattle.fee_bump.specs.Bump.{PlainTerms, terms_of}
 use Rattle.fee_bump.specs.Faults.{fault_of as bump_fault_of}
 use Rattle.fee_bump.specs.declared.fault.BumpFault.{BumpFault}
-use Rattle.fund_base.specs.Candidates.{AreCandidates}
-use Rattle.fund_base.specs.declared.candidate.Candidate.{Candidate}
+use Rattle.coin_candidates.specs.Candidates.{AreCandidates}
+use Rattle.coin_candidates.specs.declared.candidate.Candidate.{Candidate}
 use Rattle.fund_steps.specs.Plan.{IsBumpFor, coins_in, coins_with}
 use Rattle.payment_states.proofs.MakerSteps.{all_made}
 use Rattle.payment_states.specs.BookOf.{IsBookOf}

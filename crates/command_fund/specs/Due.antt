@@ -4,7 +4,7 @@ use Rattle.closing_log.specs.LogText as logs
 use Rattle.fee_bump.specs.Bump.{PlainTerms, terms_of}
 use Rattle.fee_bump.specs.Faults.{fault_of as bump_fault_of}
 use Rattle.fee_bump.specs.declared.fault.BumpFault.{BumpFault}
-use Rattle.fund_base.specs.declared.candidate.Candidate.{Candidate}
+use Rattle.coin_candidates.specs.declared.candidate.Candidate.{Candidate}
 use Rattle.fund_plan.specs.Outcome.{log_at, outcome_at, stand_after, tries_at}
 use Rattle.fund_plan.specs.declared.outcome.Outcome.{Outcome as Answer}
 use Rattle.fund_plan.specs.declared.outcome.Outcome.TheVariants as answers

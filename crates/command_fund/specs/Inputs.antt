@@ -1,6 +1,6 @@
 -- The files of a payment, and what they hold.
 use Rattle.std.specs.Prelude.{ℕ, ◌≡◌, List, [], ◌∷◌, None}
-use Rattle.fund_base.specs.Causes.{Asks, ShelfView, Rose}
+use Rattle.fund_shelf.specs.Causes.{Asks, ShelfView, Rose}
 use Rattle.block_feed.specs.Block.{ChainBlock}
 use Rattle.request_text.specs.PlainRequest.{PlainRequest}
 use Rattle.wallet_text.specs.PlainWallet.{PlainWallet}

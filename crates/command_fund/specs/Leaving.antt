@@ -1,6 +1,6 @@
 -- How a run that is unfinished is left: it is kept where there is a job, and its report is printed.
 use Rattle.std.specs.Prelude.{ℕ, ◌≡◌, ◌⊎◌, ◌++◌, List, codes, Option, Some, None, IsSome}
-use Rattle.fund_base.specs.Causes.{Rose, ShelfView, SinkView}
+use Rattle.fund_shelf.specs.Causes.{Rose, ShelfView, SinkView}
 use Rattle.fund_files.specs.declared.refusal.File.{File}
 use Rattle.fund_outside.specs.Kept.{KeeperView, SameForOthers}
 use Rattle.kept_job.specs.Saving.{IsSavedBehind}

@@ -1,6 +1,6 @@
 -- Files that are read once more, for the digest of a job.
 use Rattle.std.specs.Prelude.{ℕ, List}
-use Rattle.fund_base.specs.Causes.{ShelfView}
+use Rattle.fund_shelf.specs.Causes.{ShelfView}
 use Rattle.fund_files.specs.declared.refusal.File.{File}
 use Rattle.kept_job.specs.Digest.{IsFileDigest}
 use Rattle.command_end.specs.Names.{Sources}

@@ -10,7 +10,7 @@ use Rattle.fee_bump.specs.Faults.{points_of}
 use Rattle.fee_bump.specs.Meant.{GoesWith, IsKnown, IsNamed, MayBeReplaced}
 use Rattle.fee_rates.specs.Fee.{fee_of, vsize_of}
 use Rattle.fee_rates.specs.Terms.{base_of}
-use Rattle.fund_base.specs.declared.candidate.Candidate.{Candidate}
+use Rattle.coin_candidates.specs.declared.candidate.Candidate.{Candidate}
 use Rattle.fund_plan.specs.Pays.{outputs_of}
 use Rattle.fund_plan.specs.Selection.{PlainFunded}
 use Rattle.fund_steps.specs.Amounts.{value_of, weight_of as coins_weight}

@@ -1,6 +1,6 @@
 -- How a payment ends, by its status.
 use Rattle.std.specs.Prelude.{ℕ, ◌≡◌, ◌⊎◌, true, List, ◌++◌, All, codes, Option, Some, None, IsSome}
-use Rattle.fund_base.specs.Causes.{ShelfView, SinkView, Rose, HasPart}
+use Rattle.fund_shelf.specs.Causes.{ShelfView, SinkView, Rose, HasPart}
 use Rattle.fund_outside.specs.Kept.{KeeperView}
 use Rattle.block_feed.specs.Block.{ChainBlock}
 use Rattle.closing_log.specs.LogText.{IsLogText}

@@ -1,7 +1,7 @@
 -- Why a payment stops before it writes or prints.
 use Rattle.fee_bump.specs.declared.fault.BumpFault.{BumpFault}
 use Rattle.fee_bump.specs.declared.fault.BumpFault.TheVariants as bumps
-use Rattle.fund_base.specs.Causes.{Rose, ShelfView}
+use Rattle.fund_shelf.specs.Causes.{Rose, ShelfView}
 use Rattle.fund_files.specs.declared.stop.Stop.{Stop as FileStop}
 use Rattle.fund_files.specs.declared.stop.Stop.TheVariants as files
 use Rattle.fund_outside.specs.Kept.{KeeperView}

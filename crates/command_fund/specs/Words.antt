@@ -1,7 +1,7 @@
 -- What a refusal says, and how a payment that stops is answered.
 use Rattle.std.specs.Prelude.{ℕ, List, ◌++◌, codes}
 use Rattle.command_end.specs.Words.{bump_fault_words, plan_fault_words}
-use Rattle.fund_base.specs.Causes.{SinkView}
+use Rattle.fund_shelf.specs.Causes.{SinkView}
 use Rattle.command_end.specs.AnswerLines.{IsAnswered}
 use Rattle.command_end.specs.Lines.{file_refusal_words}
 use Rattle.command_end.specs.Names.{Sources}

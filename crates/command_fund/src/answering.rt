@@ -1,7 +1,7 @@
 //! The fault line of what stops a payment.
 
 ghost use Rattle.std.specs.Prelude.{◌≡◌};
-ghost use Rattle.fund_base.specs.Causes.{CountsNeverFall};
+ghost use Rattle.fund_shelf.specs.Causes.{CountsNeverFall};
 ghost use Rattle.command_end.specs.AnswerLines.{IsAnswered};
 ghost use Rattle.command_end.specs.Lines.{GotLine, fault_line};
 ghost use Rattle.command_end.specs.Names.{plain_sources};
@@ -18,8 +18,8 @@ use command_end::{
     refuse_read, want_of_memory,
 };
 use fee_bump::BumpFault;
-use fund_base::Sink;
 use fund_files::File;
+use fund_shelf::Sink;
 use fund_steps::PlanFault;
 
 /// The status of a plan's fault.

@@ -1,13 +1,14 @@
 //! What a plan is made from beside its request.
 
 ghost use Rattle.std.specs.Prelude.{◌≡◌, IfOk, None, option_map};
-ghost use Rattle.fund_base.specs.Candidates.{AreCandidates};
+ghost use Rattle.coin_candidates.specs.Candidates.{AreCandidates};
 ghost use Rattle.fund_steps.specs.Plan.{IsBumpFor};
 ghost use Rattle.fund_files.specs.Chain.{IsHeld};
 ghost use Rattle.command_fund.specs.Due.{bump_fault_in, bump_of, candidates_by, terms_for};
 
+use coin_candidates::Candidate;
 use fee_bump::BumpTerms;
-use fund_base::{Candidate, Memory};
+use fund_base::Memory;
 use fund_files::Held;
 use fund_steps::BumpInput;
 use request_text::Request;

@@ -1,7 +1,7 @@
 //! The command.
 
 ghost use Rattle.std.specs.Prelude.{◌≡◌, ◌≢◌, ◌≤◌, None, IfErr, IfOk, option_map};
-ghost use Rattle.fund_base.specs.Causes.{CountsNeverFall, NeverFall, OnlyReads, SameElsewhere};
+ghost use Rattle.fund_shelf.specs.Causes.{CountsNeverFall, NeverFall, OnlyReads, SameElsewhere};
 ghost use Rattle.fund_files.specs.declared.refusal.File.{File};
 ghost use Rattle.kept_job.specs.SavingRules.{CanBeKept};
 ghost use Rattle.command_end.specs.Names.{plain_sources};
@@ -21,8 +21,8 @@ use crate::leaving::keep_anew;
 use crate::names::Payment;
 use crate::refusal::Stop;
 use command_end::{Sources, Status, finish, put_report};
-use fund_base::{Shelf, Sink};
 use fund_outside::Keeper;
+use fund_shelf::{Shelf, Sink};
 use std::alloc::Global;
 
 /// How a payment ends whose files are read, or why the command stops.

@@ -1,7 +1,7 @@
 //! The digest of the job of some files.
 
 ghost use Rattle.std.specs.Prelude.{◌≡◌, ◌≢◌, ◌∷◌, [], IfErr, IfOk};
-ghost use Rattle.fund_base.specs.Causes.{Asks, OnlyReads};
+ghost use Rattle.fund_shelf.specs.Causes.{Asks, OnlyReads};
 ghost use Rattle.command_end.specs.Names.{plain_sources};
 ghost use Rattle.command_fund.specs.Digest.{AreWithin, digest_in};
 ghost use Rattle.command_fund.specs.Inputs.{AsksInOrder};
@@ -13,8 +13,8 @@ use crate::answering::name_of;
 use crate::names::Payment;
 use crate::refusal::Stop;
 use command_end::Sources;
-use fund_base::{Fault, Shelf};
 use fund_files::File;
+use fund_shelf::{Fault, Shelf};
 use kept_job::{file_digest, job_digest};
 use std::alloc::Global;
 

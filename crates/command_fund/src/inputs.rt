@@ -2,7 +2,7 @@
 
 ghost use Rattle.std.specs.Prelude.{◌≡◌, ◌≢◌, Err, IfErr, IfOk, IsSome, None, OnOk, Some};
 ghost use Rattle.fee_bump.specs.declared.fault.BumpFault.TheVariants as bumps;
-ghost use Rattle.fund_base.specs.Causes.{OnlyReads};
+ghost use Rattle.fund_shelf.specs.Causes.{OnlyReads};
 ghost use Rattle.fund_files.specs.Chain.{IsHeld};
 ghost use Rattle.fund_files.specs.declared.refusal.File.{File};
 ghost use Rattle.command_end.specs.Names.{plain_sources};
@@ -15,8 +15,8 @@ use crate::names::Payment;
 use crate::refusal::Stop;
 use command_end::Sources;
 use fee_bump::{BumpFault, BumpTerms, bump_terms};
-use fund_base::Shelf;
 use fund_files::{Held, read_asked, read_chain};
+use fund_shelf::Shelf;
 use payment_states::all_states;
 use request_text::Request;
 use std::alloc::Global;

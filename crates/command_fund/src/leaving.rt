@@ -1,7 +1,7 @@
 //! A run that is unfinished is kept as a job.
 
 ghost use Rattle.std.specs.Prelude.{◌≡◌, ◌≢◌, ◌≤◌, ℕ, List, IfErr, OnErr, OnOk};
-ghost use Rattle.fund_base.specs.Causes.{OnlyReads};
+ghost use Rattle.fund_shelf.specs.Causes.{OnlyReads};
 ghost use Rattle.fund_files.specs.declared.refusal.File.{File};
 ghost use Rattle.fund_outside.specs.Kept.{SameForOthers};
 ghost use Rattle.kept_job.specs.Saving.{IsSavedBehind};
@@ -16,9 +16,9 @@ use crate::digest::read_digest;
 use crate::names::Payment;
 use crate::refusal::Stop;
 use command_end::Sources;
-use fund_base::Shelf;
 use fund_outside::Keeper;
 use fund_plan::Plan;
+use fund_shelf::Shelf;
 use kept_job::{Behind, keep};
 use std::alloc::Global;
 

@@ -9,7 +9,7 @@ use Rattle.std.proofs.lemmas.List.Elements.{All-contains, All-cons, All-nil, Con
 use Rattle.std.proofs.lemmas.List.Folds.{fold-map}
 use Rattle.fund_base.proofs.Laws.{bind_ok, guard_ok, told_ok}
 use Rattle.fund_base.specs.Parsing.{fault_as}
-use Rattle.fund_base.specs.declared.candidate.Candidate.{Candidate}
+use Rattle.coin_candidates.specs.declared.candidate.Candidate.{Candidate}
 use Rattle.fund_base.specs.declared.outpoint.OutPoint.{OutPoint}
 use Rattle.fee_rates.specs.Output.{dust_of}
 use Rattle.segwit_addr.specs.Reading.{decode_of}
@@ -28,7 +28,7 @@ use Rattle.request_making.specs.declared.settings.Settings.{Settings}
 use Rattle.tx_codec.specs.declared.tx.TxIn.{TxIn}
 use Rattle.coin_book.specs.History.{History}
 use Rattle.fee_bump.specs.Bump.{terms_of}
-use Rattle.fund_base.specs.Causes.{ShelfView}
+use Rattle.fund_shelf.specs.Causes.{ShelfView}
 use Rattle.fund_files.specs.Chain.{held_of, history_of}
 use Rattle.fund_payment.specs.Report.{line_of, psbt_of, reported}
 use Rattle.fund_plan.proofs.FigureLaws.{figures_agree}

@@ -4,7 +4,7 @@ use Rattle.std.specs.Prelude.{◌≢◌}
 use Rattle.std.proofs.lemmas.Bool.{false_from_ne_true}
 use Rattle.coin_book.specs.History.{History}
 use Rattle.fund_base.proofs.Lists.{equal_bytes}
-use Rattle.fund_base.specs.Causes.{ShelfView}
+use Rattle.fund_shelf.specs.Causes.{ShelfView}
 use Rattle.fund_files.specs.Chain.{held_of, history_of}
 use Rattle.fund_files.specs.Contents.{HasChain}
 use Rattle.fund_payment.specs.Report.{reported}

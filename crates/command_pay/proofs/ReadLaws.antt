@@ -1,7 +1,7 @@
 -- Failed reads of a run for what is asked are counted at the files themselves.
 use Rattle.std.proofs.Common.{◌≡◌, ◌≤◌, ◌∙◌, ℕ, Bool, true, false, List, inl, inr, refl, sym, ap, subst, arith, bytes_eq, string_bytes}
 use Rattle.std.specs.Prelude.{◌≢◌, ◌⊎◌, if◌then◌else◌}
-use Rattle.fund_base.specs.Causes.{Rose, ShelfView}
+use Rattle.fund_shelf.specs.Causes.{Rose, ShelfView}
 use Rattle.fund_files.specs.declared.refusal.File.{File}
 use Rattle.fund_files.specs.declared.refusal.File.TheVariants.{Wallet, Blocks, Request}
 use Rattle.command_end.specs.declared.status.Status.{Status}

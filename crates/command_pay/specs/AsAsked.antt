@@ -1,7 +1,7 @@
 -- That what is paid is what was asked for.
 use Rattle.std.specs.Prelude.{ℕ, ◌≡◌, ◌≢◌, List, All, Ok, string_bytes}
 use Rattle.block_feed.specs.Block.{ChainBlock}
-use Rattle.fund_base.specs.Causes.{ShelfView}
+use Rattle.fund_shelf.specs.Causes.{ShelfView}
 use Rattle.fund_files.specs.Chain.{held_of, history_of}
 use Rattle.fund_files.specs.Contents.{HasChain}
 use Rattle.fund_payment.specs.Report.{psbt_of, reported}

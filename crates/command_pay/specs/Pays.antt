@@ -1,6 +1,6 @@
 -- How a command that pays ends.
 use Rattle.std.specs.Prelude.{ℕ, ◌≡◌, ◌≢◌, ◌≤◌, ◌<◌, ◌⊎◌, List, Some, option_map, string_bytes}
-use Rattle.fund_base.specs.Causes.{ShelfView}
+use Rattle.fund_shelf.specs.Causes.{ShelfView}
 use Rattle.fund_report.specs.PlainFunded.{PlainFunded}
 use Rattle.command_end.specs.declared.status.Status.TheVariants as statuses
 use Rattle.pay_words.specs.declared.asked.Asked.{Asked}

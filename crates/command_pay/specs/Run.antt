@@ -1,6 +1,6 @@
 -- The run of `fund` for what is asked.
 use Rattle.std.specs.Prelude.{ℕ, ◌≡◌, ◌≢◌, ◌⊎◌, ◌↔◌, List, [], false, codes, None, string_bytes}
-use Rattle.fund_base.specs.Causes.{ShelfView, SinkView}
+use Rattle.fund_shelf.specs.Causes.{ShelfView, SinkView}
 use Rattle.fund_outside.specs.Kept.{KeeperView}
 use Rattle.fund_report.specs.PlainFunded.{PlainFunded}
 use Rattle.fund_report.specs.ReportText.{IsReportText}

@@ -1,6 +1,6 @@
 -- Files that are written where they are asked for, and files that stay.
 use Rattle.std.specs.Prelude.{ℕ, ◌≡◌, List, Option, Some, None}
-use Rattle.fund_base.specs.Causes.{ShelfView, Rose, SameElsewhere}
+use Rattle.fund_shelf.specs.Causes.{ShelfView, Rose, SameElsewhere}
 use Rattle.command_pay.specs.AsAsked.{IsOther}
 
 -- The file of this name has these bytes, and nothing else is changed.

@@ -1,10 +1,10 @@
 //! A request and a log that are held in memory, beside other files.
 
 ghost use Rattle.std.specs.Prelude.{◌≡◌, ◌≤◌, [], ◌∷◌, ◌++◌, length, map, string_bytes, OnOk, OnErr};
-ghost use Rattle.fund_base.specs.Causes.{IsRead};
+ghost use Rattle.fund_shelf.specs.Causes.{IsRead};
 ghost use Rattle.command_pay.specs.Held.{held_view, log_name, request_name};
 
-use fund_base::{Fault, Shelf};
+use fund_shelf::{Fault, Shelf};
 use std::alloc::{AllocError, Global};
 
 /// The name of the request. It begins with a NUL, as the name of no file of the system does.

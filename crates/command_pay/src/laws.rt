@@ -2,7 +2,7 @@
 
 ghost use Rattle.std.specs.Prelude.{List, ℕ, ◌≡◌, ◌≢◌, ◌≤◌, ◌⊎◌, string_bytes};
 ghost use Rattle.command_end.specs.declared.status.Status.{Status};
-ghost use Rattle.fund_base.specs.Causes.{Rose, ShelfView};
+ghost use Rattle.fund_shelf.specs.Causes.{Rose, ShelfView};
 ghost use Rattle.fund_report.specs.PlainFunded.{PlainFunded};
 ghost use Rattle.pay_words.specs.declared.asked.Asked.{Asked};
 ghost use Rattle.command_pay.specs.AsAsked.{IsAsAsked, IsOther};

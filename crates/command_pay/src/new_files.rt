@@ -2,9 +2,9 @@
 
 ghost use Rattle.std.specs.Prelude.{◌≡◌, ◌≢◌, ◌≤◌, [], length, IfOk, OnErr, OnOk, IsErrOf, IsTrue, Err, Ok};
 ghost use Rattle.std.specs.Fs.{asks_create_new, asks_write};
-ghost use Rattle.fund_base.specs.Causes.{NeverFall, Rose, one_more};
+ghost use Rattle.fund_shelf.specs.Causes.{NeverFall, Rose, one_more};
 
-use fund_base::{Fault, FileShelf, Shelf};
+use fund_shelf::{Fault, FileShelf, Shelf};
 use std::fs::OpenOptions;
 use std::io::{self, Write};
 use std::rt::Files;
@@ -19,7 +19,7 @@ pub struct NewFileShelf<'a, R: Files> {
 }
 
 impl<'a, R: Files> NewFileShelf<'a, R> {
-    ghost use Rattle.fund_base.specs.FileShelf.{view_of};
+    ghost use Rattle.fund_shelf.specs.FileShelf.{view_of};
 
     /// The files that `rt` reaches, without a failure so far.
     pub fn new(rt: &'a R) -> NewFileShelf<'a, R>
@@ -75,7 +75,7 @@ fn told(answer: io::Result<()>, failures: &mut u64) -> Result<(), Fault>
 }
 
 impl<'a, R: Files> Shelf for NewFileShelf<'a, R> {
-    ghost use Rattle.fund_base.specs.FileShelf.{view_of};
+    ghost use Rattle.fund_shelf.specs.FileShelf.{view_of};
     ghost use Rattle.command_pay.specs.Held.{new_file_view};
 
     ghost tells = { ⊥ };

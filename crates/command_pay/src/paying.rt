@@ -15,8 +15,9 @@ use crate::outcome::Ending;
 use crate::run::{Run, run_asked};
 use crate::written::{PutFault, put_files};
 use command_end::Status;
-use fund_base::{Memory, Shelf};
+use fund_base::Memory;
 use fund_report::{FundedReport, Report, ReportFault, read_report};
+use fund_shelf::Shelf;
 use pay_words::{Asked, WordFault, read_pay};
 use std::alloc::Global;
 

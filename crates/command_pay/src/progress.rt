@@ -2,7 +2,7 @@
 
 ghost use Rattle.std.specs.Prelude.{◌≡◌, ◌↔◌, ◌<◌, ◌+◌, ◌*◌, ◌/◌, IsOkAnd, IsTrue, min};
 
-use fund_base::{Fault, Shelf};
+use fund_shelf::{Fault, Shelf};
 use std::io::Eprint;
 
 /// How many bytes are read between two lines: 64 MiB.

@@ -10,8 +10,9 @@ ghost use Rattle.command_pay.specs.Written.{KeepsFiles};
 
 use crate::held::{RequestShelf, log_name, request_name};
 use command_end::Status;
-use fund_base::{Memory, Shelf, SureSink};
+use fund_base::Memory;
 use fund_outside::SureKeeper;
+use fund_shelf::{Shelf, SureSink};
 use fund_top::run;
 use pay_words::Asked;
 use std::alloc::Global;

@@ -5,8 +5,8 @@ ghost use Rattle.command_pay.specs.Pays.{HasBoth, HasTwoNames, PutStops};
 ghost use Rattle.command_pay.specs.Written.{HasFileIf, IsStill, IsUnwritten};
 
 use crate::outcome::NewFile;
-use fund_base::{Fault, Shelf};
 use fund_report::FundedReport;
+use fund_shelf::{Fault, Shelf};
 use pay_words::Asked;
 
 /// Why the new files aren't written.

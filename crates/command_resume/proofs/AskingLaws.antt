@@ -1,6 +1,6 @@
 -- What is asked for where the files are refused.
 use Rattle.std.proofs.Common.{◌≡◌, ◌∙◌, ap, subst}
-use Rattle.fund_base.specs.Causes.{ShelfView}
+use Rattle.fund_shelf.specs.Causes.{ShelfView}
 use Rattle.fund_steps.specs.Plan.{IsPlan, PlainPlan}
 use Rattle.request_text.specs.PlainRequest.{PlainRequest}
 use Rattle.fund_files.specs.declared.held.Held.{Held}

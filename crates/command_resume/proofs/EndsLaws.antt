@@ -1,7 +1,7 @@
 -- What the status tells of how a job ended.
 use Rattle.std.proofs.Common.{◌≡◌, ◌∙◌, ℕ, List, Option, Some, None, inl, inr, refl, sym, ap, subst}
 use Rattle.std.specs.Prelude.{◌⊎◌}
-use Rattle.fund_base.specs.Causes.{Rose, ShelfView, SinkView}
+use Rattle.fund_shelf.specs.Causes.{Rose, ShelfView, SinkView}
 use Rattle.block_feed.specs.Block.{ChainBlock}
 use Rattle.fund_files.specs.Chain.{held_of}
 use Rattle.fund_files.specs.declared.held.Held.{Held}

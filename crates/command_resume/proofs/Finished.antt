@@ -1,8 +1,8 @@
 -- How the writing, the saving and the printing end is how the command ends.
 use Rattle.std.proofs.Common.{◌≡◌, ◌∙◌, ◌++◌, ℕ, ◌≤◌, ◌+◌, List, [], ◌∷◌, Option, Some, None, length, inl, inr, sym, ap, subst}
 use Rattle.std.specs.Prelude.{◌⊎◌}
-use Rattle.fund_base.proofs.Outside.{rose_earlier}
-use Rattle.fund_base.specs.Causes.{Asks, Rose, ShelfView, SinkView}
+use Rattle.fund_shelf.proofs.Outside.{rose_earlier}
+use Rattle.fund_shelf.specs.Causes.{Asks, Rose, ShelfView, SinkView}
 use Rattle.fund_outside.specs.Kept.{KeeperView, KeptJob, SameForOthers}
 use Rattle.fund_plan.specs.State.{PlanState}
 use Rattle.fund_files.specs.Chain.{held_of}

@@ -1,7 +1,7 @@
 -- What is read of the files and of the job, joined; and why going on stops.
 use Rattle.std.proofs.Common.{◌≡◌, ◌∙◌, ℕ, List, Option, refl, sym, ap, subst, arith}
-use Rattle.fund_base.proofs.Outside.{rose_earlier}
-use Rattle.fund_base.specs.Causes.{OnlyReads, Rose, ShelfView}
+use Rattle.fund_shelf.proofs.Outside.{rose_earlier}
+use Rattle.fund_shelf.specs.Causes.{OnlyReads, Rose, ShelfView}
 use Rattle.block_feed.specs.Block.{ChainBlock}
 use Rattle.fund_files.specs.Chain.{held_of}
 use Rattle.fund_files.specs.declared.held.Held.{Held}

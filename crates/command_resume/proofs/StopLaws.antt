@@ -1,7 +1,7 @@
 -- What stops a job is how the command ends.
 use Rattle.std.proofs.Common.{◌≡◌, ℕ, List, inl, inr, refl, sym, subst}
 use Rattle.std.specs.Prelude.{◌⊎◌}
-use Rattle.fund_base.specs.Causes.{ShelfView, SinkView}
+use Rattle.fund_shelf.specs.Causes.{ShelfView, SinkView}
 use Rattle.fund_files.specs.Cause.{FileCause}
 use Rattle.fund_files.specs.Cause as files
 use Rattle.fund_outside.specs.Kept.{KeeperView}

@@ -1,5 +1,5 @@
 -- What is asked for where the files are refused.
-use Rattle.fund_base.specs.Causes.{ShelfView}
+use Rattle.fund_shelf.specs.Causes.{ShelfView}
 use Rattle.command_end.specs.Names.{Sources}
 use Rattle.command_fund.specs.Cause.{Cause}
 use Rattle.command_fund.specs.Inputs.{AsksInOrder}

@@ -1,6 +1,6 @@
 -- How a run that is unfinished is left: its job goes on, and its report is printed.
 use Rattle.std.specs.Prelude.{ℕ, ◌≡◌, ◌⊎◌, List, codes}
-use Rattle.fund_base.specs.Causes.{Rose, SinkView}
+use Rattle.fund_shelf.specs.Causes.{Rose, SinkView}
 use Rattle.fund_outside.specs.Kept.{KeeperView, SameForOthers}
 use Rattle.kept_job.specs.Saving.{IsSavedBehind}
 use Rattle.command_end.specs.Lines.{GotLine, fault_line}

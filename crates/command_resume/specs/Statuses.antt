@@ -1,6 +1,6 @@
 -- How a command that goes on with a job ends, by its status.
 use Rattle.std.specs.Prelude.{ℕ, ◌≡◌, ◌⊎◌, List, ◌++◌, codes, Option, Some, None}
-use Rattle.fund_base.specs.Causes.{HasPart, Rose, ShelfView, SinkView}
+use Rattle.fund_shelf.specs.Causes.{HasPart, Rose, ShelfView, SinkView}
 use Rattle.fund_outside.specs.Kept.{KeeperView, KeptJob}
 use Rattle.kept_job.specs.Refused.{IsOfJob}
 use Rattle.kept_job.specs.declared.fault.KeptFault.{KeptFault}

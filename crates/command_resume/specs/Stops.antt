@@ -1,6 +1,6 @@
 -- Why a job isn't gone on with.
 use Rattle.std.specs.Prelude.{ℕ, List}
-use Rattle.fund_base.specs.Causes.{Rose, ShelfView}
+use Rattle.fund_shelf.specs.Causes.{Rose, ShelfView}
 use Rattle.fund_outside.specs.Kept.{KeeperView}
 use Rattle.kept_job.specs.declared.fault.KeptFault.{KeptFault}
 use Rattle.kept_job.specs.declared.fault.KeptFault.TheVariants.{Failed, Memory}

@@ -2,7 +2,7 @@
 use Rattle.std.specs.Prelude.{ℕ, List, ◌∷◌, ◌++◌, codes}
 use Rattle.std.specs.Fmt.{decimal}
 use Rattle.command_end.specs.Words.{log_fault_words}
-use Rattle.fund_base.specs.Causes.{SinkView}
+use Rattle.fund_shelf.specs.Causes.{SinkView}
 use Rattle.hex.specs.Hex.{encode_lower}
 use Rattle.kept_job.specs.declared.fault.KeptFault.{KeptFault}
 use Rattle.kept_job.specs.declared.fault.KeptFault.TheVariants.{NoJob, Form, JobElse, Spent, Part, LongLog, Section, IllFormed, Log, Failed, Memory}

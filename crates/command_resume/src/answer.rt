@@ -1,7 +1,7 @@
 //! The fault line of what stops a job.
 
 ghost use Rattle.std.specs.Prelude.{◌≡◌};
-ghost use Rattle.fund_base.specs.Causes.{CountsNeverFall};
+ghost use Rattle.fund_shelf.specs.Causes.{CountsNeverFall};
 ghost use Rattle.fund_files.specs.declared.refusal.File.{File};
 ghost use Rattle.command_end.specs.AnswerLines.{IsAnswered};
 ghost use Rattle.command_end.specs.Lines.{GotLine, fault_line};
@@ -14,7 +14,7 @@ use crate::stop::Stop;
 use crate::words::{kept_parts, kept_status};
 use command_end::{Sources, Status, put_fault};
 use command_fund::{Payment, answer as answer_funding};
-use fund_base::Sink;
+use fund_shelf::Sink;
 use kept_job::KeptFault;
 
 /// Puts the line of a kept job's fault.

@@ -1,7 +1,7 @@
 //! The command.
 
 ghost use Rattle.std.specs.Prelude.{◌≡◌, ◌≢◌, ◌≤◌, Some};
-ghost use Rattle.fund_base.specs.Causes.{CountsNeverFall, NeverFall, SameElsewhere};
+ghost use Rattle.fund_shelf.specs.Causes.{CountsNeverFall, NeverFall, SameElsewhere};
 ghost use Rattle.command_end.specs.Names.{plain_sources};
 ghost use Rattle.command_end.specs.Printed.{TellsWhole, TookAll};
 ghost use Rattle.command_fund.specs.Inputs.{AsksTwice, NoneBehind};
@@ -17,8 +17,8 @@ use crate::answer::answer;
 use crate::resuming::{Ending, Left, go_on};
 use command_end::{Sources, Status, finish, put_report, refuse_keep, want_of_memory};
 use command_fund::Payment;
-use fund_base::{Shelf, Sink};
 use fund_outside::{KeepFault, Keeper};
+use fund_shelf::{Shelf, Sink};
 use kept_job::keep;
 use std::alloc::Global;
 

@@ -1,7 +1,7 @@
 //! How a request ends that is gone on with from a kept job.
 
 ghost use Rattle.std.specs.Prelude.{◌≡◌, ◌≢◌, ◌≤◌, Err, IfErr, IfOk, IsErrOf, None};
-ghost use Rattle.fund_base.specs.Causes.{OnlyReads, Rose};
+ghost use Rattle.fund_shelf.specs.Causes.{OnlyReads, Rose};
 ghost use Rattle.fund_files.specs.Chain.{IsHeld};
 ghost use Rattle.fund_files.specs.declared.refusal.File.{File};
 ghost use Rattle.command_end.specs.Names.{plain_sources};
@@ -22,10 +22,11 @@ use command_fund::{
     Inputs, Payment, Stop as FundStop, Texts, new_plan, none_texts, open_report, paid_texts,
     read_digest, read_inputs,
 };
-use fund_base::{Memory, Shelf};
+use fund_base::Memory;
 use fund_files::Held;
 use fund_outside::Keeper;
 use fund_plan::{Outcome, Plan};
+use fund_shelf::Shelf;
 use kept_job::{Behind, KeptFault, Resumed};
 use request_text::Request;
 use std::alloc::Global;

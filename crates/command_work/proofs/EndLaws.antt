@@ -1,7 +1,7 @@
 -- How the printing of a summary, or of a fault line, ends is how the command ends.
 use Rattle.std.proofs.Common.{◌≡◌, ◌∙◌, ◌++◌, ℕ, List, inl, inr, refl, sym, ap, subst}
 use Rattle.std.specs.Prelude.{◌⊎◌}
-use Rattle.fund_base.specs.Causes.{SinkView}
+use Rattle.fund_shelf.specs.Causes.{SinkView}
 use Rattle.command_end.proofs.WholeLaws.{answered_stops, wanting_stops}
 use Rattle.command_end.specs.AnswerLines.{IsAnswered, IsWanting}
 use Rattle.command_end.specs.Lines.{GotLine, fault_line}

@@ -1,6 +1,6 @@
 -- How a workload ends, by its status.
 use Rattle.std.specs.Prelude.{ℕ, ◌≡◌, ◌⊎◌, List, ◌++◌, All, codes}
-use Rattle.fund_base.specs.Causes.{SinkView, Rose, HasPart}
+use Rattle.fund_shelf.specs.Causes.{SinkView, Rose, HasPart}
 use Rattle.fund_files.specs.Chain.{history_of}
 use Rattle.fund_payment.specs.Report.{psbt_of, report_of}
 use Rattle.fund_payment.specs.Shown.{ShowsCoins}

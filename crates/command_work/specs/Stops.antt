@@ -1,6 +1,6 @@
 -- Why no summary is made of a workload, and how that is answered.
 use Rattle.std.specs.Prelude.{ℕ, List, codes}
-use Rattle.fund_base.specs.Causes.{SinkView}
+use Rattle.fund_shelf.specs.Causes.{SinkView}
 use Rattle.command_end.specs.AnswerLines.{IsAnswered, IsWanting}
 use Rattle.command_end.specs.declared.status.Status.{Status}
 use Rattle.command_end.specs.declared.status.Status.TheVariants as statuses

@@ -1,7 +1,7 @@
 //! The command.
 
 ghost use Rattle.std.specs.Prelude.{◌≡◌, ◌≤◌};
-ghost use Rattle.fund_base.specs.Causes.{CountsNeverFall};
+ghost use Rattle.fund_shelf.specs.Causes.{CountsNeverFall};
 ghost use Rattle.command_end.specs.Lines.{GotLine, fault_line};
 ghost use Rattle.command_end.specs.Printed.{TellsWhole, TookAll};
 ghost use Rattle.command_work.specs.Statuses.{Ends};
@@ -10,7 +10,7 @@ ghost use Rattle.command_work.specs.Stops.{IsStopped, ReadsNone, stop_status, st
 use crate::running::run_load;
 use command_end::{Status, put_report, want_of_memory};
 use command_fund::{Stop, refuse};
-use fund_base::Sink;
+use fund_shelf::Sink;
 use std::alloc::Global;
 
 /// Puts the line of a stop. No file is read and no job is kept, so neither can fail.

@@ -9,7 +9,7 @@ use Rattle.coin_book.specs.Faults.{fault_of}
 use Rattle.coin_book.specs.History as histories
 use Rattle.coin_book.specs.declared.fault.BookFault.{BookFault}
 use Rattle.coin_book.specs.declared.fault.BookFault.TheVariants as books
-use Rattle.fund_base.specs.Causes.{Rose}
+use Rattle.fund_shelf.specs.Causes.{Rose}
 use Rattle.fund_base.specs.declared.memory.Memory.{Memory}
 use Rattle.fund_files.specs.declared.held.Held.{Held}
 use Rattle.desk_machine.specs.Machine.{Grown, add_blocks, add_records, records_at, refused_at}

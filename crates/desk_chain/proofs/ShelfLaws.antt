@@ -1,7 +1,7 @@
 -- One file in memory.
 use Rattle.std.specs.Prelude.{ℕ, ◌≡◌, List, [], ◌∷◌, Some, None, Vec, String, string_bytes, unwrap_or}
 use Rattle.std.proofs.Common.{ap, ◌∙◌, cond, Global}
-use Rattle.fund_base.specs.Files.{bytes_of}
+use Rattle.fund_shelf.specs.Files.{bytes_of}
 use Rattle.desk_machine.proofs.JobLists.{name_same}
 
 -- its bytes are found by its name

@@ -1,7 +1,7 @@
 //! The blocks of a command, added one by one.
 
 ghost use Rattle.std.specs.Prelude.{ℕ, ◌≡◌, ◌≢◌, ◌≤◌, IfOk, OnErr, OnOk, None, codes, length, take};
-ghost use Rattle.fund_base.specs.SureShelf.{view_of};
+ghost use Rattle.fund_shelf.specs.SureShelf.{view_of};
 ghost use Rattle.fund_files.specs.Chain.{IsHeld};
 ghost use Rattle.desk_machine.specs.Machine.{add_blocks, add_records, records_at};
 ghost use Rattle.desk_machine.specs.Replies.{BadBlocks, BadBook, IsOfBytes, Refused, plain_reply};
@@ -10,8 +10,9 @@ use crate::chain::add_block;
 use block_feed::{Feed, FeedFault};
 use coin_book::BookFault;
 use desk_machine::{Refusal, Reply};
-use fund_base::{Memory, SureShelf};
+use fund_base::Memory;
 use fund_files::Held;
+use fund_shelf::SureShelf;
 use std::alloc::Global;
 
 /// The name of the one file of the bytes of a command.

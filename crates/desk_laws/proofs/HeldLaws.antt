@@ -14,7 +14,7 @@ use Rattle.coin_book.specs.History as histories
 use Rattle.coin_book.specs.declared.fault.BookFault.{BookFault}
 use Rattle.fund_base.proofs.Laws.{whole_takes}
 use Rattle.fund_base.specs.Cursor.{IsBytes}
-use Rattle.fund_base.specs.declared.candidate.Candidate.{Candidate}
+use Rattle.coin_candidates.specs.declared.candidate.Candidate.{Candidate}
 use Rattle.desk_chain.proofs.ChainLaws.{held_block, held_pending}
 use Rattle.fund_files.specs.declared.held.Held.{Held}
 use Rattle.fund_plan.specs.Selection.{PlainFunded}

@@ -15,9 +15,9 @@ use Rattle.fee_rates.specs.Terms.{IsLoad, base_of, target_of, terms_of}
 use Rattle.fee_rates.specs.declared.terms.Load.{Load}
 use Rattle.fee_rates.specs.declared.terms.Rates.{Rates}
 use Rattle.fee_rates.specs.declared.terms.Terms.{Terms}
-use Rattle.fund_base.specs.Candidates.{AreCandidates, IsCandidate}
+use Rattle.coin_candidates.specs.Candidates.{AreCandidates, IsCandidate}
 use Rattle.fund_base.specs.CompactSize.{compact}
-use Rattle.fund_base.specs.declared.candidate.Candidate.{Candidate}
+use Rattle.coin_candidates.specs.declared.candidate.Candidate.{Candidate}
 use Rattle.fund_desk.proofs.LookLaws.{candidates_filter}
 use Rattle.fund_plan.specs.Steps.{steps_of}
 use Rattle.fund_steps.proofs.BumpLaws.{burden_within, presets_fit}

@@ -1,6 +1,6 @@
 -- What a job is opened with.
 use Rattle.std.specs.Prelude.{ℕ, ◌≡◌, List, All, Contains, None, Ok}
-use Rattle.fund_base.specs.declared.candidate.Candidate.{Candidate}
+use Rattle.coin_candidates.specs.declared.candidate.Candidate.{Candidate}
 use Rattle.request_text.specs.RequestText.{request_of}
 use Rattle.desk_machine.specs.Commits.{IsFree}
 use Rattle.desk_machine.specs.State.{Job, PlainDesk, candidates_in, new_job}

@@ -1,6 +1,6 @@
 -- What it means that a coin can be spent when a payment is committed, and what a commit does.
 use Rattle.std.specs.Prelude.{ℕ, ◌≡◌, ◌⊎◌, ◌++◌, ◌∷◌, All, List, Contains, Some, IsTrue}
-use Rattle.fund_base.specs.declared.candidate.Candidate.{Candidate}
+use Rattle.coin_candidates.specs.declared.candidate.Candidate.{Candidate}
 use Rattle.fund_base.specs.declared.outpoint.OutPoint.{OutPoint}
 use Rattle.fund_payment.specs.Shown.{ShowsCoins}
 use Rattle.fund_plan.specs.Answer.{IsPayment}

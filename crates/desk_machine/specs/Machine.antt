@@ -9,7 +9,7 @@ use Rattle.coin_book.specs.Faults.{fault_of}
 use Rattle.coin_book.specs.History as histories
 use Rattle.coin_book.specs.declared.fault.BookFault.{BookFault}
 use Rattle.fund_base.specs.Parsing.{whole_of}
-use Rattle.fund_base.specs.declared.candidate.Candidate.{Candidate}
+use Rattle.coin_candidates.specs.declared.candidate.Candidate.{Candidate}
 use Rattle.fund_files.specs.declared.held.Held.{Held}
 use Rattle.fund_payment.specs.Report.{psbt_of}
 use Rattle.fund_plan.specs.Pays.{payment_of}

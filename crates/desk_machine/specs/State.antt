@@ -2,7 +2,7 @@
 use Rattle.std.specs.Prelude.{ℕ, not, ◌∷◌, [], List, Bool, Option, None, bytes_eq, filter, find, map, if◌then◌else◌}
 use Rattle.std.specs.List.{list_any}
 use Rattle.fund_base.specs.Outpoints.{same_outpoint}
-use Rattle.fund_base.specs.declared.candidate.Candidate.{Candidate}
+use Rattle.coin_candidates.specs.declared.candidate.Candidate.{Candidate}
 use Rattle.fund_base.specs.declared.outpoint.OutPoint.{OutPoint}
 use Rattle.fund_files.specs.declared.held.Held.{Held}
 use Rattle.fund_plan.specs.Outcome.{beginning_of}

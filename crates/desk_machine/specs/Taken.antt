@@ -3,7 +3,7 @@ use Rattle.std.specs.Prelude.{ℕ, ◌==◌, ◌&&◌, ◌||◌, not, false, Lis
 use Rattle.std.specs.List.{list_any}
 use Rattle.std.specs.Option.{option_map_or}
 use Rattle.fund_base.specs.Outpoints.{same_outpoint}
-use Rattle.fund_base.specs.declared.candidate.Candidate.{Candidate}
+use Rattle.coin_candidates.specs.declared.candidate.Candidate.{Candidate}
 use Rattle.fund_steps.specs.Plan.{may_be_listed}
 use Rattle.output_groups.specs.Ladder.{ladder_of, reaches}
 use Rattle.output_groups.specs.declared.rows.Row.{Row}

@@ -3,9 +3,9 @@
 ghost use Rattle.std.specs.Prelude.{◌≡◌, ◌≢◌, ◌≤◌, ◌+◌, ◌↔◌, ℕ, List, All, None, Some, false, length, true};
 ghost use Rattle.std.specs.List.{AllPairs};
 ghost use Rattle.block_feed.specs.BlockFile.{IsBlockFile};
-ghost use Rattle.fund_base.specs.Candidates.{AreCandidates};
+ghost use Rattle.coin_candidates.specs.Candidates.{AreCandidates};
 ghost use Rattle.fund_base.specs.Cursor.{IsBytes};
-ghost use Rattle.fund_base.specs.declared.candidate.Candidate.{Candidate};
+ghost use Rattle.coin_candidates.specs.declared.candidate.Candidate.{Candidate};
 ghost use Rattle.fund_plan.specs.State.{PlanState, moved, told};
 ghost use Rattle.search_run.specs.Found.{PlainFound};
 ghost use Rattle.fund_steps.specs.Plan.{PlainPlan};

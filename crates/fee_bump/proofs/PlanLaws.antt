@@ -5,9 +5,9 @@ use Rattle.std.proofs.lemmas.List.{length-append}
 use Rattle.std.proofs.lemmas.List.Elements.{All-contains, All-contains_itself, All-filter, All-weaker}
 use Rattle.std.proofs.lemmas.List.Kept.{AllPairs-filter}
 use Rattle.std.proofs.lemmas.List.Sums.{count_by-le-length, length-filter, sum_by-le}
-use Rattle.fund_base.specs.Candidates.{AreCandidates, IsCandidate}
+use Rattle.coin_candidates.specs.Candidates.{AreCandidates, IsCandidate}
 use Rattle.fund_base.specs.CompactSize.{compact}
-use Rattle.fund_base.specs.declared.candidate.Candidate.{Candidate}
+use Rattle.coin_candidates.specs.declared.candidate.Candidate.{Candidate}
 use Rattle.tx_codec.specs.Transaction.{Transaction}
 use Rattle.tx_codec.specs.declared.tx.TxIn.{TxIn}
 use Rattle.fee_rates.proofs.CompactLaws.{compact_len_is}

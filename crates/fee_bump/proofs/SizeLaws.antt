@@ -3,8 +3,8 @@ use Rattle.std.specs.Prelude.{◌≤◌, List}
 use Rattle.std.proofs.Common.{arith}
 use Rattle.std.proofs.lemmas.List.Elements.{All-weaker}
 use Rattle.std.proofs.lemmas.List.Sums.{sum_by-le}
-use Rattle.fund_base.specs.Candidates.{AreCandidates, IsCandidate}
-use Rattle.fund_base.specs.declared.candidate.Candidate.{Candidate}
+use Rattle.coin_candidates.specs.Candidates.{AreCandidates, IsCandidate}
+use Rattle.coin_candidates.specs.declared.candidate.Candidate.{Candidate}
 use Rattle.fee_bump.specs.Bump.{weight_of}
 
 pub weights_within : (coins : List Candidate) → AreCandidates coins → weight_of coins ≤ 40_000_000_000

@@ -1,14 +1,14 @@
 //! What a replacement pays beside the fee of its rate.
 
 ghost use Rattle.std.specs.Prelude.{◌≡◌, ◌≤◌, length, min, sum_by};
-ghost use Rattle.fund_base.specs.Candidates.{AreCandidates};
+ghost use Rattle.coin_candidates.specs.Candidates.{AreCandidates};
 ghost use Rattle.fee_rates.specs.Output.{output_size_of};
 ghost use Rattle.fee_rates.specs.Terms.{AreRates, IsLoad, base_of};
 ghost use Rattle.request_text.specs.declared.request.Recipient.{Recipient};
 ghost use Rattle.fee_bump.specs.Bump.{bare_load, burden_at, least_vsize, weight_of};
 
+use coin_candidates::Candidate;
 use fee_rates::{Load, Rates, Terms, fee, output_size, vsize};
-use fund_base::Candidate;
 use request_text::{Recipient, Request};
 
 /// The rate by which a replacement pays for its own size, in satoshi per 1,000 virtual bytes (Bitcoin Core,

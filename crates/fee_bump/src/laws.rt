@@ -1,8 +1,8 @@
 //! Laws of replacements. A call of any of them does nothing.
 
 ghost use Rattle.std.specs.Prelude.{◌≡◌, ◌≢◌, ◌<◌, ◌≤◌, ◌+◌, ◌*◌, ◌++◌, ◌↔◌, ℕ, List, All, AllPairs, Any, Contains, None, Some, length};
-ghost use Rattle.fund_base.specs.Candidates.{AreCandidates};
-ghost use Rattle.fund_base.specs.declared.candidate.Candidate.{Candidate};
+ghost use Rattle.coin_candidates.specs.Candidates.{AreCandidates};
+ghost use Rattle.coin_candidates.specs.declared.candidate.Candidate.{Candidate};
 ghost use Rattle.fund_base.specs.declared.outpoint.OutPoint.{OutPoint};
 ghost use Rattle.tx_codec.specs.Transaction.{Transaction};
 ghost use Rattle.tx_codec.specs.Txid.{txid_of};

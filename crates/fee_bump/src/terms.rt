@@ -1,6 +1,7 @@
 //! What a replacement is made from.
 
-use fund_base::{Candidate, Txid};
+use coin_candidates::Candidate;
+use fund_base::Txid;
 use std::marker::Model;
 
 /// What a replacement is made from.

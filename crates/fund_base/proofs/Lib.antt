@@ -1,11 +1,7 @@
-pub mod Asking
-pub mod Counts
 pub mod Decimals
 pub mod Laws
 pub mod LawsOfNumbers
 pub mod Lists
 pub mod OutpointLaws
-pub mod Outside
-pub mod Parts
 pub mod Repeat
 pub mod Spellings

@@ -1,7 +1,7 @@
 //! The program: it makes the files, the standard output and the job file of the machine, and does the command of its words.
 #![tactic(auto)]
 
-use fund_base::{FileShelf, StdSink};
+use fund_shelf::{FileShelf, StdSink};
 use fund_top::{Status, run};
 use keep_sqlite::SqliteKeeper;
 use std::env;

@@ -8,9 +8,9 @@ use Rattle.std.proofs.lemmas.List.Elements.{All-filter}
 use Rattle.std.proofs.lemmas.List.Kept.{AllPairs-filter}
 use Rattle.std.proofs.lemmas.Option.{none-some}
 use Rattle.fund_base.proofs.OutpointLaws.{same_outpoint-Decides}
-use Rattle.fund_base.specs.Candidates.{AreCandidates, IsCandidate}
+use Rattle.coin_candidates.specs.Candidates.{AreCandidates, IsCandidate}
 use Rattle.fund_base.specs.Outpoints.{same_outpoint}
-use Rattle.fund_base.specs.declared.candidate.Candidate.{Candidate}
+use Rattle.coin_candidates.specs.declared.candidate.Candidate.{Candidate}
 use Rattle.fund_base.specs.declared.outpoint.OutPoint.{OutPoint}
 use Rattle.request_text.specs.PlainRequest.{PlainRequest}
 use Rattle.payment_states.proofs.FirstSteps.{find_agree}

@@ -1,7 +1,7 @@
 -- What a job is opened with.
 use Rattle.std.specs.Prelude.{ℕ, ◌≡◌, ◌≢◌, ◌++◌, List, [], ◌∷◌, Bool, true, false, not, Option, Some, None, Result, Ok, Err, filter, is_some, length, nat_le}
 use Rattle.std.proofs.Common.{refl, sym, ap, ◌∙◌, cond}
-use Rattle.fund_base.specs.declared.candidate.Candidate.{Candidate}
+use Rattle.coin_candidates.specs.declared.candidate.Candidate.{Candidate}
 use Rattle.fund_steps.specs.Faults as plans
 use Rattle.fund_steps.specs.Plan.{IsFault, PlainPlan}
 use Rattle.fund_steps.specs.declared.fault.PlanFault.{PlanFault}

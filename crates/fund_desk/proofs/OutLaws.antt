@@ -1,7 +1,7 @@
 -- A payment that is given out.
 use Rattle.std.specs.Prelude.{ℕ, ◌≡◌, List}
 use Rattle.std.proofs.Common.{ap, ◌∙◌, subst}
-use Rattle.fund_base.specs.declared.candidate.Candidate.{Candidate}
+use Rattle.coin_candidates.specs.declared.candidate.Candidate.{Candidate}
 use Rattle.fund_base.specs.declared.outpoint.OutPoint.{OutPoint}
 use Rattle.fund_files.specs.declared.held.Held.{Held}
 use Rattle.fund_payment.specs.Report.{psbt_of}

@@ -4,7 +4,7 @@ use Rattle.std.specs.Option.{option_map_or}
 use Rattle.indexmap.specs.IndexSet.{contains}
 use Rattle.coin_book.specs.AtOutpoint.{coin_under}
 use Rattle.fund_base.specs.Outpoints.{same_outpoint}
-use Rattle.fund_base.specs.declared.candidate.Candidate.{Candidate}
+use Rattle.coin_candidates.specs.declared.candidate.Candidate.{Candidate}
 use Rattle.fund_base.specs.declared.outpoint.OutPoint.{OutPoint}
 use Rattle.fund_files.specs.declared.held.Held.{Held}
 use Rattle.payment_states.specs.Candidates.{is_candidate, is_claimed, is_locked, is_pending}

@@ -4,12 +4,13 @@ ghost use Rattle.std.specs.Prelude.{◌≡◌, ◌||◌, IfOk, OnOk, not, filter
 ghost use Rattle.std.specs.List.{list_any};
 ghost use Rattle.indexmap.specs.IndexSet.{contains};
 ghost use Rattle.fund_base.specs.Outpoints.{same_outpoint};
-ghost use Rattle.fund_base.specs.declared.candidate.Candidate.{Candidate};
+ghost use Rattle.coin_candidates.specs.declared.candidate.Candidate.{Candidate};
 ghost use Rattle.fund_base.specs.declared.outpoint.OutPoint.{OutPoint};
 ghost use Rattle.desk_machine.specs.Machine.{has_txid, without_payment};
 ghost use Rattle.desk_machine.specs.State.{has_point, is_reserved, points};
 
-use fund_base::{Candidate, Memory, OutPoint, Txid};
+use coin_candidates::Candidate;
+use fund_base::{Memory, OutPoint, Txid};
 use indexmap::IndexSet;
 use std::alloc::Global;
 use std::marker::Model;

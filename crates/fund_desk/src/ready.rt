@@ -3,7 +3,7 @@
 
 ghost use Rattle.std.specs.Prelude.{◌≡◌, IfOk, filter, find};
 ghost use Rattle.std.specs.List.{filter_map};
-ghost use Rattle.fund_base.specs.Candidates.{AreCandidates};
+ghost use Rattle.coin_candidates.specs.Candidates.{AreCandidates};
 ghost use Rattle.fund_files.specs.Chain.{IsHeld};
 ghost use Rattle.payment_states.specs.Candidates.{is_candidate, is_live};
 ghost use Rattle.desk_machine.specs.State.{candidates_in, points};
@@ -11,7 +11,8 @@ ghost use Rattle.fund_desk.specs.Looked.{is_at};
 ghost use Rattle.fund_desk.specs.Ready.{IsOneAtEach, IsKnownOf, is_ready};
 
 use coin_book::Coin;
-use fund_base::{Candidate, Memory, OutPoint};
+use coin_candidates::Candidate;
+use fund_base::{Memory, OutPoint};
 use fund_files::Held;
 use payment_facts::facts_of_coins;
 use payment_states::{

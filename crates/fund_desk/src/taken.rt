@@ -3,7 +3,7 @@
 ghost use Rattle.std.specs.Prelude.{◌≡◌, IfOk, find, option_copied, option_map};
 ghost use Rattle.std.specs.Map.{lookup};
 ghost use Rattle.fund_base.specs.Outpoints.{same_outpoint};
-ghost use Rattle.fund_base.specs.declared.candidate.Candidate.{Candidate};
+ghost use Rattle.coin_candidates.specs.declared.candidate.Candidate.{Candidate};
 ghost use Rattle.fund_base.specs.declared.outpoint.OutPoint.{OutPoint};
 ghost use Rattle.fund_files.specs.Chain.{IsHeld};
 ghost use Rattle.fund_desk.specs.Looked.{IsLookOf, good_in, is_at, same_as, taken_in};
@@ -13,7 +13,8 @@ ghost use Rattle.desk_machine.specs.Taken.{first_taken, meets_numbered, meets_ro
 
 use crate::payments::{Committed, reserved_of, set_of};
 use crate::ready::ready_of;
-use fund_base::{Candidate, Memory, OutPoint};
+use coin_candidates::Candidate;
+use fund_base::{Memory, OutPoint};
 use fund_files::Held;
 use fund_plan::Funded;
 use indexmap::{IndexMap, IndexSet};

@@ -1,6 +1,6 @@
 -- What only reads, and then only reads again, only reads.
 use Rattle.std.proofs.Common.{◌∙◌, ℕ, arith}
-use Rattle.fund_base.specs.Causes.{OnlyReads, ShelfView}
+use Rattle.fund_shelf.specs.Causes.{OnlyReads, ShelfView}
 
 pub only_reads_on : (told : Type 0) (old middle new : ShelfView) → OnlyReads told old middle → OnlyReads told middle new → OnlyReads told old new
 only_reads_on told old middle new a b = record {

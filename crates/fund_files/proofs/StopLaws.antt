@@ -1,8 +1,8 @@
 -- A stop at one file is a stop of the reading of all.
 use Rattle.std.proofs.Common.{◌≡◌, ℕ, ◌≤◌, ◌<◌, List, [], length, Some, Err, Ok, Result, inl, inr, refl, sym, subst, arith}
 use Rattle.std.specs.Prelude.{IfErr}
-use Rattle.fund_base.specs.Causes.{ShelfView, OnlyReads, Rose}
-use Rattle.fund_base.proofs.Outside.{rose_earlier}
+use Rattle.fund_shelf.specs.Causes.{ShelfView, OnlyReads, Rose}
+use Rattle.fund_shelf.proofs.Outside.{rose_earlier}
 use Rattle.block_feed.specs.Blocks.{blocks_of}
 use Rattle.block_feed.specs.declared.fault.FeedFault.{FeedFault}
 use Rattle.block_feed.specs.declared.fault.FeedFault.TheVariants as faults

@@ -7,9 +7,9 @@ use Rattle.block_feed.specs.declared.fault.FeedFault.{FeedFault}
 use Rattle.block_feed.specs.declared.fault.FeedFault.TheVariants as feeds
 use Rattle.coin_book.specs.Faults.{fault_of}
 use Rattle.coin_book.specs.declared.fault.BookFault.{BookFault}
-use Rattle.fund_base.specs.Causes.{ShelfView, Rose}
-use Rattle.fund_base.specs.declared.pieces.ReadError.{ReadError}
-use Rattle.fund_base.specs.declared.pieces.ReadError.TheVariants as reads
+use Rattle.fund_shelf.specs.Causes.{ShelfView, Rose}
+use Rattle.fund_shelf.specs.declared.pieces.ReadError.{ReadError}
+use Rattle.fund_shelf.specs.declared.pieces.ReadError.TheVariants as reads
 use Rattle.request_text.specs.RequestText.{request_of}
 use Rattle.request_text.specs.declared.fault.Refusal as requests
 use Rattle.wallet_text.specs.PlainWallet.{PlainWallet}

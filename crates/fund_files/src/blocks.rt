@@ -1,7 +1,7 @@
 //! The blocks of the block file, read one by one into the book.
 
 ghost use Rattle.std.specs.Prelude.{◌≡◌, ◌≢◌, [], ◌∷◌, false, Ok, Err, IfErr, IsErrOf, IfOk};
-ghost use Rattle.fund_base.specs.Causes.{Asks, OnlyReads, Rose};
+ghost use Rattle.fund_shelf.specs.Causes.{Asks, OnlyReads, Rose};
 ghost use Rattle.block_feed.specs.Block.{ChainBlock};
 ghost use Rattle.block_feed.specs.Blocks.{blocks_of};
 ghost use Rattle.fund_files.specs.Behind.{IsBehind};
@@ -17,13 +17,14 @@ use crate::refusal::{File, FileRefusal};
 use crate::stop::Stop;
 use block_feed::{Feed, FeedFault};
 use coin_book::{Book, BookFault};
-use fund_base::{Memory, Shelf};
+use fund_base::Memory;
+use fund_shelf::Shelf;
 use std::alloc::Global;
 use wallet_text::Wallet;
 
 /// What the wallet's earlier transactions make with those of the file `name`, whose blocks stand behind the wallet's,
 /// and the tip. The file is read to its end whatever the book says. The error is the first fault of the file.
-#[tactic(auto, using(fund_base::proofs::Asking::asks_none, fund_base::proofs::Asking::asks_again))]
+#[tactic(auto, using(fund_shelf::proofs::Asking::asks_none, fund_shelf::proofs::Asking::asks_again))]
 fn read_blocks<H: Shelf>(
     alloc: Global,
     shelf: &mut H,

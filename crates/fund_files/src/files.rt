@@ -1,7 +1,7 @@
 //! The wallet file, the block file and the request file, read one by one.
 
 ghost use Rattle.std.specs.Prelude.{◌≡◌, ◌≢◌, ◌≤◌, ◌<◌, [], ◌∷◌, true, length, Ok, Err, IfOk, IfErr, OnOk};
-ghost use Rattle.fund_base.specs.Causes.{Asks, OnlyReads, Rose};
+ghost use Rattle.fund_shelf.specs.Causes.{Asks, OnlyReads, Rose};
 ghost use Rattle.request_text.specs.RequestText.{request_of};
 ghost use Rattle.wallet_text.specs.WalletRules.{IsWallet};
 ghost use Rattle.wallet_text.specs.WalletText.{wallet_of};
@@ -14,7 +14,7 @@ use crate::blocks::book_from;
 use crate::held::Held;
 use crate::refusal::{File, FileRefusal};
 use crate::stop::Stop;
-use fund_base::{ReadError, Shelf, read_whole};
+use fund_shelf::{ReadError, Shelf, read_whole};
 use request_text::{Request, RequestFault, read_request};
 use std::alloc::Global;
 use wallet_text::{Wallet, WalletFault, read_wallet};

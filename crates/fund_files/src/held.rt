@@ -1,13 +1,14 @@
 //! A wallet, its coins, and where its chain ends.
 
 ghost use Rattle.std.specs.Prelude.{◌≡◌, IfOk};
-ghost use Rattle.fund_base.specs.Candidates.{AreCandidates};
+ghost use Rattle.coin_candidates.specs.Candidates.{AreCandidates};
 ghost use Rattle.payment_states.specs.Candidates.{candidates_of};
 ghost use Rattle.payment_states.specs.Payments.{payments_of};
 ghost use Rattle.fund_files.specs.Chain.{IsHeld};
 
 use coin_book::Book;
-use fund_base::{Candidate, Memory};
+use coin_candidates::Candidate;
+use fund_base::Memory;
 use payment_states::{States, all_states, candidates};
 use std::alloc::Global;
 use wallet_text::Wallet;

@@ -1,6 +1,6 @@
 -- The keeper in memory whose failures are told beforehand.
 use Rattle.std.specs.Prelude.{ℕ, length}
-use Rattle.fund_base.specs.Failures.{FailurePlan}
+use Rattle.fund_shelf.specs.Failures.{FailurePlan}
 use Rattle.fund_outside.specs.Jobs.{job_of}
 use Rattle.fund_outside.specs.Kept.{KeeperView}
 use Rattle.fund_outside.specs.declared.mem_keeper.MemKeeper.{MemKeeper}

@@ -1,7 +1,7 @@
 //! Jobs as the tool keeps them.
 
 ghost use Rattle.std.specs.Prelude.{◌≡◌, ◌≤◌, IfOk, OnOk, OnErr, IsErrOf};
-ghost use Rattle.fund_base.specs.Causes.{Rose};
+ghost use Rattle.fund_shelf.specs.Causes.{Rose};
 ghost use Rattle.fund_outside.specs.Kept.{KeeperView, SameForOthers, after_save, part_in, saved_in, told_bytes};
 
 use std::alloc::AllocError;

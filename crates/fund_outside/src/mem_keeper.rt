@@ -1,13 +1,13 @@
 //! Jobs kept in memory, where some calls fail.
 
 ghost use Rattle.std.specs.Prelude.{◌≡◌, ◌≤◌, ◌+◌, ◌↔◌, is_some, None, IfOk, OnOk, OnErr, IsErrOf, IsTrue, if◌then◌else◌};
-ghost use Rattle.fund_base.specs.Causes.{Rose, one_more};
-ghost use Rattle.fund_base.specs.Failures.{is_due, after_call};
+ghost use Rattle.fund_shelf.specs.Causes.{Rose, one_more};
+ghost use Rattle.fund_shelf.specs.Failures.{is_due, after_call};
 ghost use Rattle.fund_outside.specs.Kept.{SameForOthers, after_save, part_in, saved_in, told_bytes};
 
 use crate::jobs::{self, Job};
 use crate::keeper::{KeepFault, Keeper};
-use fund_base::Failures;
+use fund_shelf::Failures;
 use std::alloc::Global;
 
 /// Jobs kept in memory, where failures are told beforehand. A job that is saved again takes the place of what was

@@ -1,7 +1,7 @@
 //! Jobs kept in memory without a failure.
 
 ghost use Rattle.std.specs.Prelude.{◌≡◌, ◌≤◌, ◌+◌, is_some, None, IfOk, OnOk, OnErr, IsErrOf, if◌then◌else◌};
-ghost use Rattle.fund_base.specs.Causes.{Rose};
+ghost use Rattle.fund_shelf.specs.Causes.{Rose};
 ghost use Rattle.fund_outside.specs.Kept.{SameForOthers, after_save};
 
 use crate::jobs::{self, Job};

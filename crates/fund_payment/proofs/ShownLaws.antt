@@ -9,7 +9,7 @@ use Rattle.std.proofs.lemmas.Option.{none-some}
 use Rattle.coin_book.specs.Coins.{parent_of}
 use Rattle.coin_book.specs.History.{History}
 use Rattle.fee_rates.specs.Output.{IsProgram, is_program_of}
-use Rattle.fund_base.specs.declared.candidate.Candidate.{Candidate}
+use Rattle.coin_candidates.specs.declared.candidate.Candidate.{Candidate}
 use Rattle.fund_plan.specs.Pays.{payment_from, unsigned_input}
 use Rattle.fund_plan.specs.Selection.{PlainFunded}
 use Rattle.payment_states.specs.Makers.{HasMaker, output_of}

@@ -3,7 +3,7 @@ use Rattle.std.specs.Prelude.{ℕ, List, map, Some, None, if◌then◌else◌}
 use Rattle.coin_book.specs.Coins.{parent_of}
 use Rattle.coin_book.specs.History.{History}
 use Rattle.fee_rates.specs.Output.{is_program_of}
-use Rattle.fund_base.specs.declared.candidate.Candidate.{Candidate}
+use Rattle.coin_candidates.specs.declared.candidate.Candidate.{Candidate}
 use Rattle.fund_plan.specs.Figures.{figures_of}
 use Rattle.fund_plan.specs.Pays.{payment_of}
 use Rattle.fund_plan.specs.Selection.{PlainFunded}

@@ -2,7 +2,7 @@
 use Rattle.std.specs.Prelude.{◌≡◌, ◌⊎◌, ◌↔◌, List, map, Some, None}
 use Rattle.std.specs.List.{AllZip}
 use Rattle.fee_rates.specs.Output.{IsProgram}
-use Rattle.fund_base.specs.declared.candidate.Candidate.{Candidate}
+use Rattle.coin_candidates.specs.declared.candidate.Candidate.{Candidate}
 use Rattle.payment_states.specs.Makers.{Makes, output_of}
 use Rattle.psbt_codec.specs.PartialTransaction.{PartialTransaction}
 use Rattle.psbt_codec.specs.declared.psbt.Spent.{Spent}

@@ -10,7 +10,8 @@ ghost use Rattle.fund_payment.specs.Shown.{ShowsCoins};
 
 use crate::laws::inputs_show_coins;
 use crate::signing::psbt_text;
-use fund_base::{Candidate, Memory};
+use coin_candidates::Candidate;
+use fund_base::Memory;
 use fund_files::Held;
 use fund_plan::{Figures, Funded};
 use fund_report::{FundedReport, InLine, Report, write_report};

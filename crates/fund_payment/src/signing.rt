@@ -3,7 +3,7 @@
 ghost use Rattle.std.specs.Prelude.{◌≡◌, ◌≤◌, All, map, IfOk, string_bytes};
 ghost use Rattle.tx_codec.specs.declared.tx.TxIn.{TxIn};
 ghost use Rattle.psbt_codec.specs.Psbt.{IsPsbt, IsSpent};
-ghost use Rattle.fund_base.specs.declared.candidate.Candidate.{Candidate};
+ghost use Rattle.coin_candidates.specs.declared.candidate.Candidate.{Candidate};
 ghost use Rattle.fund_plan.specs.Answer.{IsSelection};
 ghost use Rattle.fund_files.specs.Chain.{HasTexts, IsHeld};
 ghost use Rattle.payment_states.specs.Candidates.{candidates_of};
@@ -11,8 +11,9 @@ ghost use Rattle.payment_states.specs.Makers.{HasMaker};
 ghost use Rattle.fund_payment.specs.Report.{psbt_of, psbt_text_of, spent_of};
 
 use coin_book::Book;
+use coin_candidates::Candidate;
 use fee_rates::is_program;
-use fund_base::{Candidate, MAX_MONEY, Memory, Sat, are_bytes};
+use fund_base::{MAX_MONEY, Memory, Sat, are_bytes};
 use fund_files::Held;
 use fund_plan::{Funded, pays_in_text, unsigned};
 use payment_states::candidates_have_makers;

@@ -2,8 +2,8 @@
 use Rattle.std.specs.Prelude.{◌≤◌, List, All, Contains, IfSome, Option, Some, None, length}
 use Rattle.std.proofs.Common.{arith}
 use Rattle.std.proofs.lemmas.List.Elements.{All-contains, All-weaker}
-use Rattle.fund_base.specs.Candidates.{AreCandidates, IsCandidate}
-use Rattle.fund_base.specs.declared.candidate.Candidate.{Candidate}
+use Rattle.coin_candidates.specs.Candidates.{AreCandidates, IsCandidate}
+use Rattle.coin_candidates.specs.declared.candidate.Candidate.{Candidate}
 use Rattle.fund_steps.proofs.BumpLaws.{coins_each}
 use Rattle.fund_steps.specs.Amounts.{AreWithin}
 use Rattle.fund_steps.specs.Plan.{IsBump, IsPlan, PlainBump, PlainPlan, coins_in, coins_with}

@@ -9,10 +9,10 @@ use Rattle.std.proofs.lemmas.List.Elements.{All-append, All-contains, All-contai
 use Rattle.std.proofs.lemmas.List.Sums.{sum_by-append, sum_by-cons}
 use Rattle.std.specs.Ordering.{ordering_reverse}
 use Rattle.fund_base.proofs.OutpointLaws.{outpoint_total}
-use Rattle.fund_base.specs.Candidates.{IsCandidate}
+use Rattle.coin_candidates.specs.Candidates.{IsCandidate}
 use Rattle.fund_base.specs.Outpoints.{outpoint_cmp}
 use Rattle.fund_base.specs.declared.outpoint.OutPoint.{OutPoint}
-use Rattle.fund_base.specs.declared.candidate.Candidate.{Candidate}
+use Rattle.coin_candidates.specs.declared.candidate.Candidate.{Candidate}
 use Rattle.fee_rates.specs.Fee.{input_fee_of}
 use Rattle.fee_rates.specs.declared.terms.Load.{Load}
 use Rattle.fee_rates.specs.Terms.{base_of, big_of, change_fee_of, change_least_of, change_limit_of, hi_of, small_of, target_of, terms_of}

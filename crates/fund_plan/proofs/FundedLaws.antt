@@ -6,7 +6,7 @@ use Rattle.closing_log.specs.declared.log.Stage.{Stage}
 use Rattle.closing_log.specs.declared.mark.Mark.{Mark}
 use Rattle.fee_rates.specs.declared.terms.Load.{Load}
 use Rattle.fee_rates.specs.declared.terms.Rates.{Rates}
-use Rattle.fund_base.specs.declared.candidate.Candidate.{Candidate}
+use Rattle.coin_candidates.specs.declared.candidate.Candidate.{Candidate}
 use Rattle.output_groups.specs.PlainPool.{PlainPool}
 use Rattle.output_groups.specs.declared.rows.Row.{Row}
 use Rattle.pick_problem.specs.Problem.{Rising}

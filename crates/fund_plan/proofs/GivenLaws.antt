@@ -10,7 +10,7 @@ use Rattle.fund_steps.proofs.TermLaws.{met_where}
 use Rattle.fee_rates.specs.Fee.{fee_of, vsize_of}
 use Rattle.fee_rates.specs.Terms.{base_of, target_of}
 use Rattle.request_text.specs.PlainRequest.{paid_to}
-use Rattle.fund_base.specs.declared.candidate.Candidate.{Candidate}
+use Rattle.coin_candidates.specs.declared.candidate.Candidate.{Candidate}
 use Rattle.fund_steps.specs.Amounts.{fees_of, value_of}
 use Rattle.fund_steps.specs.Listed.{burden_in, presets_in}
 use Rattle.fund_steps.specs.Plan.{IsPlan, PlainPlan}

@@ -1,7 +1,7 @@
 -- What the payment of a row is to carry, part by part, and that no row has too many groups.
 use Rattle.std.specs.Prelude.{ℕ, ◌≡◌, ◌≤◌, Bool, List}
 use Rattle.std.proofs.Common.{ap, subst, arith}
-use Rattle.fund_base.specs.declared.candidate.Candidate.{Candidate}
+use Rattle.coin_candidates.specs.declared.candidate.Candidate.{Candidate}
 use Rattle.fee_rates.specs.declared.terms.Load.{Load}
 use Rattle.output_groups.specs.Pool.{CountsKept, IsDue}
 use Rattle.output_groups.specs.declared.fault.PoolFault.TheVariants.{TooMany}

@@ -10,7 +10,7 @@ use Rattle.closing_log.specs.declared.log.Stage.TheVariants as stage
 use Rattle.closing_log.specs.declared.mark.Mark.{Mark}
 use Rattle.fee_rates.specs.Fee.{fee_of, input_fee_of, vsize_of}
 use Rattle.fee_rates.specs.Terms.{base_of, change_fee_of, change_spend_of, target_of, terms_of}
-use Rattle.fund_base.specs.declared.candidate.Candidate.{Candidate}
+use Rattle.coin_candidates.specs.declared.candidate.Candidate.{Candidate}
 use Rattle.output_groups.specs.Measures.{coin_cost, cost_of as group_cost}
 use Rattle.output_groups.specs.Pool.{item_of}
 use Rattle.output_groups.specs.declared.rows.Row.{Row}

@@ -1,7 +1,7 @@
 -- A plan has one outcome.
 use Rattle.std.specs.Prelude.{ℕ, ◌≡◌, ◌≤◌, ◌+◌, ◌↔◌, List, Option, Some, None}
 use Rattle.std.proofs.Common.{refl, sym, ap, subst, ◌∙◌, arith}
-use Rattle.fund_base.specs.declared.candidate.Candidate.{Candidate}
+use Rattle.coin_candidates.specs.declared.candidate.Candidate.{Candidate}
 use Rattle.tx_codec.specs.Transaction.{Transaction}
 use Rattle.fee_rates.specs.Fee.{fee_of, vsize_of}
 use Rattle.fee_rates.specs.Terms.{base_of, change_fee_of, change_least_of}

@@ -5,7 +5,7 @@ use Rattle.std.proofs.lemmas.List.{length-append}
 use Rattle.std.proofs.lemmas.List.Elements.{All-contains, All-contains_itself, Contains-get_or}
 use Rattle.closing_log.specs.declared.mark.Mark.{Mark}
 use Rattle.closing_log.specs.declared.mark.Mark.TheVariants as mark
-use Rattle.fund_base.specs.declared.candidate.Candidate.{Candidate}
+use Rattle.coin_candidates.specs.declared.candidate.Candidate.{Candidate}
 use Rattle.output_groups.specs.Measures.{IsGroup}
 use Rattle.pick_problem.specs.Problem.{Rising}
 use Rattle.search_run.specs.Found.{IsResultOf, PlainFound}

@@ -15,7 +15,7 @@ use Rattle.fund_base.specs.Outpoints.{outpoint_cmp}
 use Rattle.fund_base.specs.declared.outpoint.OutPoint.{OutPoint}
 use Rattle.fund_steps.specs.Selection.{by_outpoint, in_order}
 use Rattle.fund_base.proofs.Lists.{cons_cases, in_tail}
-use Rattle.fund_base.specs.declared.candidate.Candidate.{Candidate}
+use Rattle.coin_candidates.specs.declared.candidate.Candidate.{Candidate}
 use Rattle.output_groups.proofs.Members.{all_from, head_in}
 use Rattle.output_groups.specs.Pool.{AreOnce}
 use Rattle.pick_problem.specs.Problem.{Rising}

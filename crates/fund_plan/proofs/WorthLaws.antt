@@ -1,7 +1,7 @@
 -- What a change and a sequence are worth, in the words of the script, the wallet and the request.
 use Rattle.std.specs.Prelude.{ℕ, ◌≡◌, ◌≤◌, ◌<◌, ◌==◌, Bool, true, false, List, [], ◌∷◌, map, length, Any, IsTrue, ◌↔◌, Option, Some, None, IfSome}
 use Rattle.std.proofs.Common.{refl, sym, ap, subst, arith}
-use Rattle.fund_base.specs.declared.candidate.Candidate.{Candidate}
+use Rattle.coin_candidates.specs.declared.candidate.Candidate.{Candidate}
 use Rattle.tx_codec.specs.Signals.{Signals}
 use Rattle.tx_codec.specs.declared.tx.TxIn.{TxIn}
 use Rattle.fee_rates.specs.Fee.{input_fee_of}

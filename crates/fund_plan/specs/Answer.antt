@@ -2,7 +2,7 @@
 use Rattle.std.specs.Prelude.{ℕ, ◌≡◌, ◌≤◌, ◌<◌, ◌⊎◌, ◌==◌, Bool, true, false, List, length, All, Contains, Option, IfSome}
 use Rattle.closing_log.specs.declared.log.Stage.TheVariants as stage
 use Rattle.closing_log.specs.declared.mark.Mark.TheVariants as mark
-use Rattle.fund_base.specs.declared.candidate.Candidate.{Candidate}
+use Rattle.coin_candidates.specs.declared.candidate.Candidate.{Candidate}
 use Rattle.tx_codec.specs.Transaction.{Transaction}
 use Rattle.request_text.specs.PlainRequest.{PlainRequest}
 use Rattle.fund_steps.specs.Amounts.{AreWithin, value_of}

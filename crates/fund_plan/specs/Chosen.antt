@@ -8,7 +8,7 @@ use Rattle.closing_log.specs.declared.mark.Mark.TheVariants as mark
 use Rattle.fee_rates.specs.Terms.{change_fee_of, target_of}
 use Rattle.fee_rates.specs.declared.terms.Load.{Load}
 use Rattle.fee_rates.specs.declared.terms.Rates.{Rates}
-use Rattle.fund_base.specs.declared.candidate.Candidate.{Candidate}
+use Rattle.coin_candidates.specs.declared.candidate.Candidate.{Candidate}
 use Rattle.output_groups.specs.declared.rows.Row.{Row}
 use Rattle.request_text.specs.PlainRequest.{PlainRequest}
 use Rattle.search_run.specs.Found.{PlainFound}

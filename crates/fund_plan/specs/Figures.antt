@@ -1,6 +1,6 @@
 -- Weight, fee and waste of a payment.
 use Rattle.std.specs.Prelude.{ℕ, ℤ, pos, ◌≡◌, ◌≤◌, ◌+◌, ◌-◌, ◌*◌, ◌+ℤ◌, ◌-ℤ◌, List, sum_by, Option, Some, None}
-use Rattle.fund_base.specs.declared.candidate.Candidate.{Candidate}
+use Rattle.coin_candidates.specs.declared.candidate.Candidate.{Candidate}
 use Rattle.tx_codec.specs.declared.tx.TxOut.{TxOut}
 use Rattle.fee_rates.specs.Fee.{fee_of, vsize_of}
 use Rattle.fee_rates.specs.Terms.{base_of, change_fee_of, change_spend_of}

@@ -3,7 +3,8 @@
 ghost use Rattle.std.specs.Prelude.{◌≡◌, ◌≤◌, ◌++◌, All, IfOk, OnOk, length, sum};
 ghost use Rattle.fund_steps.specs.Selection.{in_order};
 
-use fund_base::{Candidate, Memory};
+use coin_candidates::Candidate;
+use fund_base::Memory;
 use fund_steps::in_order;
 use std::alloc::Global;
 

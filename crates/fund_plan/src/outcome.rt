@@ -1,7 +1,7 @@
 //! What a plan comes to.
 
 use closing_log::{Mark, Stage};
-use fund_base::Candidate;
+use coin_candidates::Candidate;
 use std::marker::Model;
 
 /// Where a plan stands.

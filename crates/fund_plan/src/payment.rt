@@ -7,7 +7,8 @@ ghost use Rattle.request_text.specs.declared.request.Recipient.{Recipient};
 ghost use Rattle.fund_plan.specs.Pays.{change_outputs, outputs_of, payment_of, recipient_output, sequence_of, unsigned_input};
 
 use crate::outcome::Funded;
-use fund_base::{Candidate, MAX_MONEY, Memory, Sat, Script, are_bytes};
+use coin_candidates::Candidate;
+use fund_base::{MAX_MONEY, Memory, Sat, Script, are_bytes};
 use request_text::{Recipient, Request};
 use std::alloc::Global;
 use tx_codec::{Tx, TxIn, TxOut, Witness};

@@ -1,7 +1,7 @@
 //! Plans, and how they go on.
 
 ghost use Rattle.std.specs.Prelude.{◌≡◌, ◌-◌, ◌↔◌, ◌≤◌, min, All, Err, IfErr, IfOk, OnErr, OnOk, None};
-ghost use Rattle.fund_base.specs.Candidates.{AreCandidates};
+ghost use Rattle.coin_candidates.specs.Candidates.{AreCandidates};
 ghost use Rattle.wallet_text.specs.WalletRules.{IsWatch};
 ghost use Rattle.fund_steps.specs.Plan.{HasEligible, IsBumpFor, IsFault, IsPlan, IsRoomy, IsWithin, ladder_in};
 ghost use Rattle.fund_plan.specs.Answer.{ArePayments, HasSelection};
@@ -21,7 +21,8 @@ use crate::fault::{CheckAt, PlanSavedFault};
 use crate::funding::Funding;
 use crate::outcome::{Outcome, Place};
 use closing_log::{LogText, Mark};
-use fund_base::{Candidate, Memory};
+use coin_candidates::Candidate;
+use fund_base::Memory;
 use fund_steps::{BumpInput, Funds, PlanFault, Prepared};
 use request_text::Request;
 use search_keep::{Saved, SavedFault};

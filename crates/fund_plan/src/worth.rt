@@ -10,8 +10,9 @@ ghost use Rattle.fund_plan.specs.Figures.{waste_of};
 ghost use Rattle.fund_plan.specs.Pays.{due_of, payment_weight};
 
 use closing_log::Stage;
+use coin_candidates::Candidate;
 use fee_rates::{Load, MAX_RATE, Rates, Terms, fee, vsize};
-use fund_base::{Candidate, MAX_MONEY};
+use fund_base::MAX_MONEY;
 use fund_steps::{effective, fees, value, weight};
 
 /// What the inputs of a payment without change have to bring: the outputs, the fee of the base and those of the inputs,

@@ -7,9 +7,9 @@ use Rattle.std.proofs.lemmas.List.Folds.{Any-from_list_any, list_any-from_Any}
 use Rattle.std.proofs.lemmas.List.Sums.{sum_by-append}
 use Rattle.std.proofs.lemmas.Option.{same_Some}
 use Rattle.fund_base.proofs.OutpointLaws.{same_outpoint-Decides}
-use Rattle.fund_base.specs.Candidates.{AreCandidates, IsCandidate}
+use Rattle.coin_candidates.specs.Candidates.{AreCandidates, IsCandidate}
 use Rattle.fund_base.specs.Outpoints.{same_outpoint}
-use Rattle.fund_base.specs.declared.candidate.Candidate.{Candidate}
+use Rattle.coin_candidates.specs.declared.candidate.Candidate.{Candidate}
 use Rattle.output_groups.proofs.Members.{all_from, from_filter}
 use Rattle.request_text.specs.PlainRequest.{PlainRequest}
 use Rattle.fund_steps.specs.Amounts.{AreWithin, value_of}

@@ -9,7 +9,7 @@ use Rattle.std.proofs.lemmas.List.Elements.{All-contains}
 use Rattle.fund_base.proofs.OutpointLaws.{outpoint_total}
 use Rattle.fund_base.proofs.Lists.{in_tail, cons_cases}
 use Rattle.fund_base.specs.Outpoints.{outpoint_cmp}
-use Rattle.fund_base.specs.declared.candidate.Candidate.{Candidate}
+use Rattle.coin_candidates.specs.declared.candidate.Candidate.{Candidate}
 use Rattle.fund_base.specs.declared.outpoint.OutPoint.{OutPoint}
 use Rattle.fund_steps.specs.Listed.{AreListed}
 use Rattle.fund_steps.specs.Plan.{IsEligible, IsPlan, PlainPlan}

@@ -6,9 +6,9 @@ use Rattle.std.proofs.lemmas.Bool.{cond_both, both_ways, not-true, not-false, an
 use Rattle.std.proofs.lemmas.List.Elements.{All-nil, All-cons, All-contains, All-contains_itself, All-filter, Contains-append_right, All-weaker, filter_passes}
 use Rattle.std.proofs.lemmas.List.Folds.{Any-from_list_any, list_any-from_Any}
 use Rattle.std.proofs.lemmas.Option.{same_Some}
-use Rattle.fund_base.specs.Candidates.{AreCandidates}
+use Rattle.coin_candidates.specs.Candidates.{AreCandidates}
 use Rattle.fund_base.specs.Outpoints.{same_outpoint}
-use Rattle.fund_base.specs.declared.candidate.Candidate.{Candidate}
+use Rattle.coin_candidates.specs.declared.candidate.Candidate.{Candidate}
 use Rattle.fund_base.specs.declared.outpoint.OutPoint.{OutPoint}
 use Rattle.fund_base.proofs.OutpointLaws.{same_outpoint-Decides}
 use Rattle.request_text.specs.PlainRequest.{IsRequest, PlainRequest}

@@ -13,7 +13,7 @@ use Rattle.closing_log.specs.declared.log.Stage.TheVariants as stage
 use Rattle.fee_rates.specs.Terms.{terms_of}
 use Rattle.fee_rates.specs.declared.terms.Terms.{Terms}
 use Rattle.fee_rates.proofs.TermsLaws.{terms_agree}
-use Rattle.fund_base.specs.declared.candidate.Candidate.{Candidate}
+use Rattle.coin_candidates.specs.declared.candidate.Candidate.{Candidate}
 use Rattle.output_groups.specs.Ladder.{ladder_of}
 use Rattle.output_groups.specs.Measures.{gain, value_of as worth_of, weight_of as mass_of}
 use Rattle.output_groups.specs.PlainPool.{PlainPool}

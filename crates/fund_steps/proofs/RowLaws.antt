@@ -6,8 +6,8 @@ use Rattle.std.proofs.lemmas.List.Elements.{All-filter}
 use Rattle.std.proofs.lemmas.List.Kept.{AllPairs-filter}
 use Rattle.fee_rates.specs.declared.terms.Load.{Load}
 use Rattle.fee_rates.specs.declared.terms.Rates.{Rates}
-use Rattle.fund_base.specs.Candidates.{AreCandidates, IsCandidate}
-use Rattle.fund_base.specs.declared.candidate.Candidate.{Candidate}
+use Rattle.coin_candidates.specs.Candidates.{AreCandidates, IsCandidate}
+use Rattle.coin_candidates.specs.declared.candidate.Candidate.{Candidate}
 use Rattle.output_groups.specs.Ladder.{ladder_of}
 use Rattle.output_groups.specs.PlainGroups.{PlainGroups, pool_in}
 use Rattle.output_groups.specs.Pool.{CountsKept}

@@ -17,8 +17,8 @@ use Rattle.std.proofs.lemmas.Map.Views.{All-keys-insert_entry, All-values-insert
 use Rattle.fund_base.proofs.OutpointLaws.{outpoint_total, outpoint_equal}
 use Rattle.fund_base.specs.Outpoints.{outpoint_cmp, same_outpoint}
 use Rattle.fund_base.specs.declared.outpoint.OutPoint.{OutPoint}
-use Rattle.fund_base.specs.Candidates.{AreCandidates, IsCandidate}
-use Rattle.fund_base.specs.declared.candidate.Candidate.{Candidate}
+use Rattle.coin_candidates.specs.Candidates.{AreCandidates, IsCandidate}
+use Rattle.coin_candidates.specs.declared.candidate.Candidate.{Candidate}
 use Rattle.fund_steps.specs.Amounts.{AreWithin, value_of}
 use Rattle.output_groups.proofs.PartLaws.{filter_all, filter_none}
 use Rattle.request_text.specs.PlainRequest.{PlainRequest}

@@ -1,7 +1,7 @@
 -- What coins come to together.
 use Rattle.std.specs.Prelude.{ℕ, ◌≤◌, List, length, All, sum_by}
-use Rattle.fund_base.specs.Candidates.{IsCandidate}
-use Rattle.fund_base.specs.declared.candidate.Candidate.{Candidate}
+use Rattle.coin_candidates.specs.Candidates.{IsCandidate}
+use Rattle.coin_candidates.specs.declared.candidate.Candidate.{Candidate}
 use Rattle.fee_rates.specs.Fee.{input_fee_of}
 
 -- what they are worth, in satoshi

@@ -1,6 +1,6 @@
 -- What the steps of a plan are made from.
 use Rattle.std.specs.Prelude.{ℕ, List}
-use Rattle.fund_base.specs.declared.candidate.Candidate.{Candidate}
+use Rattle.coin_candidates.specs.declared.candidate.Candidate.{Candidate}
 use Rattle.fee_rates.specs.declared.terms.Load.{Load}
 use Rattle.request_text.specs.PlainRequest.{PlainRequest}
 use Rattle.wallet_text.specs.declared.wallet.Watch.{Watch}

@@ -1,6 +1,6 @@
 -- What funds hold of what they were made from.
 use Rattle.std.specs.Prelude.{pos, ◌≡◌, ◌≤ℤ◌, List}
-use Rattle.fund_base.specs.declared.candidate.Candidate.{Candidate}
+use Rattle.coin_candidates.specs.declared.candidate.Candidate.{Candidate}
 use Rattle.fee_rates.specs.Terms.{AreRates, IsLoad}
 use Rattle.fee_rates.specs.declared.terms.Rates.{Rates}
 use Rattle.fee_rates.specs.declared.terms.Load.{Load}

@@ -1,6 +1,6 @@
 -- The coins that each payment spends: those that a request lists, or those of the payment that it replaces.
 use Rattle.std.specs.Prelude.{ℕ, ◌≡◌, ◌⊎◌, ◌&&◌, Bool, List, filter, All, Contains, Option, Some, None}
-use Rattle.fund_base.specs.declared.candidate.Candidate.{Candidate}
+use Rattle.coin_candidates.specs.declared.candidate.Candidate.{Candidate}
 use Rattle.request_text.specs.PlainRequest.{PlainRequest}
 use Rattle.fund_steps.specs.Plan.{IsEligible, PlainBump, PlainPlan, may_be_listed}
 use Rattle.fund_steps.specs.Selection.{AreSorted, in_order, is_listed}

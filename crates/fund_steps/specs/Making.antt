@@ -4,7 +4,7 @@ use Rattle.fee_rates.specs.Terms.{AreRates, IsLoad, target_of, terms_of}
 use Rattle.fee_rates.specs.declared.terms.Load.{Load}
 use Rattle.fee_rates.specs.declared.terms.Rates.{Rates}
 use Rattle.fee_rates.specs.declared.terms.Terms.{Terms}
-use Rattle.fund_base.specs.declared.candidate.Candidate.{Candidate}
+use Rattle.coin_candidates.specs.declared.candidate.Candidate.{Candidate}
 use Rattle.output_groups.specs.PlainGroups.{PlainGroups}
 use Rattle.output_groups.specs.PlainPool.{PlainPool}
 use Rattle.output_groups.specs.Pool.{CountsKept}

@@ -1,7 +1,7 @@
 -- What plans are made from, and which requests none is made for.
 use Rattle.std.specs.Prelude.{ℕ, ◌≡◌, ◌≢◌, ◌+◌, ◌≤◌, ◌<◌, ◌⊎◌, ◌↔◌, ◌||◌, Bool, List, ◌∷◌, ◌++◌, length, All, Contains, IsTrue, IsSome, IfSome, Option, Some, None}
-use Rattle.fund_base.specs.Candidates.{AreCandidates}
-use Rattle.fund_base.specs.declared.candidate.Candidate.{Candidate}
+use Rattle.coin_candidates.specs.Candidates.{AreCandidates}
+use Rattle.coin_candidates.specs.declared.candidate.Candidate.{Candidate}
 use Rattle.fund_base.specs.declared.outpoint.OutPoint.{OutPoint}
 use Rattle.output_groups.specs.Ladder.{ladder_of}
 use Rattle.output_groups.specs.Pool.{CountsKept}

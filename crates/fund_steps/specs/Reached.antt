@@ -1,7 +1,7 @@
 -- What a choice from a row's pool brings, in sums over its coins.
 use Rattle.std.specs.Prelude.{ℕ, pos, ◌<◌, ◌≤◌, ◌≤ℤ◌, List, [], length, slice_index_or}
 use Rattle.std.specs.List.{flat_map}
-use Rattle.fund_base.specs.declared.candidate.Candidate.{Candidate}
+use Rattle.coin_candidates.specs.declared.candidate.Candidate.{Candidate}
 use Rattle.output_groups.specs.Measures.{value_of, weight_of}
 use Rattle.output_groups.specs.PlainPool.{PlainPool}
 use Rattle.pick_problem.specs.Problem.{Rising}

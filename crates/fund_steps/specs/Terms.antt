@@ -1,6 +1,6 @@
 -- What a request has to pay for, by the terms of its rates, where its coins are given.
 use Rattle.std.specs.Prelude.{ℕ, pos, ◌-ℤ◌, List, length, sum_by, min, not, ◌==◌}
-use Rattle.fund_base.specs.declared.candidate.Candidate.{Candidate}
+use Rattle.coin_candidates.specs.declared.candidate.Candidate.{Candidate}
 use Rattle.fee_rates.specs.Output.{output_size_of, dust_of}
 use Rattle.fee_rates.specs.declared.terms.Rates.{Rates}
 use Rattle.fee_rates.specs.declared.terms.Load.{Load}

@@ -1,13 +1,14 @@
 //! What coins come to together.
 
 ghost use Rattle.std.specs.Prelude.{◌≡◌, ◌≤◌, ◌<◌, ◌++◌, ◌^◌, ◌≤ℤ◌, ◌-ℤ◌, pos, neg_ℤ, IfSome};
-ghost use Rattle.fund_base.specs.Candidates.{AreCandidates};
+ghost use Rattle.coin_candidates.specs.Candidates.{AreCandidates};
 ghost use Rattle.fund_steps.specs.Amounts.{AreWithin, fees_of, value_of, weight_of};
 ghost use Rattle.fund_steps.specs.Plan.{coins_with};
 
 use crate::bump::BumpInput;
+use coin_candidates::Candidate;
 use fee_rates::{MAX_RATE, input_fee};
-use fund_base::{Candidate, MAX_MONEY};
+use fund_base::MAX_MONEY;
 
 /// What the candidates are worth together, in satoshi.
 fn total(candidates: &[Candidate]) -> u128

@@ -1,6 +1,6 @@
 //! What a payment that replaces another is given.
 
-use fund_base::Candidate;
+use coin_candidates::Candidate;
 use std::marker::Model;
 
 /// What a payment that replaces another is given (BIP 125, 'Implementation Details', rules 3 and 4).

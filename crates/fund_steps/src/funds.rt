@@ -1,7 +1,7 @@
 //! What a payment of a request is made from.
 
 ghost use Rattle.std.specs.Prelude.{◌≡◌, ◌≤ℤ◌, pos, All, IfErr, IfOk};
-ghost use Rattle.fund_base.specs.Candidates.{AreCandidates};
+ghost use Rattle.coin_candidates.specs.Candidates.{AreCandidates};
 ghost use Rattle.fee_rates.specs.Terms.{AreRates, IsLoad};
 ghost use Rattle.wallet_text.specs.WalletRules.{IsWatch};
 ghost use Rattle.search_run.specs.Step.{AreSteps};
@@ -21,8 +21,9 @@ use crate::presets::{Presets, presets_alone};
 use crate::selection::{Given, Parted, are_there, presets_and_burden, split};
 use crate::terms::{load, rates};
 use crate::turns::row_turns;
+use coin_candidates::Candidate;
 use fee_rates::{Load, Rates};
-use fund_base::{Candidate, MAX_MONEY};
+use fund_base::MAX_MONEY;
 use request_text::Request;
 use search_run::Step;
 use std::alloc::Global;

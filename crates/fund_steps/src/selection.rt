@@ -4,7 +4,7 @@ ghost use Rattle.std.specs.Prelude.{◌≡◌, ◌≢◌, ◌&&◌, ◌||◌, No
 ghost use Rattle.std.specs.BTreeMap.{insert_entry};
 ghost use Rattle.indexmap.specs.IndexSet.{contains};
 ghost use Rattle.fund_base.specs.Outpoints.{outpoint_cmp, same_outpoint};
-ghost use Rattle.fund_base.specs.declared.candidate.Candidate.{Candidate};
+ghost use Rattle.coin_candidates.specs.declared.candidate.Candidate.{Candidate};
 ghost use Rattle.fund_base.specs.declared.outpoint.OutPoint.{OutPoint};
 ghost use Rattle.fund_steps.specs.Listed.{burden_by, is_preset, presets_by};
 ghost use Rattle.fund_steps.specs.Selection.{by_outpoint, first_missing, has_coin, in_order, is_listed, unlisted};
@@ -12,7 +12,8 @@ ghost use Rattle.fund_steps.specs.declared.fault.PlanFault.TheVariants.{Memory a
 
 use crate::bump::BumpInput;
 use crate::fault::PlanFault;
-use fund_base::{Candidate, Memory, OutPoint};
+use coin_candidates::Candidate;
+use fund_base::{Memory, OutPoint};
 use indexmap::IndexSet;
 use request_text::Request;
 use std::alloc::Global;

@@ -10,8 +10,9 @@ ghost use Rattle.fund_steps.specs.Amounts.{AreWithin};
 ghost use Rattle.fund_steps.specs.Terms.{load_of, rates_of};
 
 use crate::amounts::{effective, weight};
+use coin_candidates::Candidate;
 use fee_rates::{Load, Rates, dust, output_size};
-use fund_base::{Candidate, MAX_MONEY};
+use fund_base::MAX_MONEY;
 use request_text::{Recipient, Request};
 use wallet_text::Watch;
 

@@ -1,7 +1,7 @@
 -- Which files a payment reads, with a job and without.
 use Rattle.std.proofs.Common.{◌≡◌, ℕ, List, Option, Some, None, refl}
 use Rattle.std.specs.Borrow.{Bor}
-use Rattle.fund_base.specs.Causes.{ShelfView}
+use Rattle.fund_shelf.specs.Causes.{ShelfView}
 use Rattle.command_end.specs.Names.{Sources}
 use Rattle.command_fund.specs.Inputs.{AsksInOrder, AsksTwice, NoneBehind}
 use Rattle.command_fund.specs.Names.{Payment, plain_job}

@@ -1,6 +1,6 @@
 -- The ends of each command are those of all, and the other way.
 use Rattle.std.proofs.Common.{ℕ, List, Option, inl, inr}
-use Rattle.fund_base.specs.Causes.{ShelfView, SinkView}
+use Rattle.fund_shelf.specs.Causes.{ShelfView, SinkView}
 use Rattle.fund_outside.specs.Kept.{KeeperView}
 use Rattle.command_end.specs.Names.{Sources}
 use Rattle.command_end.specs.declared.status.Status.{Status}

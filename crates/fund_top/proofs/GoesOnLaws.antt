@@ -1,7 +1,7 @@
 -- A job that was left by a run of the same files ends as that run without a stop.
 use Rattle.std.proofs.Common.{◌≡◌, ℕ, ◌+◌, ◌≤◌, List, Option, Some, inl, inr}
 use Rattle.block_feed.specs.Block.{ChainBlock}
-use Rattle.fund_base.specs.Causes.{ShelfView, SinkView}
+use Rattle.fund_shelf.specs.Causes.{ShelfView, SinkView}
 use Rattle.fund_files.specs.Chain.{held_of}
 use Rattle.fund_files.specs.declared.held.Held.{Held}
 use Rattle.fund_outside.specs.Kept.{KeeperView, KeptJob}

@@ -1,7 +1,7 @@
 -- A job that is refused for a fault of its own.
 use Rattle.std.proofs.Common.{◌≡◌, ◌∙◌, ℕ, List, Option, Some, None, inl, inr, refl, sym, ap}
 use Rattle.std.specs.Prelude.{◌⊎◌}
-use Rattle.fund_base.specs.Causes.{Rose, ShelfView, SinkView}
+use Rattle.fund_shelf.specs.Causes.{Rose, ShelfView, SinkView}
 use Rattle.fund_files.specs.Chain.{held_of}
 use Rattle.fund_files.specs.declared.refusal.File.{File}
 use Rattle.fund_outside.specs.Kept.{KeeperView, KeptJob}

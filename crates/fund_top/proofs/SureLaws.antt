@@ -1,7 +1,7 @@
 -- What is true of how a command ends whose files, sink and keeper are told.
 use Rattle.std.proofs.Common.{◌≡◌, ℕ, List, Option, Some, None, IfSome, inl, inr, arith, refl, subst}
 use Rattle.std.specs.Prelude.{◌≢◌, ◌⊎◌, ◌↔◌}
-use Rattle.fund_base.specs.Causes.{Rose, ShelfView, SinkView}
+use Rattle.fund_shelf.specs.Causes.{Rose, ShelfView, SinkView}
 use Rattle.fund_files.specs.FileStops as files
 use Rattle.fund_files.specs.declared.refusal.File.{File}
 use Rattle.fund_files.specs.declared.refusal.File.TheVariants.{Wallet, Blocks, Request}

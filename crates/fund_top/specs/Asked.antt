@@ -1,6 +1,6 @@
 -- Which files a command reads, and in what order.
 use Rattle.std.specs.Prelude.{◌≡◌, [], ◌∷◌, ◌++◌, Some, None}
-use Rattle.fund_base.specs.Causes.{Asks, ShelfView}
+use Rattle.fund_shelf.specs.Causes.{Asks, ShelfView}
 use Rattle.fund_files.specs.Cause.{FileCause}
 use Rattle.fund_files.specs.FileStops.{IsWalletCause}
 use Rattle.fund_steps.specs.Plan.{PlainPlan}

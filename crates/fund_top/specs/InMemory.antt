@@ -1,6 +1,6 @@
 -- How a command ends whose files, sink and keeper are in memory and never fail.
 use Rattle.std.specs.Prelude.{ℕ, ◌≡◌, ◌≢◌, ◌⊎◌, List, ◌++◌, Option, IfSome}
-use Rattle.fund_base.specs.Causes.{ShelfView, SinkView}
+use Rattle.fund_shelf.specs.Causes.{ShelfView, SinkView}
 use Rattle.fund_files.specs.Chain.{held_of}
 use Rattle.fund_outside.specs.Kept.{KeeperView}
 use Rattle.command_end.specs.Names.{Sources}

@@ -1,5 +1,5 @@
 -- The outside of a run: the files, the output and the jobs that it is lent.
-use Rattle.fund_base.specs.Causes.{ShelfView, SinkView}
+use Rattle.fund_shelf.specs.Causes.{ShelfView, SinkView}
 use Rattle.fund_outside.specs.Kept.{KeeperView}
 
 -- Whether the files, the output and the jobs tell their content; and the shelf, the sink and the keeper, as they are before the

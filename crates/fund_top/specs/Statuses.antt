@@ -1,7 +1,7 @@
 -- How a command ends, by its status.
 use Rattle.std.specs.Prelude.{ℕ, ◌≡◌, ◌≤◌, ◌+◌, ◌++◌, List, Option, Some, None}
 use Rattle.block_feed.specs.Block.{ChainBlock}
-use Rattle.fund_base.specs.Causes.{ShelfView, SinkView, Rose, SameElsewhere}
+use Rattle.fund_shelf.specs.Causes.{ShelfView, SinkView, Rose, SameElsewhere}
 use Rattle.fund_files.specs.Chain.{held_of}
 use Rattle.fund_files.specs.FileStops as files
 use Rattle.fund_files.specs.declared.held.Held.{Held}

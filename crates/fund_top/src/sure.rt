@@ -1,7 +1,7 @@
 //! The command on files and jobs in memory that never fail.
 
-ghost use Rattle.fund_base.specs.SureShelf.{view_of as shelf_view};
-ghost use Rattle.fund_base.specs.SureSink.{view_of as sink_view};
+ghost use Rattle.fund_shelf.specs.SureShelf.{view_of as shelf_view};
+ghost use Rattle.fund_shelf.specs.SureSink.{view_of as sink_view};
 ghost use Rattle.fund_outside.specs.SureKeeper.{view_of as keeper_view};
 ghost use Rattle.fund_top.specs.InMemory.{RunsInMemory};
 ghost use Rattle.fund_top.specs.Outside.{in_memory};
@@ -9,8 +9,8 @@ ghost use Rattle.fund_top.specs.Words.{command_of};
 
 use crate::top::run;
 use command_end::Status;
-use fund_base::{SureShelf, SureSink};
 use fund_outside::SureKeeper;
+use fund_shelf::{SureShelf, SureSink};
 use std::alloc::Global;
 
 /// [`run`] on files, a sink and a keeper in memory that never fail: the status is that of what the files and the job come to,

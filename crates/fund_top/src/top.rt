@@ -20,8 +20,8 @@ use command_end::{Status, put_line};
 use command_fund::fund;
 use command_resume::resume;
 use command_work::work;
-use fund_base::{Shelf, Sink};
 use fund_outside::Keeper;
+use fund_shelf::{Shelf, Sink};
 use std::alloc::Global;
 
 /// The line of words that are no command.

@@ -1,7 +1,7 @@
 //! Jobs kept in a file of the current folder.
 
 ghost use Rattle.std.specs.Prelude.{◌≡◌, ◌≤◌, [], ◌∷◌, pos, None, IfErr, IfOk, IsErrOf, IsTrue, OnOk};
-ghost use Rattle.fund_base.specs.Causes.{Rose, one_more};
+ghost use Rattle.fund_shelf.specs.Causes.{Rose, one_more};
 ghost use Rattle.sqlite.specs.Files.{over_files};
 ghost use Rattle.sqlite.specs.Opening.{is_open_error};
 ghost use Rattle.sqlite.specs.declared.types.Value.TheVariants.{Int, Text};

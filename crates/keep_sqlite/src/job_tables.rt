@@ -1,7 +1,7 @@
 //! Jobs kept in the tables of a database, over any store.
 
 ghost use Rattle.std.specs.Prelude.{◌≡◌, ◌≤◌, [], ◌∷◌, pos, None, IsErrOf, IsTrue, OnErr, OnOk};
-ghost use Rattle.fund_base.specs.Causes.{Rose, one_more};
+ghost use Rattle.fund_shelf.specs.Causes.{Rose, one_more};
 ghost use Rattle.sqlite.specs.Held.{state};
 ghost use Rattle.sqlite.specs.State.{HasCleanDisk};
 ghost use Rattle.sqlite.specs.declared.types.Value.TheVariants.{Int, Text};

@@ -1,7 +1,7 @@
 //! What the database answers, as a keeper tells it.
 
 ghost use Rattle.std.specs.Prelude.{◌≡◌, ◌≤◌, IsErrOf, OnOk};
-ghost use Rattle.fund_base.specs.Causes.{Rose, one_more};
+ghost use Rattle.fund_shelf.specs.Causes.{Rose, one_more};
 ghost use Rattle.keep_sqlite.specs.Told.{told_answer};
 
 use fund_outside::KeepFault;

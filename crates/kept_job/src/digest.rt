@@ -1,10 +1,10 @@
 //! The digest that names a job by its files.
 
-ghost use Rattle.std.specs.Prelude.{◌≡◌, ◌≢◌, [], ◌∷◌, length, vec_len, Err, IfOk, IsErrOf};
-ghost use Rattle.fund_base.specs.Causes.{Asks, NeverFall, Rose};
+ghost use Rattle.std.specs.Prelude.{◌≡◌, length, vec_len, IfOk, IsErrOf};
+ghost use Rattle.fund_shelf.specs.Causes.{ReadsOne};
 ghost use Rattle.kept_job.specs.Digest.{IsFileDigest, digest_by};
 
-use fund_base::{Fault, Shelf};
+use fund_shelf::{Fault, Shelf};
 use sha2::{Digest, Sha256};
 use std::alloc::{AllocError, Global};
 
@@ -25,12 +25,7 @@ fn room(alloc: Global) -> Result<Vec<u8>, AllocError>
 fn digest_pieces<H: Shelf>(shelf: &mut H, name: &str, piece: &mut [u8]) -> Result<[u8; 32], Fault>
     requires room { length piece.old ≡ PIECE }
     ensures digest { H.tells → IfOk result (IsFileDigest ((H.view shelf.old).files name.now)) }
-    ensures same { H.tells → (H.view shelf.new).files ≡ (H.view shelf.old).files }
-    ensures reads { NeverFall (H.view shelf.old).reads (H.view shelf.new).reads }
-    ensures writes { (H.view shelf.new).writes ≡ (H.view shelf.old).writes }
-    ensures cause { IsErrOf result Fault.Failed → Rose ((H.view shelf.old).reads name.now) ((H.view shelf.new).reads name.now) }
-    ensures unfailed { result ≢ Err Fault.Failed → (H.view shelf.new).reads ≡ (H.view shelf.old).reads }
-    ensures asked { H.tells → Asks (name.now ∷ []) (H.view shelf.old).asked (H.view shelf.new).asked }
+    ensures frame { ReadsOne H.tells (IsErrOf result Fault.Failed) name.now (H.view shelf.old) (H.view shelf.new) }
 {
     let mut hasher = Sha256::new();
     let mut at: u64 = 0;
@@ -50,12 +45,7 @@ fn digest_pieces<H: Shelf>(shelf: &mut H, name: &str, piece: &mut [u8]) -> Resul
 /// that name alone.
 pub fn file_digest<H: Shelf>(alloc: Global, shelf: &mut H, name: &str) -> Result<[u8; 32], Fault>
     ensures digest { H.tells → IfOk result (IsFileDigest ((H.view shelf.old).files name.now)) }
-    ensures same { H.tells → (H.view shelf.new).files ≡ (H.view shelf.old).files }
-    ensures reads { NeverFall (H.view shelf.old).reads (H.view shelf.new).reads }
-    ensures writes { (H.view shelf.new).writes ≡ (H.view shelf.old).writes }
-    ensures cause { IsErrOf result Fault.Failed → Rose ((H.view shelf.old).reads name.now) ((H.view shelf.new).reads name.now) }
-    ensures unfailed { result ≢ Err Fault.Failed → (H.view shelf.new).reads ≡ (H.view shelf.old).reads }
-    ensures asked { H.tells → Asks (name.now ∷ []) (H.view shelf.old).asked (H.view shelf.new).asked }
+    ensures frame { ReadsOne H.tells (IsErrOf result Fault.Failed) name.now (H.view shelf.old) (H.view shelf.new) }
 {
     let Ok(mut piece) = room(alloc) else {
         return Err(Fault::Memory);

@@ -2,7 +2,7 @@
 
 ghost use Rattle.std.specs.Prelude.{◌≡◌, ◌≢◌, ◌≤◌, ℕ, Err, IfErr, IfOk, IsErrOf, List, OnOk, length};
 ghost use Rattle.closing_log.specs.LogText.{IsLogText};
-ghost use Rattle.fund_base.specs.Causes.{Rose};
+ghost use Rattle.fund_shelf.specs.Causes.{Rose};
 ghost use Rattle.fund_outside.specs.Kept.{told_bytes};
 ghost use Rattle.kept_job.specs.Jobs.{HasParts, HasSaved};
 ghost use Rattle.kept_job.specs.Loading.{IsLoadedAs, IsNotDue, IsNotSaved, IsPositionOf, IsPut};

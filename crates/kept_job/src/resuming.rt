@@ -1,7 +1,7 @@
 //! A plan that goes on from a kept job.
 
 ghost use Rattle.std.specs.Prelude.{◌≡◌, ◌≢◌, ◌≤◌, Err, IfErr, IfOk, IsErrOf};
-ghost use Rattle.fund_base.specs.Causes.{Rose};
+ghost use Rattle.fund_shelf.specs.Causes.{Rose};
 ghost use Rattle.fund_plan.specs.Answer.{ArePayments, HasSelection};
 ghost use Rattle.kept_job.specs.Refused.{IsNotResumed};
 ghost use Rattle.kept_job.specs.Resuming.{HasResumed, IfTrueSettled, IsLeftAs};

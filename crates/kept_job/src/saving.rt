@@ -1,7 +1,7 @@
 //! What is kept of a plan that is unfinished.
 
 ghost use Rattle.std.specs.Prelude.{◌≡◌, ◌≢◌, ◌<◌, ◌≤◌, ◌+◌, Err, IfOk, IsErrOf, OnErr, OnOk};
-ghost use Rattle.fund_base.specs.Causes.{Rose};
+ghost use Rattle.fund_shelf.specs.Causes.{Rose};
 ghost use Rattle.fund_outside.specs.Kept.{SameForOthers};
 ghost use Rattle.kept_job.specs.Saving.{IsSavedBehind, IsSavedOf, log_behind};
 ghost use Rattle.kept_job.specs.SavingRules.{CanBeKept};

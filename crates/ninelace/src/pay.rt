@@ -8,8 +8,8 @@ use command_pay::{
     unread_warning, unwritten_text,
 };
 use fault_lines::line_sentence;
-use fund_base::{FileShelf, Shelf, read_whole};
 use fund_report::FundedReport;
+use fund_shelf::{FileShelf, Shelf, read_whole};
 use pay_words::{Asked, WordFault, flag_about, flag_word, word_place, word_sentence};
 use std::alloc::Global;
 use std::io;

@@ -6,7 +6,7 @@ use Rattle.std.proofs.lemmas.List.Filters.{sum_by-filter_both}
 use Rattle.std.proofs.lemmas.List.Folds.{fold-map}
 use Rattle.std.proofs.lemmas.List.Sums.{count_by-le-length, length-filter, sum_by-cons}
 use Rattle.std.proofs.lemmas.Bool.{cases_Bool}
-use Rattle.fund_base.specs.declared.candidate.Candidate.{Candidate}
+use Rattle.coin_candidates.specs.declared.candidate.Candidate.{Candidate}
 use Rattle.output_groups.specs.Forming.{AreParts, IsGrouping, starts_with}
 use Rattle.output_groups.specs.Pool.{AreKept, CountsKept, keeps}
 use Rattle.output_groups.specs.Part.{Part}

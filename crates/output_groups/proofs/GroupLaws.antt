@@ -3,8 +3,8 @@ use Rattle.std.specs.Prelude.{◌≡◌, ℕ, ◌<◌, Bool, true, false, List, 
 use Rattle.std.proofs.Common.{refl, sym, subst, arith}
 use Rattle.std.proofs.lemmas.List.Elements.{All-contains, All-filter, All-map, All-cons, All-nil, All-weaker, filter_passes}
 use Rattle.std.proofs.lemmas.Slice.Eq.{bytes_eq-Decides}
-use Rattle.fund_base.specs.Candidates.{IsCandidate}
-use Rattle.fund_base.specs.declared.candidate.Candidate.{Candidate}
+use Rattle.coin_candidates.specs.Candidates.{IsCandidate}
+use Rattle.coin_candidates.specs.declared.candidate.Candidate.{Candidate}
 use Rattle.output_groups.specs.Forming.{AreParts, IsGrouping, alone, of_script, parts_of, pays_to, starts_with}
 use Rattle.output_groups.specs.Measures.{IsGroup, is_useful}
 use Rattle.output_groups.specs.Part.{Part}

@@ -10,7 +10,7 @@ use Rattle.std.proofs.lemmas.List.{append_cancel_left, length-append, length-tak
 use Rattle.std.proofs.lemmas.List.Elements.{All-head, All-tail, All-weaker}
 use Rattle.std.proofs.lemmas.List.FromFn.{get_or-map-range_with_len, length-map-range_with_len, map-range_with_len_more}
 use Rattle.fund_base.proofs.Lists.{in_tail, cons_cases}
-use Rattle.fund_base.specs.declared.candidate.Candidate.{Candidate}
+use Rattle.coin_candidates.specs.declared.candidate.Candidate.{Candidate}
 use Rattle.output_groups.specs.Forming.{IsGrouping, hundred, of_script, part_at, parts_of, starts_with}
 use Rattle.output_groups.specs.Hundreds.{AreHundreds, HasFull}
 use Rattle.output_groups.specs.Part.{Part}

@@ -8,7 +8,7 @@ use Rattle.std.proofs.lemmas.Cmp.{int_ranked, ranked}
 use Rattle.std.proofs.lemmas.Int.{ints}
 use Rattle.std.proofs.lemmas.List.{get_or-map, length-map}
 use Rattle.fund_base.specs.Outpoints.{outpoint_cmp}
-use Rattle.fund_base.specs.declared.candidate.Candidate.{Candidate}
+use Rattle.coin_candidates.specs.declared.candidate.Candidate.{Candidate}
 use Rattle.pick_problem.specs.Pool.{AreItems, IsInOrder, IsItem}
 use Rattle.pick_problem.specs.declared.item.Item.{Item}
 use Rattle.output_groups.specs.Measures.{cost_of, least_of, value_of, weight_of}

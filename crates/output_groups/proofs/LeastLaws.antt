@@ -9,7 +9,7 @@ use Rattle.std.proofs.lemmas.List.Elements.{All-cons, All-nil}
 use Rattle.std.proofs.lemmas.Bool.{cases_Bool}
 use Rattle.fund_base.proofs.OutpointLaws.{outpoint_total}
 use Rattle.fund_base.specs.Outpoints.{outpoint_cmp}
-use Rattle.fund_base.specs.declared.candidate.Candidate.{Candidate}
+use Rattle.coin_candidates.specs.declared.candidate.Candidate.{Candidate}
 use Rattle.fund_base.specs.declared.outpoint.OutPoint.{OutPoint}
 use Rattle.output_groups.specs.Measures.{least_of, lesser}
 

@@ -4,7 +4,7 @@ use Rattle.std.proofs.Common.{refl, arith, inl, inr}
 use Rattle.std.proofs.lemmas.Bool.{leb-true, and_parts}
 use Rattle.std.proofs.lemmas.List.Elements.{All-cons, All-nil}
 use Rattle.std.proofs.lemmas.List.Sums.{AllPass-from_list_all, get_or-le-sum_by}
-use Rattle.fund_base.specs.declared.candidate.Candidate.{Candidate}
+use Rattle.coin_candidates.specs.declared.candidate.Candidate.{Candidate}
 use Rattle.output_groups.specs.Ladder.{Meets}
 use Rattle.output_groups.specs.Measures.{ancestors_of, depth_of, descendants_of, is_mine, is_safe}
 use Rattle.output_groups.specs.Pool.{group_meets}

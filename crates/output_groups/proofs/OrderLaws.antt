@@ -10,7 +10,7 @@ use Rattle.std.proofs.lemmas.List.Sorted.{ranks_by, sorted_far}
 use Rattle.std.proofs.lemmas.List.Sums.{length-filter, sum_by-cons}
 use Rattle.fund_base.proofs.OutpointLaws.{outpoint_total, then_equal, outpoint_equal}
 use Rattle.fund_base.proofs.Lists.{in_tail}
-use Rattle.fund_base.specs.declared.candidate.Candidate.{Candidate}
+use Rattle.coin_candidates.specs.declared.candidate.Candidate.{Candidate}
 use Rattle.output_groups.specs.Measures.{cost_of, least_of, value_of, weight_of}
 use Rattle.output_groups.specs.Pool.{group_cmp}
 use Rattle.output_groups.proofs.Members.{head_in}

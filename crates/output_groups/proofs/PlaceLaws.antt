@@ -9,7 +9,7 @@ use Rattle.std.proofs.lemmas.List.{length-take, length-drop}
 use Rattle.std.proofs.lemmas.List.Elements.{All-contains}
 use Rattle.std.proofs.lemmas.Slice.Eq.{bytes_eq-Decides}
 use Rattle.fund_base.proofs.Lists.{cons_cases}
-use Rattle.fund_base.specs.declared.candidate.Candidate.{Candidate}
+use Rattle.coin_candidates.specs.declared.candidate.Candidate.{Candidate}
 use Rattle.output_groups.specs.Forming.{IsGrouping, alone, hundred, of_script, part_at, parts_of, pays_to, starts_with}
 use Rattle.output_groups.specs.Part.{Part}
 use Rattle.output_groups.proofs.GroupLaws.{first_script, part_placed, starts_first}

@@ -7,8 +7,8 @@ use Rattle.std.proofs.lemmas.List.Elements.{All-drop, All-filter, All-take, filt
 use Rattle.std.proofs.lemmas.List.FromFn.{map-range_with_len_more}
 use Rattle.std.proofs.lemmas.List.Sorted.{All-permutation, length_permutation}
 use Rattle.std.proofs.lemmas.List.Sums.{count_by-le-length, length-filter}
-use Rattle.fund_base.specs.Candidates.{AreCandidates, IsCandidate}
-use Rattle.fund_base.specs.declared.candidate.Candidate.{Candidate}
+use Rattle.coin_candidates.specs.Candidates.{AreCandidates, IsCandidate}
+use Rattle.coin_candidates.specs.declared.candidate.Candidate.{Candidate}
 use Rattle.output_groups.specs.Formed.{AreUseful, IsFormed, IsMeasured, coins_at, part_in}
 use Rattle.output_groups.specs.Forming.{alone, hundred}
 use Rattle.output_groups.specs.Measures.{IsGroup, is_useful}

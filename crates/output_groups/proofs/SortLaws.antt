@@ -7,8 +7,8 @@ use Rattle.std.proofs.lemmas.Bool.{cases_Bool}
 use Rattle.std.proofs.lemmas.List.{get_or-map, length-map}
 use Rattle.std.proofs.lemmas.List.Kept.{IsSortedBy-filter}
 use Rattle.std.proofs.lemmas.List.Sorted.{Contains-permutation, IsPermutation-cons, IsPermutation-map, IsPermutation-refl, IsPermutation-swap, IsPermutation-sym, IsPermutation-trans, ranks_by, sum_by-IsPermutation}
-use Rattle.fund_base.specs.Candidates.{AreCandidates}
-use Rattle.fund_base.specs.declared.candidate.Candidate.{Candidate}
+use Rattle.coin_candidates.specs.Candidates.{AreCandidates}
+use Rattle.coin_candidates.specs.declared.candidate.Candidate.{Candidate}
 use Rattle.output_groups.specs.Counting.{parts_in}
 use Rattle.output_groups.specs.Forming.{AreParts}
 use Rattle.output_groups.specs.Measures.{is_useful}

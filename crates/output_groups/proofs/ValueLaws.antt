@@ -4,7 +4,7 @@ use Rattle.std.proofs.Common.{refl, ap, ◌∙◌, arith}
 use Rattle.std.proofs.lemmas.Int.{ints}
 use Rattle.std.proofs.lemmas.List.Elements.{All-head, All-tail}
 use Rattle.fee_rates.specs.Fee.{effective_of, input_fee_of}
-use Rattle.fund_base.specs.declared.candidate.Candidate.{Candidate}
+use Rattle.coin_candidates.specs.declared.candidate.Candidate.{Candidate}
 use Rattle.output_groups.specs.Measures.{IsGroup, gain, is_useful, value_of}
 
 gained : (value fee : ℕ) → int_lt (pos 0) (pos value -ℤ pos fee) ≡ true → pos (value - fee) ≡ pos value -ℤ pos fee

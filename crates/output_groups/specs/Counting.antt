@@ -1,7 +1,7 @@
 -- How many groups a row keeps, as a number.
 use Rattle.std.specs.Prelude.{ℕ, Bool, true, false, not, List, [], ◌∷◌, map, filter, length, bytes_eq}
 use Rattle.std.specs.List.{flat_map}
-use Rattle.fund_base.specs.declared.candidate.Candidate.{Candidate}
+use Rattle.coin_candidates.specs.declared.candidate.Candidate.{Candidate}
 use Rattle.output_groups.specs.Forming.{alone, of_script, parts_of}
 use Rattle.output_groups.specs.Measures.{is_useful}
 use Rattle.output_groups.specs.Pool.{keeps}

@@ -1,7 +1,7 @@
 -- Groups as places in a list of coins, with what rows and searches ask of them.
 use Rattle.std.specs.Prelude.{◌≡◌, ℕ, ◌+◌, ◌≤◌, ◌&&◌, ◌||◌, not, true, Bool, List, All, map, take, drop, length}
-use Rattle.fund_base.specs.Candidates.{AreCandidates, IsCandidate}
-use Rattle.fund_base.specs.declared.candidate.Candidate.{Candidate}
+use Rattle.coin_candidates.specs.Candidates.{AreCandidates, IsCandidate}
+use Rattle.coin_candidates.specs.declared.candidate.Candidate.{Candidate}
 use Rattle.pick_problem.specs.Pool.{IsItem}
 use Rattle.output_groups.specs.Ladder.{reaches}
 use Rattle.output_groups.specs.Measures.{ancestors_of, depth_of, descendants_of, is_mine, is_safe, is_useful, least_of}

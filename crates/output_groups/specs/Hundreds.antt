@@ -1,7 +1,7 @@
 -- What the groups of one script's coins are, without places or numbers of them.
 use Rattle.std.specs.Prelude.{◌≡◌, ◌<◌, ◌≤◌, ◌↔◌, List, All, AllPairs, Contains, IsTrue, length}
 use Rattle.std.specs.List.{flat_map}
-use Rattle.fund_base.specs.declared.candidate.Candidate.{Candidate}
+use Rattle.coin_candidates.specs.declared.candidate.Candidate.{Candidate}
 use Rattle.output_groups.specs.Part.{Part}
 
 -- one of the groups has 100 coins

@@ -1,7 +1,7 @@
 -- The rows of the ladder, and what a row asks. The rows and their numbers are this project's own, in the manner of
 -- Bitcoin Core's eligibility filters (`CoinEligibilityFilter`).
 use Rattle.std.specs.Prelude.{◌≤◌, ◌⊎◌, ◌&&◌, ◌||◌, ℕ, Bool, true, false, List, [], ◌∷◌, take, nat_le, if◌then◌else◌, IsTrue}
-use Rattle.fund_base.specs.declared.candidate.Candidate.{Candidate}
+use Rattle.coin_candidates.specs.declared.candidate.Candidate.{Candidate}
 use Rattle.output_groups.specs.declared.rows.Row.{Row}
 
 -- a row that takes confirmed coins alone

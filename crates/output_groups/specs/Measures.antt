@@ -2,9 +2,9 @@
 use Rattle.std.specs.Prelude.{◌≡◌, ◌<◌, ◌≤◌, true, All, length, ℕ, ℤ, pos, ◌-◌, ◌+ℤ◌, ◌-ℤ◌, min, max, Bool, List, [], ◌∷◌, fold, sum_by, int_lt, if◌then◌else◌}
 use Rattle.std.specs.Ordering.{is_lt}
 use Rattle.std.specs.List.{list_all}
-use Rattle.fund_base.specs.Candidates.{IsCandidate}
+use Rattle.coin_candidates.specs.Candidates.{IsCandidate}
 use Rattle.fund_base.specs.Outpoints.{outpoint_cmp}
-use Rattle.fund_base.specs.declared.candidate.Candidate.{Candidate}
+use Rattle.coin_candidates.specs.declared.candidate.Candidate.{Candidate}
 use Rattle.fund_base.specs.declared.outpoint.OutPoint.{OutPoint}
 use Rattle.fee_rates.specs.Fee.{input_fee_of, effective_of}
 

@@ -1,6 +1,6 @@
 -- Formed groups as contracts see them.
 use Rattle.std.specs.Prelude.{ℕ, Bool, List}
-use Rattle.fund_base.specs.declared.candidate.Candidate.{Candidate}
+use Rattle.coin_candidates.specs.declared.candidate.Candidate.{Candidate}
 use Rattle.output_groups.specs.PlainPool.{PlainPool}
 use Rattle.output_groups.specs.PoolOf.{pool_of}
 use Rattle.output_groups.specs.declared.rows.Row.{Row}

@@ -2,7 +2,7 @@
 -- those of them that it takes.
 use Rattle.std.specs.Prelude.{ℕ, Bool, List, [], ◌∷◌, map, filter, if◌then◌else◌}
 use Rattle.std.specs.Ordering.{is_lt}
-use Rattle.fund_base.specs.declared.candidate.Candidate.{Candidate}
+use Rattle.coin_candidates.specs.declared.candidate.Candidate.{Candidate}
 use Rattle.output_groups.specs.Counting.{parts_in}
 use Rattle.output_groups.specs.Measures.{is_useful}
 use Rattle.output_groups.specs.PlainPool.{PlainPool}

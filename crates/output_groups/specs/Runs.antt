@@ -1,6 +1,6 @@
 -- Coins of one script that stand together.
 use Rattle.std.specs.Prelude.{◌≡◌, ◌≢◌, ℕ, ◌-◌, ◌<◌, ◌≤◌, List, take, drop, length, slice_index_or}
-use Rattle.fund_base.specs.declared.candidate.Candidate.{Candidate}
+use Rattle.coin_candidates.specs.declared.candidate.Candidate.{Candidate}
 
 abbrev pub script_of : Candidate → List ℕ
 script_of c = c.script

@@ -1,6 +1,6 @@
 -- What a row asks of a group, coin by coin.
 use Rattle.std.specs.Prelude.{◌≤◌, ◌⊎◌, All, IsTrue, List, sum_by}
-use Rattle.fund_base.specs.declared.candidate.Candidate.{Candidate}
+use Rattle.coin_candidates.specs.declared.candidate.Candidate.{Candidate}
 use Rattle.output_groups.specs.Part.{Part}
 use Rattle.output_groups.specs.declared.rows.Row.{Row}
 

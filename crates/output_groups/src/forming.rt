@@ -3,8 +3,8 @@
 ghost use Rattle.std.specs.Prelude.{◌≡◌, ◌++◌, ◌+◌, ◌*◌, ◌<◌, ◌≤◌, ◌&&◌, ℕ, List, IfOk, OnOk, All, filter, take, map, length, nat_lt, nat_le, bytes_eq, slice_index_or, IsPermutation, IsSorted, IsSortedByKey};
 ghost use Rattle.std.specs.Cmp.Lexicographic.{slice_cmp};
 ghost use Rattle.std.specs.Ordering.{nat_cmp};
-ghost use Rattle.fund_base.specs.Candidates.{IsCandidate};
-ghost use Rattle.fund_base.specs.declared.candidate.Candidate.{Candidate};
+ghost use Rattle.coin_candidates.specs.Candidates.{IsCandidate};
+ghost use Rattle.coin_candidates.specs.declared.candidate.Candidate.{Candidate};
 ghost use Rattle.output_groups.specs.Formed.{AreUseful, IsFormed, part_in};
 ghost use Rattle.output_groups.specs.Measures.{is_useful};
 ghost use Rattle.output_groups.specs.Forming.{AreParts, IsGrouping, alone, hundred, of_script, part_at, parts_of};
@@ -14,7 +14,8 @@ ghost use Rattle.output_groups.specs.Runs.{IsRun, run_of, script_of};
 use crate::formed::{Formed, group_of, order};
 use crate::lent::Lent;
 use crate::measures::is_useful;
-use fund_base::{Candidate, Memory};
+use coin_candidates::Candidate;
+use fund_base::Memory;
 use std::alloc::Global;
 
 /// The candidates that bring something at the rate, in their order.

@@ -2,7 +2,7 @@
 
 ghost use Rattle.std.specs.Prelude.{◌≡◌};
 
-use fund_base::Candidate;
+use coin_candidates::Candidate;
 use std::marker::Model;
 
 /// Coins that are used together or not at all. It is seen as the list of its coins.
@@ -13,7 +13,7 @@ pub struct Group {
 
 impl Model for Group {
     ghost use Rattle.std.specs.Prelude.{List};
-    ghost use Rattle.fund_base.specs.declared.candidate.Candidate.{Candidate};
+    ghost use Rattle.coin_candidates.specs.declared.candidate.Candidate.{Candidate};
 
     ghost Value = { List Candidate };
 

@@ -1,8 +1,8 @@
 //! The groups that candidates form, made once for all rows.
 
 ghost use Rattle.std.specs.Prelude.{◌≡◌, ◌+◌, ◌++◌, ◌<◌, ◌≤◌, ℕ, List, IfOk, IfErr, OnOk, All, filter, map, length};
-ghost use Rattle.fund_base.specs.Candidates.{AreCandidates};
-ghost use Rattle.fund_base.specs.declared.candidate.Candidate.{Candidate};
+ghost use Rattle.coin_candidates.specs.Candidates.{AreCandidates};
+ghost use Rattle.coin_candidates.specs.declared.candidate.Candidate.{Candidate};
 ghost use Rattle.pick_problem.specs.Pool.{AreItems};
 ghost use Rattle.pick_problem.specs.Problem.{Rising};
 ghost use Rattle.output_groups.specs.Formed.{AreUseful, IsFormed, coins_at, keeps_formed, part_in};
@@ -20,7 +20,8 @@ use crate::kept::Kept;
 use crate::lent::Lent;
 use crate::row_pool::RowPool;
 use crate::rows::Row;
-use fund_base::{Candidate, Memory};
+use coin_candidates::Candidate;
+use fund_base::Memory;
 use pick_problem::Item;
 use std::alloc::Global;
 use std::marker::Model;

@@ -3,9 +3,9 @@
 ghost use Rattle.std.specs.Prelude.{◌≡◌, ◌≢◌, ◌<◌, ◌↔◌, ◌+ℤ◌, ℕ, pos, List, Bool, All, Contains, IsTrue, filter, fold, length};
 ghost use Rattle.std.specs.declared.cmp.Ordering.TheVariants.{Equal, Less};
 ghost use Rattle.fee_rates.specs.Fee.{effective_of};
-ghost use Rattle.fund_base.specs.Candidates.{AreCandidates};
+ghost use Rattle.coin_candidates.specs.Candidates.{AreCandidates};
 ghost use Rattle.fund_base.specs.Outpoints.{outpoint_cmp};
-ghost use Rattle.fund_base.specs.declared.candidate.Candidate.{Candidate};
+ghost use Rattle.coin_candidates.specs.declared.candidate.Candidate.{Candidate};
 ghost use Rattle.output_groups.specs.Counting.{kept_count};
 ghost use Rattle.output_groups.specs.Forming.{IsGrouping, of_script, starts_with};
 ghost use Rattle.output_groups.specs.Hundreds.{AreHundreds};

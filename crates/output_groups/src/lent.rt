@@ -2,7 +2,7 @@
 
 ghost use Rattle.std.specs.Prelude.{◌≡◌};
 
-use fund_base::Candidate;
+use coin_candidates::Candidate;
 use std::marker::Model;
 
 /// A coin in the list where it stands: a copy of it takes no script. It is seen as the coin.
@@ -12,7 +12,7 @@ pub struct Lent<'a> {
 }
 
 impl<'a> Model for Lent<'a> {
-    ghost use Rattle.fund_base.specs.declared.candidate.Candidate.{Candidate};
+    ghost use Rattle.coin_candidates.specs.declared.candidate.Candidate.{Candidate};
 
     ghost Value = { Candidate };
 

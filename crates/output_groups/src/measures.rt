@@ -1,13 +1,13 @@
 //! What coins that are used together count for.
 
 ghost use Rattle.std.specs.Prelude.{◌≡◌, ◌<◌, ◌≤◌, ◌≤ℤ◌, pos, neg_ℤ, true, length, All, fold};
-ghost use Rattle.fund_base.specs.declared.candidate.Candidate.{Candidate};
-ghost use Rattle.fund_base.specs.Candidates.{IsCandidate};
+ghost use Rattle.coin_candidates.specs.declared.candidate.Candidate.{Candidate};
+ghost use Rattle.coin_candidates.specs.Candidates.{IsCandidate};
 ghost use Rattle.output_groups.specs.Measures.{is_useful, gain, coin_cost, value_of, weight_of, cost_of, ancestors_of, descendants_of, depth_of, is_mine, is_safe, least_of, lesser, IsGroup};
 
 use crate::lent::Lent;
+use coin_candidates::Candidate;
 use fee_rates::{effective, input_fee};
-use fund_base::Candidate;
 
 /// Whether all of the coins are mine.
 pub fn is_mine(coins: &[Lent]) -> bool

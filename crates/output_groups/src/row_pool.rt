@@ -1,7 +1,7 @@
 //! The pool of a row.
 
 ghost use Rattle.std.specs.Prelude.{◌≡◌, ◌≤◌, ℕ, IfOk, IfErr, All};
-ghost use Rattle.fund_base.specs.Candidates.{AreCandidates};
+ghost use Rattle.coin_candidates.specs.Candidates.{AreCandidates};
 ghost use Rattle.pick_problem.specs.Pool.{AreItems};
 ghost use Rattle.output_groups.specs.Ladder.{Meets};
 ghost use Rattle.output_groups.specs.Measures.{IsGroup};
@@ -12,7 +12,7 @@ use crate::fault::PoolFault;
 use crate::group::Group;
 use crate::groups::Groups;
 use crate::rows::Row;
-use fund_base::Candidate;
+use coin_candidates::Candidate;
 use pick_problem::Item;
 use std::alloc::Global;
 use std::marker::Model;

@@ -3,7 +3,7 @@
 ghost use Rattle.std.specs.Prelude.{◌≡◌, ◌≤◌, ◌↔◌, IsTrue, All};
 ghost use Rattle.output_groups.specs.Ladder.{ladder_of, reaches, Meets};
 
-use fund_base::Candidate;
+use coin_candidates::Candidate;
 
 /// Which groups of coins may be used. The rows are tried one after another, each laxer than those before it. They and
 /// their numbers are this project's own, in the manner of Bitcoin Core's eligibility filters

@@ -7,9 +7,9 @@ use Rattle.std.proofs.lemmas.Bool.{false_from_ne_true, true≢false}
 use Rattle.std.proofs.lemmas.List.Elements.{All-contains_itself, All-map, All-weaker}
 use Rattle.std.proofs.lemmas.List.Folds.{list_any_none}
 use Rattle.std.proofs.lemmas.Option.{none-some, same_Some}
-use Rattle.fund_base.specs.Candidates.{IsCandidate}
+use Rattle.coin_candidates.specs.Candidates.{IsCandidate}
 use Rattle.fund_base.specs.Outpoints.{same_outpoint}
-use Rattle.fund_base.specs.declared.candidate.Candidate.{Candidate}
+use Rattle.coin_candidates.specs.declared.candidate.Candidate.{Candidate}
 use Rattle.fund_base.specs.declared.outpoint.OutPoint.{OutPoint}
 use Rattle.fund_base.proofs.OutpointLaws.{same_outpoint-Decides}
 use Rattle.fund_base.proofs.Lists.{found_some}

@@ -9,9 +9,9 @@ use Rattle.std.proofs.lemmas.List.Elements.{All-cons, All-contains, All-contains
 use Rattle.std.proofs.lemmas.List.Folds.{find-append, list_any-append}
 use Rattle.std.proofs.lemmas.List.Kept.{AllPairs-filter}
 use Rattle.std.proofs.lemmas.Option.{none-some, same_Some}
-use Rattle.fund_base.specs.Candidates.{AreCandidates}
+use Rattle.coin_candidates.specs.Candidates.{AreCandidates}
 use Rattle.fund_base.specs.Outpoints.{same_outpoint}
-use Rattle.fund_base.specs.declared.candidate.Candidate.{Candidate}
+use Rattle.coin_candidates.specs.declared.candidate.Candidate.{Candidate}
 use Rattle.fund_base.specs.declared.outpoint.OutPoint.{OutPoint}
 use Rattle.fund_base.proofs.Lists.{cons_cases, in_tail}
 use Rattle.fund_base.proofs.OutpointLaws.{same_outpoint-Decides}

@@ -2,7 +2,7 @@
 
 ghost use Rattle.std.specs.Prelude.{◌≡◌, ◌≢◌, ◌<◌, All, IfOk, IfSome, IsSomeAnd, None, OnErr, false, length};
 ghost use Rattle.std.specs.Option.{option_map_or};
-ghost use Rattle.fund_base.specs.Candidates.{IsCandidate};
+ghost use Rattle.coin_candidates.specs.Candidates.{IsCandidate};
 ghost use Rattle.coin_book.specs.AtOutpoint.{coin_under};
 ghost use Rattle.payment_facts.specs.AnyCoin.{AreFacts, facts_among, facts_at, waiting_at};
 ghost use Rattle.payment_states.specs.BookOf.{IsBookOf};
@@ -12,7 +12,8 @@ ghost use Rattle.payment_states.specs.Payments.{payments_of};
 ghost use Rattle.payment_states.specs.PendingView.{view_of};
 
 use coin_book::{Book, Coin};
-use fund_base::{Candidate, Memory, OutPoint};
+use coin_candidates::Candidate;
+use fund_base::{Memory, OutPoint};
 use payment_states::{
     Facts, Standing, States, count_at, described, facts_of, flag_at, graph_of, number_at,
 };

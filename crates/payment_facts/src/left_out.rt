@@ -3,7 +3,7 @@
 ghost use Rattle.std.specs.Prelude.{◌≡◌, ◌≢◌, ◌<◌, ◌&&◌, not, All, IfOk, OnErr, OnOk, None, bytes_eq, filter, is_none, option_and_then, slice_get};
 ghost use Rattle.std.specs.List.{filter_map, list_all, list_any};
 ghost use Rattle.indexmap.specs.IndexSet.{contains};
-ghost use Rattle.fund_base.specs.Candidates.{AreCandidates};
+ghost use Rattle.coin_candidates.specs.Candidates.{AreCandidates};
 ghost use Rattle.fund_base.specs.Outpoints.{same_outpoint};
 ghost use Rattle.fund_base.specs.declared.outpoint.OutPoint.{OutPoint};
 ghost use Rattle.tx_codec.specs.Transaction.{Transaction};
@@ -21,7 +21,8 @@ ghost use Rattle.payment_states.specs.Makers.{HasMaker};
 ghost use Rattle.wallet_text.specs.WalletRules.{AreDistinct, ParentsComeFirst};
 
 use coin_book::{Book, Coin};
-use fund_base::{Candidate, Memory, OutPoint, Txid};
+use coin_candidates::Candidate;
+use fund_base::{Memory, OutPoint, Txid};
 use indexmap::IndexSet;
 use payment_states::{SpokenFor, is_deep, listed, may_be_spent, pending_of, spoken_for, states_of};
 use std::alloc::Global;

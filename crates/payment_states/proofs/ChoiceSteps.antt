@@ -4,7 +4,7 @@ use Rattle.std.specs.Prelude.{is_some, option_and_then, slice_get, slice_index_o
 use Rattle.std.specs.List.{cons_option, filter_map, list_any}
 use Rattle.std.specs.Option.{option_map_or, option_to_list}
 use Rattle.std.proofs.lemmas.Option.{slice_get-get_or}
-use Rattle.fund_base.specs.declared.candidate.Candidate.{Candidate}
+use Rattle.coin_candidates.specs.declared.candidate.Candidate.{Candidate}
 use Rattle.fund_base.specs.declared.outpoint.OutPoint.{OutPoint}
 use Rattle.wallet_text.specs.PlainWallet.{PlainWallet}
 use Rattle.coin_book.specs.Coins.{coins_of}

@@ -1,6 +1,6 @@
 -- Which transaction made a coin.
 use Rattle.std.specs.Prelude.{◌≡◌, slice_get, Some}
-use Rattle.fund_base.specs.declared.candidate.Candidate.{Candidate}
+use Rattle.coin_candidates.specs.declared.candidate.Candidate.{Candidate}
 use Rattle.tx_codec.specs.Transaction.{Transaction}
 use Rattle.tx_codec.specs.Txid.{txid_of}
 use Rattle.tx_codec.specs.declared.tx.TxOut.{TxOut}

@@ -7,7 +7,8 @@ ghost use Rattle.payment_states.specs.ByPlace.{candidate_by, standing_by};
 
 use crate::own_coins::{Standing, flag_at, is_from_mine, number_at};
 use coin_book::{Book, Coin};
-use fund_base::{Candidate, Memory};
+use coin_candidates::Candidate;
+use fund_base::Memory;
 use std::alloc::Global;
 use tx_codec::Tx;
 

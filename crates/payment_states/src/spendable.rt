@@ -4,7 +4,7 @@ ghost use Rattle.std.specs.Prelude.{◌≡◌, ◌<◌, ◌&&◌, not, IfOk, OnO
 ghost use Rattle.std.specs.List.{filter_map};
 ghost use Rattle.std.specs.Option.{option_copied};
 ghost use Rattle.indexmap.specs.IndexSet.{contains};
-ghost use Rattle.fund_base.specs.Candidates.{AreCandidates};
+ghost use Rattle.coin_candidates.specs.Candidates.{AreCandidates};
 ghost use Rattle.fund_base.specs.Outpoints.{same_outpoint};
 ghost use Rattle.coin_book.specs.Coins.{coins_of, parent_of};
 ghost use Rattle.coin_book.specs.Faults.{fault_of};
@@ -20,7 +20,8 @@ use crate::own_coins::flag_at;
 use crate::pending_facts::{Facts, facts_of};
 use crate::states::States;
 use coin_book::{Book, Coin};
-use fund_base::{Candidate, Memory, OutPoint};
+use coin_candidates::Candidate;
+use fund_base::{Memory, OutPoint};
 use indexmap::IndexSet;
 use std::alloc::Global;
 use tx_codec::Tx;

@@ -7,7 +7,7 @@ use Rattle.fee_rates.specs.Fee.{fee_of, vsize_of}
 use Rattle.fee_rates.specs.Terms.{base_of}
 use Rattle.fee_rates.specs.declared.terms.Load.{Load}
 use Rattle.fund_base.proofs.Lists.{in_tail}
-use Rattle.fund_base.specs.declared.candidate.Candidate.{Candidate}
+use Rattle.coin_candidates.specs.declared.candidate.Candidate.{Candidate}
 use Rattle.fund_plan.proofs.BringLaws.{base_more}
 use Rattle.fund_plan.proofs.FoundLaws.{sorted_apart}
 use Rattle.fund_plan.proofs.PaysLaws.{change_covers, plain_covers}

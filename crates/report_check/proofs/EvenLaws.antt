@@ -5,7 +5,7 @@ use Rattle.std.proofs.lemmas.List.Elements.{All-contains}
 use Rattle.fee_rates.specs.Terms.{IsLoad, change_fee_of, change_least_of}
 use Rattle.fee_rates.specs.declared.terms.Load.{Load}
 use Rattle.fee_rates.specs.declared.terms.Rates.{Rates}
-use Rattle.fund_base.specs.declared.candidate.Candidate.{Candidate}
+use Rattle.coin_candidates.specs.declared.candidate.Candidate.{Candidate}
 use Rattle.fund_plan.proofs.LoadLaws.{paid_is}
 use Rattle.fund_plan.proofs.RowLaws.{IsFair, row_fair}
 use Rattle.fund_plan.specs.Chosen.{load_for, no_row, row_of}

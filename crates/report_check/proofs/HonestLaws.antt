@@ -12,7 +12,7 @@ use Rattle.closing_log.specs.declared.mark.Mark.{Mark}
 use Rattle.closing_log.specs.declared.mark.Mark.TheVariants as mark
 use Rattle.fee_rates.specs.Fee.{vsize_of}
 use Rattle.fund_base.proofs.Lists.{in_tail}
-use Rattle.fund_base.specs.declared.candidate.Candidate.{Candidate}
+use Rattle.coin_candidates.specs.declared.candidate.Candidate.{Candidate}
 use Rattle.fund_plan.proofs.BringLaws.{once_in}
 use Rattle.fund_plan.proofs.FoundLaws.{found_pays}
 use Rattle.fund_plan.proofs.PaysLaws.{pays_within}

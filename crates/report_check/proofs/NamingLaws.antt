@@ -2,7 +2,7 @@
 use Rattle.std.specs.Prelude.{ℕ, ◌≡◌, ◌<◌, ◌≤◌, ◌+◌, ◌↔◌, List, [], ◌∷◌, map, length, Some, None}
 use Rattle.std.proofs.Common.{refl, sym, ap, subst, ◌∙◌, drop, get_or}
 use Rattle.std.proofs.lemmas.List.{drop_all, nil_from_length}
-use Rattle.fund_base.specs.declared.candidate.Candidate.{Candidate}
+use Rattle.coin_candidates.specs.declared.candidate.Candidate.{Candidate}
 use Rattle.fund_report.specs.declared.report.InLine.{InLine}
 use Rattle.report_check.specs.Naming.{Matches}
 use Rattle.report_check.specs.Payment.{line_of}

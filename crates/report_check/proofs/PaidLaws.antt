@@ -9,7 +9,7 @@ use Rattle.fund_base.proofs.Laws.{whole_again}
 use Rattle.fund_base.proofs.Lists.{any_found, in_tail}
 use Rattle.fund_base.proofs.OutpointLaws.{same_outpoint-Decides}
 use Rattle.fund_base.specs.Outpoints.{same_outpoint}
-use Rattle.fund_base.specs.declared.candidate.Candidate.{Candidate}
+use Rattle.coin_candidates.specs.declared.candidate.Candidate.{Candidate}
 use Rattle.fund_base.specs.declared.outpoint.OutPoint.{OutPoint}
 use Rattle.fund_plan.proofs.AmongLaws.{coins_apart}
 use Rattle.fund_plan.proofs.FoundLaws.{sorted_apart}

@@ -6,8 +6,8 @@ use Rattle.std.proofs.lemmas.List.{length-append}
 use Rattle.std.proofs.lemmas.List.Elements.{All-contains, All-head, All-tail}
 use Rattle.fee_rates.specs.Fee.{vsize_of}
 use Rattle.fee_rates.specs.declared.terms.Load.{Load}
-use Rattle.fund_base.specs.Candidates.{AreCandidates}
-use Rattle.fund_base.specs.declared.candidate.Candidate.{Candidate}
+use Rattle.coin_candidates.specs.Candidates.{AreCandidates}
+use Rattle.coin_candidates.specs.declared.candidate.Candidate.{Candidate}
 use Rattle.fund_plan.proofs.PaysLaws.{outputs_sum}
 use Rattle.fund_plan.specs.Answer.{IsPayment}
 use Rattle.fund_plan.specs.Chosen.{load_for}

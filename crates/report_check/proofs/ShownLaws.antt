@@ -3,7 +3,7 @@ use Rattle.std.specs.Prelude.{ℕ, ◌≡◌, ◌<◌, ◌≤◌, ◌+◌, ◌�
 use Rattle.std.specs.List.{AllZip}
 use Rattle.std.proofs.Common.{refl, sym, ap, subst, ◌∙◌, arith, drop, get_or}
 use Rattle.std.proofs.lemmas.List.{drop_all}
-use Rattle.fund_base.specs.declared.candidate.Candidate.{Candidate}
+use Rattle.coin_candidates.specs.declared.candidate.Candidate.{Candidate}
 use Rattle.psbt_codec.specs.declared.psbt.Spent.{Spent}
 use Rattle.tx_codec.specs.declared.tx.TxOut.{TxOut}
 use Rattle.report_check.specs.Payment.{Shows, output_of}

@@ -12,7 +12,7 @@ use Rattle.std.proofs.lemmas.List.Elements.{All-cons, All-head, All-nil, All-tai
 use Rattle.std.proofs.lemmas.List.Kept.{AllPairs-cons}
 use Rattle.fund_base.proofs.OutpointLaws.{outpoint_equal, outpoint_total}
 use Rattle.fund_base.specs.Outpoints.{outpoint_cmp}
-use Rattle.fund_base.specs.declared.candidate.Candidate.{Candidate}
+use Rattle.coin_candidates.specs.declared.candidate.Candidate.{Candidate}
 use Rattle.fund_base.specs.declared.outpoint.OutPoint.{OutPoint}
 use Rattle.fund_steps.specs.Selection.{AreSorted}
 use Rattle.report_check.specs.Paying.{HasCoinOf, HasEach, IsBelow}

@@ -7,7 +7,7 @@ use Rattle.base64.specs.Engines.{standard}
 use Rattle.base64.specs.GeneralPurpose.{decode_of, encode_of}
 use Rattle.fund_base.proofs.LawsOfNumbers.{byte_at}
 use Rattle.fund_base.specs.Cursor.{IsBytes}
-use Rattle.fund_base.specs.declared.candidate.Candidate.{Candidate}
+use Rattle.coin_candidates.specs.declared.candidate.Candidate.{Candidate}
 use Rattle.fund_base.specs.declared.outpoint.OutPoint.{OutPoint}
 use Rattle.fund_plan.specs.Pays.{unsigned_input}
 use Rattle.fund_report.specs.PlainFunded.{PlainFunded}

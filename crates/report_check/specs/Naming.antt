@@ -1,6 +1,6 @@
 -- Lines of a report beside coins, one after another.
 use Rattle.std.specs.Prelude.{◌≡◌, ◌≢◌, List, [], ◌∷◌, Option, Some, None}
-use Rattle.fund_base.specs.declared.candidate.Candidate.{Candidate}
+use Rattle.coin_candidates.specs.declared.candidate.Candidate.{Candidate}
 use Rattle.fund_report.specs.declared.report.InLine.{InLine}
 use Rattle.report_check.specs.Payment.{line_of}
 

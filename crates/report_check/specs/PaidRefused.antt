@@ -1,6 +1,6 @@
 -- What refusals of a report's payment mean.
 use Rattle.std.specs.Prelude.{List, Option}
-use Rattle.fund_base.specs.declared.candidate.Candidate.{Candidate}
+use Rattle.coin_candidates.specs.declared.candidate.Candidate.{Candidate}
 use Rattle.fund_report.specs.PlainFunded.{PlainFunded}
 use Rattle.fund_report.specs.declared.report.Report.TheVariants as reports
 use Rattle.fund_steps.specs.Plan.{PlainPlan}

@@ -6,7 +6,7 @@ use Rattle.fee_rates.specs.Fee.{vsize_of}
 use Rattle.fee_rates.specs.Terms.{IsLoad, change_least_of}
 use Rattle.fee_rates.specs.declared.terms.Load.{Load}
 use Rattle.fund_base.specs.Outpoints.{outpoint_cmp}
-use Rattle.fund_base.specs.declared.candidate.Candidate.{Candidate}
+use Rattle.coin_candidates.specs.declared.candidate.Candidate.{Candidate}
 use Rattle.fund_plan.specs.Chosen.{load_for}
 use Rattle.fund_plan.specs.Figures.{waste_of}
 use Rattle.fund_plan.specs.Pays.{Balances, outputs_of, payment_from, payment_weight}

@@ -3,7 +3,8 @@
 ghost use Rattle.std.specs.Prelude.{◌≡◌, IfOk, option_copied};
 ghost use Rattle.report_check.specs.Finding.{ArePlaces, IsCoinAt};
 
-use fund_base::{Candidate, Memory, OutPoint};
+use coin_candidates::Candidate;
+use fund_base::{Memory, OutPoint};
 use indexmap::IndexMap;
 use std::alloc::Global;
 use std::marker::Model;
@@ -17,7 +18,7 @@ pub(crate) struct CoinIndex<'a> {
 
 impl<'a> Model for CoinIndex<'a> {
     ghost use Rattle.std.specs.Prelude.{List};
-    ghost use Rattle.fund_base.specs.declared.candidate.Candidate.{Candidate};
+    ghost use Rattle.coin_candidates.specs.declared.candidate.Candidate.{Candidate};
     ghost use Rattle.report_check.specs.Finding.{ArePlaces};
 
     ghost Value = { List Candidate };

@@ -2,7 +2,7 @@
 
 ghost use Rattle.std.specs.Prelude.{◌≡◌, ◌≢◌, ◌==◌, ◌++◌, ◌∷◌, [], AllPairs, find, IfErr, IfOk, None, OnOk, Some, option_copied};
 ghost use Rattle.std.specs.List.{AllZip};
-ghost use Rattle.fund_base.specs.declared.candidate.Candidate.{Candidate};
+ghost use Rattle.coin_candidates.specs.declared.candidate.Candidate.{Candidate};
 ghost use Rattle.output_groups.specs.declared.rows.Row.{Row};
 ghost use Rattle.report_check.specs.Finding.{IsTakenAt, Takes};
 ghost use Rattle.report_check.specs.PaidRefused.{IsCoinRefusal};
@@ -10,7 +10,8 @@ ghost use Rattle.report_check.specs.declared.fault.CheckFault.TheVariants.{Coin}
 
 use crate::coin_index::CoinIndex;
 use crate::fault::CheckFault;
-use fund_base::{Candidate, Memory, OutPoint};
+use coin_candidates::Candidate;
+use fund_base::{Memory, OutPoint};
 use output_groups::{Row, meets};
 use std::alloc::Global;
 use tx_codec::TxIn;

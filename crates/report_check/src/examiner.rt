@@ -1,7 +1,7 @@
 //! What reports are judged against, and the judgement.
 
 ghost use Rattle.std.specs.Prelude.{◌≡◌, ◌≢◌, ◌≤◌, IfErr, IfOk, MatchResult, None, OnOk, false, length, true};
-ghost use Rattle.fund_base.specs.Candidates.{AreCandidates};
+ghost use Rattle.coin_candidates.specs.Candidates.{AreCandidates};
 ghost use Rattle.fund_plan.specs.Steps.{steps_of};
 ghost use Rattle.fund_report.specs.declared.report.Report.TheVariants as reports;
 ghost use Rattle.fund_steps.specs.Plan.{IsBumpFor, IsFault as IsPlanFault, IsPlan};
@@ -19,7 +19,7 @@ use crate::log_form::read_log;
 use crate::log_rules::are_backing;
 use crate::paid::paid;
 use closing_log::Section;
-use fund_base::Candidate;
+use coin_candidates::Candidate;
 use fund_plan::Funding;
 use fund_report::{FundedReport, Report};
 use fund_steps::{BumpInput, Funds, PlanFault, Prepared};

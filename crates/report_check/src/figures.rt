@@ -9,8 +9,9 @@ ghost use Rattle.report_check.specs.Paying.{HasFigures, IsEven, Says};
 
 use crate::names::are_lines;
 use crate::shown::are_shown;
+use coin_candidates::Candidate;
 use fee_rates::{Load, MAX_WEIGHT, Rates, Terms, vsize};
-use fund_base::{Candidate, MAX_MONEY};
+use fund_base::MAX_MONEY;
 use fund_plan::{declared_weight, due, waste};
 use fund_report::FundedReport;
 use fund_steps::{paid, rates, value};

@@ -4,7 +4,7 @@ ghost use Rattle.std.specs.Prelude.{◌↔◌, IsTrue};
 ghost use Rattle.fund_steps.specs.Selection.{AreSorted};
 ghost use Rattle.report_check.specs.Paying.{HasCoinOf, HasEach, IsBelow};
 
-use fund_base::Candidate;
+use coin_candidates::Candidate;
 
 /// Whether a coin's outpoint comes before that of the first of the others, where there is one.
 fn is_below(coin: &Candidate, rest: &[Candidate]) -> bool

@@ -6,7 +6,7 @@ ghost use Rattle.closing_log.specs.Log.{PlainLog};
 ghost use Rattle.closing_log.specs.declared.mark.Mark.TheVariants.{Given};
 ghost use Rattle.fee_rates.specs.Fee.{fee_of};
 ghost use Rattle.fee_rates.specs.Terms.{base_of};
-ghost use Rattle.fund_base.specs.declared.candidate.Candidate.{Candidate};
+ghost use Rattle.coin_candidates.specs.declared.candidate.Candidate.{Candidate};
 ghost use Rattle.fund_plan.specs.Chosen.{funded_at, mark_of};
 ghost use Rattle.fund_plan.specs.Outcome.{by_end};
 ghost use Rattle.fund_plan.specs.Selection as plans;

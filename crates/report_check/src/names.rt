@@ -5,7 +5,7 @@ ghost use Rattle.report_check.specs.Answer.{NamesPayment};
 ghost use Rattle.report_check.specs.Naming.{Matches};
 ghost use Rattle.report_check.specs.Payment.{line_of};
 
-use fund_base::Candidate;
+use coin_candidates::Candidate;
 use fund_plan::Funded;
 use fund_report::{FundedReport, InLine};
 

@@ -4,7 +4,7 @@ ghost use Rattle.std.specs.Prelude.{◌≡◌, ◌↔◌, ◌⊎◌, IfSome, IsS
 ghost use Rattle.std.specs.List.{AllZip};
 ghost use Rattle.report_check.specs.Payment.{Shows, output_of};
 
-use fund_base::Candidate;
+use coin_candidates::Candidate;
 use psbt_codec::Spent;
 use tx_codec::TxOut;
 

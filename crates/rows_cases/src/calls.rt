@@ -3,8 +3,8 @@
 use command_complete::complete;
 use command_end::Sources;
 use command_pay::{Ending, pay};
-use fund_base::{Shelf, Sink, SureShelf, SureSink};
 use fund_outside::{Keeper, SureKeeper};
+use fund_shelf::{Shelf, Sink, SureShelf, SureSink};
 use fund_top::{run, run_in_memory};
 use pay_words::{Asked, WordFault};
 use std::alloc::Global;

@@ -5,8 +5,9 @@ use crate::columns::{column, numbers_of, short_number_of, with_pieces, words_of}
 use crate::people::show_paid;
 use crate::shown::{show, show_column, show_count, show_number};
 use command_end::Sources;
-use fund_base::{MemShelf, MemSink, Memory, SureSink};
+use fund_base::Memory;
 use fund_outside::{Keeper, MemKeeper};
+use fund_shelf::{MemShelf, MemSink, SureSink};
 use sha2::{Digest, Sha256};
 use std::alloc::Global;
 use std::mem;

@@ -1,6 +1,7 @@
 //! What is printed.
 
-use fund_base::{Memory, StdSink, put_all};
+use fund_base::Memory;
+use fund_shelf::{StdSink, put_all};
 use itoa::Buffer;
 use row_columns::unescaped;
 

@@ -7,7 +7,8 @@ use crate::feeds::{FILE, files_of};
 use block_feed::Feed;
 use coin_book::{Book, BookFault, Coin};
 use command_end::coin_text;
-use fund_base::{OutPoint, SureShelf};
+use fund_base::OutPoint;
+use fund_shelf::SureShelf;
 use std::alloc::Global;
 use wallet_text::Wallet;
 

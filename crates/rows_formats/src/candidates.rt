@@ -1,7 +1,8 @@
 //! Coins with their depths and how they stand.
 
 use crate::answer::Answer;
-use fund_base::{Candidate, Txid};
+use coin_candidates::Candidate;
+use fund_base::Txid;
 
 /// Puts a txid as it is shown, or its first four digits.
 pub(crate) fn put_txid(out: &mut Answer, word: &str, txid: &Txid, is_short: bool) {

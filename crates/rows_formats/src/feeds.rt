@@ -15,7 +15,8 @@ use crate::columns::{bytes_of, column, hash_of, number_of, short_number};
 use crate::pieces::Pieces;
 use block_feed::{Block, Feed, FeedFault};
 use command_end::feed_fault_parts;
-use fund_base::{MemShelf, Memory};
+use fund_base::Memory;
+use fund_shelf::MemShelf;
 use std::alloc::Global;
 use tx_codec::{txid, weight};
 

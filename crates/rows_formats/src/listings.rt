@@ -1,8 +1,9 @@
 //! Listings of payments and coins.
 
 use crate::words::FIRST;
+use coin_candidates::Candidate;
 use command_coins::listing;
-use fund_base::{Candidate, Memory, OutPoint, Script, Txid};
+use fund_base::{Memory, OutPoint, Script, Txid};
 use payment_states::{Payment, State};
 use std::alloc::Global;
 

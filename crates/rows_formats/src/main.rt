@@ -28,7 +28,8 @@ mod transactions;
 mod words;
 
 use answer::Answer;
-use fund_base::{Memory, StdSink, put_all};
+use fund_base::Memory;
+use fund_shelf::{StdSink, put_all};
 use std::io;
 use std::io::{BufRead, BufReader, ErrorKind};
 

@@ -5,7 +5,8 @@
 use crate::answer::Answer;
 use crate::candidates::put_candidates;
 use crate::{shelves, sinks};
-use fund_base::{Candidate, MAX_MONEY, Memory, OutPoint, Places, Script, Txid};
+use coin_candidates::Candidate;
+use fund_base::{MAX_MONEY, Memory, OutPoint, Places, Script, Txid};
 use std::alloc::Global;
 
 /// A candidate of this index, of which each other field has another value.

@@ -2,7 +2,7 @@
 
 ghost use Rattle.std.specs.Prelude.{◌≤◌, length};
 
-use fund_base::{Fault, MemShelf, Shelf};
+use fund_shelf::{Fault, MemShelf, Shelf};
 
 /// A shelf that gives at most so many bytes at each read, in turn, and then again from the first number on. A file that is
 /// shorter than so many zeros goes on with zero bytes up to there.
@@ -26,7 +26,7 @@ fn clear(bytes: &mut [u8], count: u64) -> usize
 }
 
 impl Shelf for Pieces {
-    ghost use Rattle.fund_base.specs.MemShelf.{view_of};
+    ghost use Rattle.fund_shelf.specs.MemShelf.{view_of};
 
     ghost tells = { ⊥ };
 

@@ -3,7 +3,8 @@
 ghost use Rattle.std.specs.Prelude.{◌≤◌};
 
 use crate::answer::Answer;
-use fund_base::{Fault, FileShelf, MemShelf, Memory, ReadError, Shelf, SureShelf, read_whole};
+use fund_base::Memory;
+use fund_shelf::{Fault, FileShelf, MemShelf, ReadError, Shelf, SureShelf, read_whole};
 use std::alloc::Global;
 use std::fs;
 

@@ -3,10 +3,11 @@
 //! list.
 
 ghost use Rattle.std.specs.Prelude.{◌≤◌, IfOk, IfSome, length};
-ghost use Rattle.fund_base.specs.Candidates.{AreCandidates};
+ghost use Rattle.coin_candidates.specs.Candidates.{AreCandidates};
 
 use crate::columns::column;
-use fund_base::{Candidate, MAX_MONEY, Memory, OutPoint, Script, Txid};
+use coin_candidates::Candidate;
+use fund_base::{MAX_MONEY, Memory, OutPoint, Script, Txid};
 use std::alloc::Global;
 
 /// What tells coins apart in the rows.

@@ -29,7 +29,8 @@ mod texts;
 mod walks;
 mod works;
 
-use fund_base::{Memory, StdSink, put_all};
+use fund_base::Memory;
+use fund_shelf::{StdSink, put_all};
 use std::alloc::Global;
 use std::io;
 use std::io::{BufRead, BufReader};

@@ -1,13 +1,14 @@
 //! Plans of payments.
 
 ghost use Rattle.std.specs.Prelude.{◌≡◌, None, IfOk};
-ghost use Rattle.fund_base.specs.Candidates.{AreCandidates};
+ghost use Rattle.coin_candidates.specs.Candidates.{AreCandidates};
 ghost use Rattle.fund_plan.specs.Answer.{HasSelection, IsSelection};
 ghost use Rattle.wallet_text.specs.WalletRules.{IsWatch};
 
 use crate::report_texts::put_change;
 use crate::texts::{Text, numbered, put, word};
-use fund_base::{Candidate, Memory, Script};
+use coin_candidates::Candidate;
+use fund_base::{Memory, Script};
 use fund_plan::{Figures, Funded, Outcome, Plan, unsigned};
 use fund_steps::PlanFault;
 use request_text::{Request, read_request};

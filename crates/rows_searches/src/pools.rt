@@ -6,13 +6,14 @@
 //! - `plan REQUEST`: the change, the figures and the unsigned transaction of the payment, or why there is none
 
 ghost use Rattle.std.specs.Prelude.{◌≤◌};
-ghost use Rattle.fund_base.specs.Candidates.{AreCandidates};
+ghost use Rattle.coin_candidates.specs.Candidates.{AreCandidates};
 
 use crate::coins::candidates_in;
 use crate::columns::{column, number_in};
 use crate::plans::plan;
 use crate::texts::{Text, numbered, put, word};
-use fund_base::{Candidate, Memory};
+use coin_candidates::Candidate;
+use fund_base::Memory;
 use output_groups::{Group, PoolFault, RowPool, ladder, meets, pool};
 use pick_problem::Item;
 use std::alloc::Global;

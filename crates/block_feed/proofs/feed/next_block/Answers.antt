@@ -7,7 +7,7 @@ use Rattle.block_feed.specs.Parts.{StandsAt, behind_record, body_in}
 use Rattle.block_feed.specs.Reading.{block_at, record_at}
 use Rattle.block_feed.specs.declared.records.Record.{Record}
 use Rattle.block_feed.proofs.BlockLaws.{start}
-use Rattle.block_feed.proofs.FrameLaws.{frame_fine, frame_none, frame_passed, frame_then, ok_not}
+use Rattle.fund_shelf.proofs.FrameLaws.{frame_fine, frame_none, frame_passed, frame_then, ok_not}
 use Rattle.block_feed.proofs.NextLaws.{block_there, fault_exit, next_end, next_fault, next_given, next_refusal}
 use Rattle.block_feed.proofs.feed.next_block.Goals as goal
 

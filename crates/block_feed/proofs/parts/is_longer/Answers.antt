@@ -1,4 +1,4 @@
-use Rattle.block_feed.proofs.FrameLaws.{frame_read, frame_same, ok_not}
+use Rattle.fund_shelf.proofs.FrameLaws.{frame_read, frame_same, ok_not}
 use Rattle.block_feed.proofs.parts.is_longer.Goals as goal
 
 pub returns-in_err-count-clause-frame : goal.returns-in_err-count-clause-frame

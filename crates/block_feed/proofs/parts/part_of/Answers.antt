@@ -1,6 +1,6 @@
 use Rattle.std.proofs.Common.{ℕ, Vec, arith}
 use Rattle.std.specs.declared.alloc.Global.{Global}
-use Rattle.block_feed.proofs.FrameLaws.{frame_none, memory_not}
+use Rattle.fund_shelf.proofs.FrameLaws.{frame_none, memory_not}
 use Rattle.block_feed.proofs.PartLaws.{part_if}
 use Rattle.block_feed.proofs.parts.part_of.Goals as goal
 

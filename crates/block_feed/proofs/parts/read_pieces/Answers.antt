@@ -1,7 +1,7 @@
 use Rattle.std.proofs.Common.{ℕ, ◌+◌, List, [], ◌∷◌, vec_len, refl, ◌∙◌, ap, subst, arith}
-use Rattle.fund_base.specs.Causes.{IsRead}
-use Rattle.fund_base.proofs.Asking.{asks_none, asks_again}
-use Rattle.block_feed.proofs.FrameLaws.{frame_none, frame_read, frame_same, frame_then, memory_not, ok_not}
+use Rattle.fund_shelf.specs.Causes.{IsRead}
+use Rattle.fund_shelf.proofs.Asking.{asks_none, asks_again}
+use Rattle.fund_shelf.proofs.FrameLaws.{frame_none, frame_read, frame_same, frame_then, memory_not, ok_not}
 use Rattle.block_feed.proofs.PartLaws.{part_few, part_more, part_none}
 use Rattle.block_feed.proofs.parts.read_pieces.Goals as goal
 

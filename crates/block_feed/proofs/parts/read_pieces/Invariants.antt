@@ -1,5 +1,5 @@
 use Rattle.std.proofs.Common.{◌≡◌, ◌≤◌, [], ◌∷◌, ◌-◌, take, drop, vec_len}
-use Rattle.fund_base.specs.Causes.{Asks}
+use Rattle.fund_shelf.specs.Causes.{Asks}
 use Rattle.block_feed.proofs.parts.read_pieces.Given as goal
 
 abbrev pub invariant-reading : goal.invariant-reading

@@ -8,7 +8,8 @@ use Rattle.block_feed.specs.Feed.{seen_from}
 use Rattle.block_feed.specs.Parts.{body_in}
 use Rattle.block_feed.specs.Reading.{ended_at, record_at, size_at}
 use Rattle.block_feed.specs.declared.fault.FeedFault.{FeedFault}
-use Rattle.block_feed.proofs.FrameLaws.{frame_fine, frame_made, frame_passed, frame_then, frame_told, ok_not}
+use Rattle.fund_shelf.proofs.FrameLaws.{frame_fine, frame_passed, frame_then, ok_not}
+use Rattle.block_feed.proofs.FrameLaws.{frame_made, frame_told}
 use Rattle.block_feed.proofs.NextLaws.{outside_exit, fault_exit}
 use Rattle.block_feed.proofs.RecordLaws.{head_zero, head_some, rest_some, size_there, body_there, end_there, cut_there, zero_head, found_fault, found_short, found_whole, joined}
 use Rattle.block_feed.proofs.records.record_from.Goals as goal

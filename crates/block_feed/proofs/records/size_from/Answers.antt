@@ -1,6 +1,7 @@
 use Rattle.std.proofs.Common.{◌≤◌, ℕ, false, Bool, ltb, List, length, ap, arith}
 use Rattle.block_feed.specs.Reading.{size_at}
-use Rattle.block_feed.proofs.FrameLaws.{frame_fine, frame_none, frame_told, ok_not}
+use Rattle.fund_shelf.proofs.FrameLaws.{frame_fine, frame_none, ok_not}
+use Rattle.block_feed.proofs.FrameLaws.{frame_told}
 use Rattle.block_feed.proofs.NextLaws.{outside_exit, yields_finds}
 use Rattle.block_feed.proofs.RecordLaws.{size_same}
 use Rattle.block_feed.proofs.records.size_from.Goals as goal

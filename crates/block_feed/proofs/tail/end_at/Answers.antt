@@ -1,7 +1,8 @@
 use Rattle.std.proofs.Common.{◌≡◌, ℕ, true, false, ltb, List, length, None, ◌∙◌, ap}
 use Rattle.block_feed.specs.Feed.{seen_from}
 use Rattle.block_feed.specs.Reading.{ended_at}
-use Rattle.block_feed.proofs.FrameLaws.{frame_fine, frame_then, frame_told, limit_not, magic_not, ok_not}
+use Rattle.fund_shelf.proofs.FrameLaws.{frame_fine, frame_then, ok_not}
+use Rattle.block_feed.proofs.FrameLaws.{frame_told, limit_not, magic_not}
 use Rattle.block_feed.proofs.NextLaws.{outside_exit}
 use Rattle.block_feed.proofs.RecordLaws.{ended_not, ended_long, ended_all}
 use Rattle.block_feed.proofs.tail.end_at.Goals as goal

@@ -2,12 +2,12 @@ use Rattle.std.proofs.Common.{◌≡◌, ℕ, ◌+◌, ◌-◌, true, false, Lis
 use Rattle.std.specs.Prelude.{◌==◌}
 use Rattle.std.specs.List.{list_all}
 use Rattle.fund_base.specs.Writer.{Feeds}
-use Rattle.fund_base.proofs.Asking.{asks_none, asks_again}
+use Rattle.fund_shelf.proofs.Asking.{asks_none, asks_again}
 use Rattle.block_feed.specs.Digest.{HasTaken}
 use Rattle.block_feed.specs.Feed.{seen_from}
 use Rattle.block_feed.specs.Parts.{IsFirstPart}
 use Rattle.block_feed.proofs.DigestLaws.{taken_none, taken_more_from, taken_all_from}
-use Rattle.block_feed.proofs.FrameLaws.{frame_fine, frame_passed, frame_same, frame_then, ok_not}
+use Rattle.fund_shelf.proofs.FrameLaws.{frame_fine, frame_passed, frame_same, frame_then, ok_not}
 use Rattle.block_feed.proofs.PartLaws.{none_left, scan_none, scan_more, scan_end, scan_not}
 use Rattle.block_feed.proofs.tail.is_tail.Goals as goal
 

@@ -1,7 +1,7 @@
 use Rattle.std.proofs.Common.{◌≡◌, ◌≤◌, [], ◌∷◌, ◌-◌, take, true}
 use Rattle.std.specs.Prelude.{◌==◌, is_some}
 use Rattle.std.specs.List.{list_all}
-use Rattle.fund_base.specs.Causes.{Asks}
+use Rattle.fund_shelf.specs.Causes.{Asks}
 use Rattle.fund_base.specs.Writer.{Feeds}
 use Rattle.block_feed.specs.Digest.{HasTaken}
 use Rattle.block_feed.specs.Feed.{seen_from}

@@ -1,5 +1,5 @@
 use Rattle.std.proofs.Common.{◌≡◌, ◌∙◌, Result, Err, ap}
-use Rattle.fund_base.specs.declared.pieces.ReadError.{ReadError}
+use Rattle.fund_shelf.specs.declared.pieces.ReadError.{ReadError}
 use Rattle.command_check.specs.Stops.{read_stop_of}
 use Rattle.command_check.specs.declared.stop.Stop.{Stop}
 use Rattle.command_check.proofs.evidence.read_evidence.Goals as goal
@@ -8,7 +8,7 @@ same_error : {T : Type 0} (a b : ReadError) → ◌≡◌ {A = Result T ReadErro
 same_error a b e = cc
 
 pub returns-in-Ok-clause-all_read : goal.returns-in-Ok-clause-all_read
-returns-in-Ok-clause-all_read g c = λ other. c.in-Ok.ensures.unfailed (λ e. cc)
+returns-in-Ok-clause-all_read g c = λ other. c.in-Ok.ensures.frame.unfailed (λ e. cc)
 
 pub returns-in-Err-clause-all_read : goal.returns-in-Err-clause-all_read
-returns-in-Err-clause-all_read g c = λ other. c.in-Err.ensures.unfailed (λ e. other (ap (λ (x : Stop). Err x) (c.read_stop.ensures.stop ∙ ap (λ (x : ReadError). read_stop_of c.args.file x) (same_error _ _ e))))
+returns-in-Err-clause-all_read g c = λ other. c.in-Err.ensures.frame.unfailed (λ e. other (ap (λ (x : Stop). Err x) (c.read_stop.ensures.stop ∙ ap (λ (x : ReadError). read_stop_of c.args.file x) (same_error _ _ e))))

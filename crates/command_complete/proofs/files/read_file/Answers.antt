@@ -2,4 +2,4 @@ use Rattle.command_complete.proofs.StopLaws.{whole_unfailed}
 use Rattle.command_complete.proofs.files.read_file.Goals as goal
 
 pub returns-in-Err-clause-unfailed : goal.returns-in-Err-clause-unfailed
-returns-in-Err-clause-unfailed g c = λ other. whole_unfailed c.in-Err.error c.read_stop.result c.read_stop.ensures other c.in-Err.ensures.unfailed
+returns-in-Err-clause-unfailed g c = λ other. whole_unfailed c.in-Err.error c.read_stop.result c.read_stop.ensures other c.in-Err.ensures.frame.unfailed

@@ -1,5 +1,5 @@
 use Rattle.std.proofs.Common.{◌∙◌, rules, subst, sym}
-use Rattle.fund_base.specs.Causes.{Asks}
+use Rattle.fund_shelf.specs.Causes.{Asks}
 use Rattle.fund_files.proofs.FrameLaws.{only_reads_on}
 use Rattle.command_desk.proofs.SaidLaws.{says_of}
 use Rattle.command_desk.specs.Lent.{plain_line}

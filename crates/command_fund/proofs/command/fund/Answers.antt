@@ -1,5 +1,5 @@
 use Rattle.std.proofs.Common.{◌∙◌, ℕ, List, inl, inr, refl, ap, arith}
-use Rattle.fund_base.specs.Causes.{ShelfView}
+use Rattle.fund_shelf.specs.Causes.{ShelfView}
 use Rattle.command_end.proofs.WholeLaws.{put_whole}
 use Rattle.command_end.specs.Names.{plain_sources}
 use Rattle.command_end.specs.declared.status.Status.TheVariants as statuses

@@ -1,7 +1,7 @@
 use Rattle.std.proofs.Common.{◌≡◌, ◌∙◌, ℕ, List, [], Option, map, ap, refl, sym, subst, string_bytes}
 use Rattle.std.specs.Prelude.{◌≢◌}
-use Rattle.fund_base.specs.Causes.{ShelfView, SinkView}
-use Rattle.fund_base.specs.SureSink.{view_of as sink_view}
+use Rattle.fund_shelf.specs.Causes.{ShelfView, SinkView}
+use Rattle.fund_shelf.specs.SureSink.{view_of as sink_view}
 use Rattle.fund_outside.specs.Kept.{KeeperView}
 use Rattle.fund_outside.specs.SureKeeper.{view_of as keeper_view}
 use Rattle.command_end.specs.declared.status.Status.TheVariants as statuses

@@ -38,7 +38,7 @@ returns-in-Err-clause-reply c =
     let e = c.in-Err.fault in
     reply_of c.args.bytes.now c.args.held.now c.reading.held c.refuse_bytes.result
     (bytes_end c.args.bytes.now c.args.held.now c.reading.held c.reading.feed e c.refuse_bytes.result i.so_far (λ memory read. subst (λ (file : List ℕ). next_of file c.reading.feed ≡ Err e) i.file (c.in-Err.ensures.exact tt i.fine memory read))
-    (λ same. never_rose (c.in-Err.ensures.cause (cc))) (λ same. never_limit _ c.args.bytes.now i.file c.requires.fits (c.in-Err.ensures.limit tt i.fine (cc))) c.refuse_bytes.ensures.reply)
+    (λ same. never_rose (c.in-Err.ensures.frame.cause (cc))) (λ same. never_limit _ c.args.bytes.now i.file c.requires.fits (c.in-Err.ensures.limit tt i.fine (cc))) c.refuse_bytes.ensures.reply)
 
 pub returns-in-Err-clause-next : goal.returns-in-Err-clause-next
 returns-in-Err-clause-next c =
@@ -46,7 +46,7 @@ returns-in-Err-clause-next c =
     let e = c.in-Err.fault in
     on_ends c.args.bytes.now c.args.held.now c.reading.held c.refuse_bytes.result
     (bytes_end c.args.bytes.now c.args.held.now c.reading.held c.reading.feed e c.refuse_bytes.result i.so_far (λ memory read. subst (λ (file : List ℕ). next_of file c.reading.feed ≡ Err e) i.file (c.in-Err.ensures.exact tt i.fine memory read))
-    (λ same. never_rose (c.in-Err.ensures.cause (cc))) (λ same. never_limit _ c.args.bytes.now i.file c.requires.fits (c.in-Err.ensures.limit tt i.fine (cc))) c.refuse_bytes.ensures.reply)
+    (λ same. never_rose (c.in-Err.ensures.frame.cause (cc))) (λ same. never_limit _ c.args.bytes.now i.file c.requires.fits (c.in-Err.ensures.limit tt i.fine (cc))) c.refuse_bytes.ensures.reply)
 
 pub returns-in-Err-clause-memory : goal.returns-in-Err-clause-memory
 returns-in-Err-clause-memory c = any_err c.refuse_bytes.result _ (part_added c.args.bytes.now c.args.held.now c.reading.held c.reading.held c.reading.feed c.reading.invariant.so_far refl)
@@ -82,7 +82,7 @@ reading-preserved c =
     let moves = rw c.in-Ok-Some.field-0-is at e.moves in
     record {
       held = c.in-Ok.ensures.held;
-      file = ap (λ (files : List ℕ → List ℕ). files (codes "blocks")) (e.same tt) ∙ i.file;
+      file = ap (λ (files : List ℕ → List ℕ). files (codes "blocks")) (e.frame.same tt) ∙ i.file;
       fine = e.fine;
       wallet = ap (λ (k : Held). k.wallet) c.in-Ok.ensures.added ∙ i.wallet;
       so_far = so_far_more c.args.bytes.now c.args.held.now c.reading.held c.add_block.new.held c.reading.feed c.next.new.self b i.so_far

@@ -1,5 +1,5 @@
 use Rattle.std.specs.Prelude.{◌≡◌, ◌-◌, None, codes, length}
-use Rattle.fund_base.specs.SureShelf.{view_of}
+use Rattle.fund_shelf.specs.SureShelf.{view_of}
 use Rattle.fund_files.specs.Chain.{IsHeld}
 use Rattle.desk_machine.proofs.RecordLaws.{SoFar}
 use Rattle.desk_chain.proofs.records.add_blocks.Given as goal

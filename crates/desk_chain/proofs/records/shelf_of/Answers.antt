@@ -1,6 +1,6 @@
 use Rattle.std.specs.Prelude.{ℕ, List, Vec, String, ◌∷◌, [], ◌++◌, codes}
 use Rattle.std.proofs.Common.{ap, ◌∙◌, Global}
-use Rattle.fund_base.specs.Causes.{ShelfView}
+use Rattle.fund_shelf.specs.Causes.{ShelfView}
 use Rattle.desk_chain.proofs.ShelfLaws.{one_file}
 use Rattle.desk_chain.proofs.records.shelf_of.Goals as goal
 

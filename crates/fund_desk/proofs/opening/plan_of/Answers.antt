@@ -1,5 +1,5 @@
 use Rattle.std.proofs.Common.{ap, subst, sym, ◌∙◌}
-use Rattle.fund_base.specs.Candidates.{AreCandidates}
+use Rattle.coin_candidates.specs.Candidates.{AreCandidates}
 use Rattle.fund_files.specs.declared.held.Held.{Held}
 use Rattle.fund_steps.proofs.BumpLaws.{no_bump}
 use Rattle.desk_machine.specs.State.{desk_of}

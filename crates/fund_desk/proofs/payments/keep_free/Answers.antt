@@ -3,7 +3,7 @@ use Rattle.std.proofs.Common.{ap, rules, ◌∙◌}
 use Rattle.std.proofs.lemmas.Fn.{filter_same}
 use Rattle.indexmap.specs.IndexSet.{contains}
 use Rattle.fund_base.specs.Outpoints.{same_outpoint}
-use Rattle.fund_base.specs.declared.candidate.Candidate.{Candidate}
+use Rattle.coin_candidates.specs.declared.candidate.Candidate.{Candidate}
 use Rattle.desk_machine.specs.State.{is_reserved}
 use Rattle.fund_desk.proofs.LookLaws.{kept_same}
 use Rattle.fund_desk.proofs.payments.keep_free.Goals as goal

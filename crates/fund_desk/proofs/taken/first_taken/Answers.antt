@@ -1,7 +1,7 @@
 use Rattle.std.specs.Prelude.{List, find, option_map}
 use Rattle.std.specs.List.{filter_map}
 use Rattle.std.proofs.Common.{ap, refl, ◌∙◌}
-use Rattle.fund_base.specs.declared.candidate.Candidate.{Candidate}
+use Rattle.coin_candidates.specs.declared.candidate.Candidate.{Candidate}
 use Rattle.fund_plan.specs.Selection.{PlainFunded}
 use Rattle.request_text.specs.PlainRequest.{PlainRequest}
 use Rattle.desk_machine.specs.State.{candidates_in, points}

@@ -1,6 +1,6 @@
 use Rattle.std.proofs.Common.{[], ◌∷◌, ◌≡◌, ◌≤◌, ◌∙◌, ap, sym, subst, List, ℕ, length, arith, refl, Err, None}
 use Rattle.std.proofs.lemmas.Result.{err_from_is_err_and}
-use Rattle.fund_base.proofs.Asking.{asks_again, asks_none}
+use Rattle.fund_shelf.proofs.Asking.{asks_again, asks_none}
 use Rattle.block_feed.specs.Block.{ChainBlock}
 use Rattle.block_feed.specs.Feed.{StandsBefore, next_of}
 use Rattle.wallet_text.specs.PlainWallet.{PlainWallet}
@@ -49,21 +49,21 @@ reading-preserved g c =
     record {
       fine = e.fine;
       frame = record {
-        same = λ t. e.same t ∙ c.reading.invariant.frame.same t;
-        reads = λ name. omega (arith, e.reads name, c.reading.invariant.frame.reads name);
-        writes = e.writes ∙ c.reading.invariant.frame.writes;
+        same = λ t. e.frame.same t ∙ c.reading.invariant.frame.same t;
+        reads = λ name. omega (arith, e.frame.reads name, c.reading.invariant.frame.reads name);
+        writes = e.frame.writes ∙ c.reading.invariant.frame.writes;
       };
-      reads = e.unfailed (λ h. absurd cc) ∙ c.reading.invariant.reads;
-      asked = λ t. asks_again _ _ _ _ (c.reading.invariant.asked t) (e.asked t);
+      reads = e.frame.unfailed (λ h. absurd cc) ∙ c.reading.invariant.reads;
+      asked = λ t. asks_again _ _ _ _ (c.reading.invariant.asked t) (e.frame.asked t);
       so_far = so_far_more g.H.Shelf.tells _ _ _ _ c.reading.feed c.next.new.self c.reading.booked c.add_block.new.booked c.in-Some.block _ _ linked moves (λ t. ap (λ (files : List ℕ → List ℕ). files c.args.name.now) (c.reading.invariant.frame.same t))
           (λ t. exact t c.reading.invariant.fine) (λ t. within t c.reading.invariant.fine) (λ t. before t c.reading.invariant.fine) _ _ height hash c.in_default-add_block.ensures c.reading.invariant.so_far;
     }
 
 pub returns-in_err-block-clause-asked : goal.returns-in_err-block-clause-asked
-returns-in_err-block-clause-asked g c = λ t. asks_again _ _ _ _ (c.reading.invariant.asked t) (c.in_err-block.ensures.asked t)
+returns-in_err-block-clause-asked g c = λ t. asks_again _ _ _ _ (c.reading.invariant.asked t) (c.in_err-block.ensures.frame.asked t)
 
 pub returns-in_default-2-clause-asked : goal.returns-in_default-2-clause-asked
-returns-in_default-2-clause-asked g c = λ t. asks_again _ _ _ _ (c.reading.invariant.asked t) (c.in_ok-block.ensures.asked t)
+returns-in_default-2-clause-asked g c = λ t. asks_again _ _ _ _ (c.reading.invariant.asked t) (c.in_ok-block.ensures.frame.asked t)
 
 pub returns-in-Err-clause-asked : goal.returns-in-Err-clause-asked
-returns-in-Err-clause-asked g c = λ t. asks_again _ _ _ _ (c.reading.invariant.asked t) (c.in_ok-block.ensures.asked t)
+returns-in-Err-clause-asked g c = λ t. asks_again _ _ _ _ (c.reading.invariant.asked t) (c.in_ok-block.ensures.frame.asked t)

@@ -1,5 +1,5 @@
 use Rattle.std.proofs.Common.{◌≡◌, [], ◌∷◌, None}
-use Rattle.fund_base.specs.Causes.{Asks, OnlyReads}
+use Rattle.fund_shelf.specs.Causes.{Asks, OnlyReads}
 use Rattle.fund_files.proofs.FeedSteps.{SoFar}
 use Rattle.fund_files.proofs.blocks.read_blocks.Given as goal
 

@@ -1,6 +1,6 @@
 use Rattle.std.proofs.Common.{◌≡◌, ap, ℕ, List, [], ◌∷◌}
 use Rattle.std.proofs.lemmas.Result.{err_from_is_err_and}
-use Rattle.fund_base.proofs.Asking.{asks_first, asks_then}
+use Rattle.fund_shelf.proofs.Asking.{asks_first, asks_then}
 use Rattle.fund_files.specs.Contents.{HasWallet}
 use Rattle.fund_files.proofs.FrameLaws.{only_reads_on}
 use Rattle.fund_files.proofs.HeldLaws.{held_is}

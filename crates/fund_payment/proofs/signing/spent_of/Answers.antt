@@ -2,7 +2,7 @@ use Rattle.std.proofs.Common.{◌∙◌, ◌∷◌, [], ◌++◌, ap, arith, sub
 use Rattle.std.specs.Prelude.{All}
 use Rattle.std.proofs.lemmas.List.{take_all}
 use Rattle.psbt_codec.specs.declared.psbt.Spent.{Spent}
-use Rattle.fund_base.specs.declared.candidate.Candidate.{Candidate}
+use Rattle.coin_candidates.specs.declared.candidate.Candidate.{Candidate}
 use Rattle.fund_payment.proofs.ParentLaws.{Fits, fits_more, spent_more}
 use Rattle.fund_payment.proofs.signing.spent_of.Goals as goal
 

@@ -1,7 +1,7 @@
 use Rattle.std.proofs.Common.{◌≡◌, ◌∙◌, ℕ, refl, ap, arith, List, length}
 use Rattle.std.specs.Prelude.{ℤ, pos, neg_ℤ, ◌≤ℤ◌, ◌-ℤ◌, min, sum_by, Bool, not, ◌==◌}
 use Rattle.std.proofs.lemmas.Int.{ints}
-use Rattle.fund_base.specs.declared.candidate.Candidate.{Candidate}
+use Rattle.coin_candidates.specs.declared.candidate.Candidate.{Candidate}
 use Rattle.fee_rates.specs.Output.{output_size_of, dust_of}
 use Rattle.request_text.specs.PlainRequest.{PlainRequest, paid_to}
 use Rattle.request_text.specs.declared.request.Recipient.{Recipient}

@@ -1,6 +1,6 @@
 use Rattle.std.proofs.Common.{refl}
-use Rattle.fund_base.specs.SureShelf.{view_of as shelf_view}
-use Rattle.fund_base.specs.SureSink.{view_of as sink_view}
+use Rattle.fund_shelf.specs.SureShelf.{view_of as shelf_view}
+use Rattle.fund_shelf.specs.SureSink.{view_of as sink_view}
 use Rattle.fund_outside.specs.SureKeeper.{view_of as keeper_view}
 use Rattle.fund_top.specs.Words.{command_of}
 use Rattle.fund_top.proofs.SureLaws.{runs_in_memory}

@@ -1,5 +1,5 @@
 use Rattle.std.proofs.Common.{◌≡◌, ◌≤◌, [], ◌∷◌, ◌+◌, ◌-◌, take, length}
-use Rattle.fund_base.specs.Causes.{Asks}
+use Rattle.fund_shelf.specs.Causes.{Asks}
 use Rattle.sha2.specs.Hashers.{Holds256}
 use Rattle.kept_job.proofs.digest.digest_pieces.Given as goal
 

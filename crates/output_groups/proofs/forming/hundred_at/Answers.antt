@@ -1,6 +1,6 @@
 use Rattle.std.proofs.Common.{◌∙◌, ap}
 use Rattle.std.specs.Prelude.{List, length, nat_lt, nat_le, ◌&&◌}
-use Rattle.fund_base.specs.declared.candidate.Candidate.{Candidate}
+use Rattle.coin_candidates.specs.declared.candidate.Candidate.{Candidate}
 use Rattle.output_groups.specs.Forming.{hundred}
 use Rattle.output_groups.specs.Runs.{run_of}
 use Rattle.output_groups.proofs.RunLaws.{hundred_group, placed_coins, placed_formed, placed_part}

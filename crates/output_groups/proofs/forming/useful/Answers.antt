@@ -1,7 +1,7 @@
 use Rattle.std.proofs.Common.{◌≡◌, ◌∙◌, ◌++◌, Bool, cond, List, [], ◌∷◌, Vec, Global, sym, ap}
 use Rattle.std.proofs.lemmas.List.{append-nil}
 use Rattle.std.proofs.lemmas.List.Elements.{filter_more}
-use Rattle.fund_base.specs.declared.candidate.Candidate.{Candidate}
+use Rattle.coin_candidates.specs.declared.candidate.Candidate.{Candidate}
 use Rattle.output_groups.specs.Measures.{is_useful}
 use Rattle.output_groups.proofs.forming.useful.Goals as goal
 use Rattle.output_groups.proofs.forming.useful.Goals.{then-is_useful+in_ok-push, else-is_useful}

@@ -1,6 +1,6 @@
 use Rattle.std.proofs.Common.{◌∙◌, ◌++◌, List, [], ◌∷◌, take, get_or, append_assoc, sym, ap}
 use Rattle.std.proofs.lemmas.List.{take_more}
-use Rattle.fund_base.specs.declared.candidate.Candidate.{Candidate}
+use Rattle.coin_candidates.specs.declared.candidate.Candidate.{Candidate}
 use Rattle.output_groups.proofs.groups.add_copies.Goals as goal
 
 pub loop-lent-preserved : goal.loop-lent-preserved

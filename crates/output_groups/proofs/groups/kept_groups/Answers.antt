@@ -1,6 +1,6 @@
 use Rattle.std.proofs.Common.{◌≡◌, ◌∙◌, ◌+◌, ◌≤◌, ◌++◌, Bool, cond, List, [], ◌∷◌, Vec, Global, filter, length, map, sym, ap, subst}
 use Rattle.std.proofs.lemmas.List.{append-nil, take_all}
-use Rattle.fund_base.specs.declared.candidate.Candidate.{Candidate}
+use Rattle.coin_candidates.specs.declared.candidate.Candidate.{Candidate}
 use Rattle.pick_problem.specs.declared.item.Item.{Item}
 use Rattle.output_groups.specs.Formed.{coins_at, keeps_formed}
 use Rattle.output_groups.specs.declared.formed.Formed.{Formed}

@@ -1,6 +1,6 @@
 use Rattle.std.proofs.Common.{◌∙◌, Some, ap}
 use Rattle.std.specs.Prelude.{option_map}
-use Rattle.fund_base.specs.declared.candidate.Candidate.{Candidate}
+use Rattle.coin_candidates.specs.declared.candidate.Candidate.{Candidate}
 use Rattle.payment_facts.specs.AnyCoin.{facts_at}
 use Rattle.payment_states.specs.Candidates.{candidate_of}
 use Rattle.payment_facts.proofs.any_coin.fact_at.Goals as goal

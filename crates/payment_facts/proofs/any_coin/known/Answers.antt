@@ -1,5 +1,5 @@
 use Rattle.std.proofs.Common.{◌≡◌, ◌∙◌, IfOk, ap, subst}
-use Rattle.fund_base.specs.declared.candidate.Candidate.{Candidate}
+use Rattle.coin_candidates.specs.declared.candidate.Candidate.{Candidate}
 use Rattle.payment_facts.specs.AnyCoin.{waiting_at}
 use Rattle.payment_states.specs.ByPlace.{candidate_by}
 use Rattle.payment_states.specs.PendingView.{place_in}

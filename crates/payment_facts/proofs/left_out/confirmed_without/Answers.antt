@@ -3,9 +3,9 @@ use Rattle.std.specs.Prelude.{bytes_eq}
 use Rattle.std.specs.List.{filter_map, list_any}
 use Rattle.std.specs.Result.{IfOk, OnOk}
 use Rattle.indexmap.specs.IndexSet.{contains}
-use Rattle.fund_base.specs.Candidates.{AreCandidates}
+use Rattle.coin_candidates.specs.Candidates.{AreCandidates}
 use Rattle.fund_base.specs.Outpoints.{same_outpoint}
-use Rattle.fund_base.specs.declared.candidate.Candidate.{Candidate}
+use Rattle.coin_candidates.specs.declared.candidate.Candidate.{Candidate}
 use Rattle.fund_base.specs.declared.outpoint.OutPoint.{OutPoint}
 use Rattle.tx_codec.specs.Transaction.{Transaction}
 use Rattle.tx_codec.specs.Txid.{txid_of}

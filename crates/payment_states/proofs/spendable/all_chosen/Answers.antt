@@ -4,7 +4,7 @@ use Rattle.std.specs.Option.{option_to_list}
 use Rattle.std.proofs.lemmas.List.{append-nil, take_all}
 use Rattle.indexmap.specs.IndexSet.{contains}
 use Rattle.fund_base.specs.Outpoints.{same_outpoint}
-use Rattle.fund_base.specs.declared.candidate.Candidate.{Candidate}
+use Rattle.coin_candidates.specs.declared.candidate.Candidate.{Candidate}
 use Rattle.coin_book.specs.Coins.{coins_of}
 use Rattle.coin_book.specs.declared.coin.Coin.{Coin}
 use Rattle.payment_states.specs.ByPlace.{chosen_at, place_among}

@@ -6,7 +6,8 @@ use Rattle.block_feed.specs.Digest.{HasTaken}
 use Rattle.block_feed.specs.Feed.{FeedState, next_in, next_of, seen_from}
 use Rattle.block_feed.specs.Parts.{IsNextAt}
 use Rattle.block_feed.proofs.DigestLaws.{block_takes}
-use Rattle.block_feed.proofs.FrameLaws.{feed_memory_not, frame_fine, frame_none, frame_passed, ok_not}
+use Rattle.fund_shelf.proofs.FrameLaws.{frame_fine, frame_none, frame_passed, ok_not}
+use Rattle.block_feed.proofs.FrameLaws.{feed_memory_not}
 use Rattle.block_feed.proofs.NextLaws.{record_fits}
 use Rattle.block_feed.proofs.feed.Feed.advance.Goals as goal
 

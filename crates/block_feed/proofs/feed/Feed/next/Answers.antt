@@ -37,23 +37,8 @@ pub returns-clause-digests : goal.returns-clause-digests
 returns-clause-digests g c = λ told fine.
     gives_digests 1073741824 ((g.H.Shelf.view c.args.shelf.now).files c.args.name.now) c.args.self.now c.advance.new.self c.advance.result (c.advance.ensures.exact told fine) (past_within g.H.Shelf.tells (seen_from ((g.H.Shelf.view c.args.shelf.now).files c.args.name.now) c.args.self.now.place) c.args.self.now c.advance.new.self c.advance.result c.advance.ensures.past) (past_taken g.H.Shelf.tells (seen_from ((g.H.Shelf.view c.args.shelf.now).files c.args.name.now) c.args.self.now.place) c.args.self.now c.advance.new.self c.advance.result c.advance.ensures.past told) (c.advance.ensures.end_digest told fine)
 
-pub returns-clause-same : goal.returns-clause-same
-returns-clause-same g c = c.advance.ensures.frame.same
-
-pub returns-clause-reads : goal.returns-clause-reads
-returns-clause-reads g c = c.advance.ensures.frame.reads
-
-pub returns-clause-writes : goal.returns-clause-writes
-returns-clause-writes g c = c.advance.ensures.frame.writes
-
-pub returns-clause-cause : goal.returns-clause-cause
-returns-clause-cause g c = c.advance.ensures.frame.cause
-
-pub returns-clause-unfailed : goal.returns-clause-unfailed
-returns-clause-unfailed g c = c.advance.ensures.frame.unfailed
-
-pub returns-clause-asked : goal.returns-clause-asked
-returns-clause-asked g c = c.advance.ensures.frame.asked
+pub returns-clause-frame : goal.returns-clause-frame
+returns-clause-frame g c = c.advance.ensures.frame
 
 pub returns-clause-linked : goal.returns-clause-linked
 returns-clause-linked g c = past_linked g.H.Shelf.tells (seen_from ((g.H.Shelf.view c.args.shelf.now).files c.args.name.now) c.args.self.now.place) c.args.self.now c.advance.new.self c.advance.result c.advance.ensures.past

@@ -1,5 +1,5 @@
 use Rattle.std.proofs.Common.{◌∙◌, List, ap, subst}
-use Rattle.fund_base.specs.declared.candidate.Candidate.{Candidate}
+use Rattle.coin_candidates.specs.declared.candidate.Candidate.{Candidate}
 use Rattle.fund_steps.proofs.MakingLaws.{load_is_alone}
 use Rattle.fund_steps.specs.Listed.{burden_in}
 use Rattle.fund_steps.specs.Kept.{IsKept}

@@ -1,8 +1,8 @@
 use Rattle.std.specs.Prelude.{All, Option, not}
 use Rattle.std.proofs.Common.{◌≡◌, ◌≤◌, ◌∙◌, refl, sym, ap, subst, arith, List, Vec, Global}
 use Rattle.std.proofs.lemmas.Result.{err_from_is_err_and}
-use Rattle.fund_base.specs.Candidates.{AreCandidates}
-use Rattle.fund_base.specs.declared.candidate.Candidate.{Candidate}
+use Rattle.coin_candidates.specs.Candidates.{AreCandidates}
+use Rattle.coin_candidates.specs.declared.candidate.Candidate.{Candidate}
 use Rattle.request_text.specs.PlainRequest.{PlainRequest}
 use Rattle.wallet_text.specs.declared.wallet.Watch.{Watch}
 use Rattle.fund_steps.specs.Amounts.{AreWithin, value_of}

@@ -1,6 +1,6 @@
 use Rattle.std.specs.Prelude.{not}
 use Rattle.std.proofs.Common.{◌∙◌, sym, subst}
-use Rattle.fund_base.specs.Candidates.{AreCandidates}
+use Rattle.coin_candidates.specs.Candidates.{AreCandidates}
 use Rattle.fund_steps.proofs.RowLaws.{filter_candidates}
 use Rattle.fund_steps.specs.Kept.{IsKept}
 use Rattle.fund_steps.specs.Plan.{PlainPlan}

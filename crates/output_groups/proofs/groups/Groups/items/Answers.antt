@@ -1,6 +1,6 @@
 use Rattle.std.proofs.Common.{◌≤◌, ◌∙◌, ap, subst, sym, arith}
 use Rattle.std.specs.Prelude.{ℕ, List, All, filter, length, map}
-use Rattle.fund_base.specs.declared.candidate.Candidate.{Candidate}
+use Rattle.coin_candidates.specs.declared.candidate.Candidate.{Candidate}
 use Rattle.pick_problem.specs.Pool.{AreItems}
 use Rattle.output_groups.specs.Formed.{keeps_formed}
 use Rattle.output_groups.specs.PlainGroups.{PlainGroups, pool_in}

@@ -1,7 +1,7 @@
 use Rattle.std.proofs.Common.{◌+◌, ◌≤◌, ◌∙◌, ap, subst, sym}
 use Rattle.std.specs.Prelude.{ℕ, List, All, filter, length, map}
 use Rattle.std.proofs.lemmas.List.Elements.{All-filter, All-weaker}
-use Rattle.fund_base.specs.declared.candidate.Candidate.{Candidate}
+use Rattle.coin_candidates.specs.declared.candidate.Candidate.{Candidate}
 use Rattle.pick_problem.specs.Problem.{Rising}
 use Rattle.output_groups.specs.Formed.{IsFormed, coins_at, keeps_formed}
 use Rattle.output_groups.specs.Places.{members}

@@ -1,6 +1,6 @@
 use Rattle.std.proofs.Common.{subst}
 use Rattle.std.specs.Prelude.{List, map}
-use Rattle.fund_base.specs.declared.candidate.Candidate.{Candidate}
+use Rattle.coin_candidates.specs.declared.candidate.Candidate.{Candidate}
 use Rattle.output_groups.specs.Formed.{part_in}
 use Rattle.output_groups.specs.Forming.{AreParts}
 use Rattle.output_groups.proofs.PlacedLaws.{formed_are}

@@ -1,6 +1,6 @@
 use Rattle.std.specs.Prelude.{List, Some, option_copied}
 use Rattle.std.proofs.Common.{sym, subst}
-use Rattle.fund_base.specs.declared.candidate.Candidate.{Candidate}
+use Rattle.coin_candidates.specs.declared.candidate.Candidate.{Candidate}
 use Rattle.report_check.specs.Finding.{IsCoinAt, IsPlaceAt, NoneAt}
 use Rattle.report_check.proofs.FindingLaws.{found_at}
 use Rattle.report_check.proofs.coin_index.CoinIndex.coin_at.Goals as goal

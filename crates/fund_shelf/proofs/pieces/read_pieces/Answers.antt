@@ -1,0 +1,42 @@
+use Rattle.std.proofs.Common.{ℕ, List, ◌∙◌, subst}
+use Rattle.fund_shelf.specs.Causes.{IsRead}
+use Rattle.fund_shelf.proofs.Asking.{asks_again}
+use Rattle.fund_shelf.proofs.FrameLaws.{frame_read, frame_same, frame_then, memory_not, ok_not}
+use Rattle.fund_shelf.proofs.Parts.{read_more}
+use Rattle.fund_shelf.proofs.pieces.read_pieces.Goals as goal
+
+pub reading-preserved : goal.reading-preserved
+reading-preserved g c = record {
+  read = λ told.
+      let read = subst (λ (files : List ℕ → List ℕ). IsRead (files c.args.name.now) c.len-in-reading.result c.in_ok-count.count c.read_at.new.buf) (c.reading.invariant.same told) (c.in_ok-count.ensures.bytes told) in
+      read_more _ _ _ _ _ _ _ _ (c.reading.invariant.read told) c.len-in-reading.ensures read c.in_ok-count.ensures.bound c.in_ok-extend_from_slice.ensures.items c.in_ok-extend_from_slice.ensures.len;
+  same = λ told. c.in_ok-count.ensures.same told ∙ c.reading.invariant.same told;
+  reads = c.in_ok-count.ensures.unfailed ∙ c.reading.invariant.reads;
+  writes = c.in_ok-count.ensures.writes ∙ c.reading.invariant.writes;
+  asked = λ told. asks_again _ _ _ _ (c.reading.invariant.asked told) (c.in_ok-count.ensures.asked told);
+}
+
+pub returns-in_err-count-clause-frame : goal.returns-in_err-count-clause-frame
+returns-in_err-count-clause-frame g c =
+    frame_then _ ⊥ _ _ _ _ _ (λ failed. failed)
+    (frame_same _ ⊥ _ _ _ (λ failed. failed) c.reading.invariant.same c.reading.invariant.reads c.reading.invariant.writes c.reading.invariant.asked)
+    (frame_read _ _ _ _ c.in_err-count.field-0.0 c.from_residual.result c.from_residual.ensures.1 c.in_err-count.ensures.same c.in_err-count.ensures.reads c.in_err-count.ensures.writes c.in_err-count.ensures.cause c.in_err-count.ensures.short c.in_err-count.ensures.asked)
+
+pub returns-then-count-eq0-clause-frame : goal.returns-then-count-eq0-clause-frame
+returns-then-count-eq0-clause-frame g c =
+    frame_same _ _ _ _ _ (ok_not _ _)
+    (λ told. c.in_ok-count.ensures.same told ∙ c.reading.invariant.same told)
+    (c.in_ok-count.ensures.unfailed ∙ c.reading.invariant.reads)
+    (c.in_ok-count.ensures.writes ∙ c.reading.invariant.writes)
+    (λ told. asks_again _ _ _ _ (c.reading.invariant.asked told) (c.in_ok-count.ensures.asked told))
+
+pub returns-in_err-extend_from_slice-clause-frame : goal.returns-in_err-extend_from_slice-clause-frame
+returns-in_err-extend_from_slice-clause-frame g c =
+    frame_same _ _ _ _ _ (memory_not c.from_residual-in_err-extend_from_slice.result c.from_residual-in_err-extend_from_slice.ensures.1)
+    (λ told. c.in_ok-count.ensures.same told ∙ c.reading.invariant.same told)
+    (c.in_ok-count.ensures.unfailed ∙ c.reading.invariant.reads)
+    (c.in_ok-count.ensures.writes ∙ c.reading.invariant.writes)
+    (λ told. asks_again _ _ _ _ (c.reading.invariant.asked told) (c.in_ok-count.ensures.asked told))
+
+pub returns-clause-frame : goal.returns-clause-frame
+returns-clause-frame g c = frame_same _ _ _ _ _ (ok_not _ _) c.reading.invariant.same c.reading.invariant.reads c.reading.invariant.writes c.reading.invariant.asked

@@ -1,0 +1,10 @@
+pub mod Causes
+pub mod Failures
+pub mod FileShelf
+pub mod Files
+pub mod MemShelf
+pub mod MemSink
+pub mod Pieces
+pub mod StdSink
+pub mod SureShelf
+pub mod SureSink
