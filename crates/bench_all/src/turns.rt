@@ -1,6 +1,6 @@
 //! A run over one search in turns: each turn asks where the run stands and what it comes to.
 
-ghost use Rattle.std.specs.Prelude.{◌≡◌, ◌≤◌, ℕ, IfOk, IsTrue, List, length};
+ghost use Rattle.std.specs.Prelude.{◌≡◌, ◌≤◌, IfOk, IsTrue};
 ghost use Rattle.std.specs.List.{AllByRecursion};
 ghost use Rattle.search_run.specs.Step.{AreSteps};
 

@@ -3,7 +3,7 @@
 ghost use Rattle.std.specs.Prelude.{◌≡◌, ◌≢◌, ◌↔◌, [], ◌∷◌, IfErr, IfOk, IsTrue, OnOk};
 ghost use Rattle.fund_shelf.specs.Causes.{Asks, OnlyReads};
 ghost use Rattle.report_check.specs.Verdict.{HasLog};
-ghost use Rattle.command_check.specs.Evidence.{HasReport, IsTooLong, IsWithin};
+ghost use Rattle.command_check.specs.Evidence.{HasReport, IsWithin};
 ghost use Rattle.command_check.specs.Stops.{StopsAtLog, StopsAtReport, StopsReading, form_stop_of, read_stop_of};
 
 use crate::stop::{Evidence, Stop};

@@ -1,6 +1,6 @@
 //! The fault line of a desk that stops before the first line of its script.
 
-ghost use Rattle.std.specs.Prelude.{◌≡◌, ◌++◌, codes};
+ghost use Rattle.std.specs.Prelude.{◌≡◌};
 ghost use Rattle.fund_shelf.specs.Causes.{CountsNeverFall};
 ghost use Rattle.fund_files.specs.declared.refusal.File.{File};
 ghost use Rattle.command_end.specs.Lines.{GotLine, fault_line};

@@ -4,8 +4,6 @@ ghost use Rattle.std.specs.Prelude.{◌≡◌, ◌≢◌, ◌++◌, IfErr, IfOk,
 ghost use Rattle.fund_shelf.specs.Causes.{Asks, CountsNeverFall, OnlyReads};
 ghost use Rattle.command_end.specs.Printed.{TookAll};
 ghost use Rattle.desk_machine.specs.Commands.{IsCommand, plain_command};
-ghost use Rattle.desk_machine.specs.Machine.{step_of};
-ghost use Rattle.desk_machine.specs.Replies.{plain_reply};
 ghost use Rattle.command_desk.specs.Lent.{plain_line};
 ghost use Rattle.command_desk.specs.Line.{wanted};
 ghost use Rattle.command_desk.specs.Asked.{file_in};

@@ -1,6 +1,6 @@
 //! The command.
 
-ghost use Rattle.std.specs.Prelude.{◌≡◌, ◌≢◌, ◌≤◌, None, IfErr, IfOk, option_map};
+ghost use Rattle.std.specs.Prelude.{◌≡◌, ◌≢◌, ◌≤◌, None, IfErr, IfOk};
 ghost use Rattle.fund_shelf.specs.Causes.{CountsNeverFall, NeverFall, OnlyReads, SameElsewhere};
 ghost use Rattle.fund_files.specs.declared.refusal.File.{File};
 ghost use Rattle.kept_job.specs.SavingRules.{CanBeKept};

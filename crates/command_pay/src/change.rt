@@ -1,7 +1,6 @@
 //! Whether change comes back.
 
-ghost use Rattle.std.specs.Prelude.{◌≡◌, bytes_eq};
-ghost use Rattle.std.specs.List.{list_any};
+ghost use Rattle.std.specs.Prelude.{◌≡◌};
 ghost use Rattle.command_pay.specs.Change.{is_among, is_change_listed};
 
 use wallet_text::{Wallet, Watch};

@@ -1,6 +1,6 @@
 //! The run of `fund` for what is asked.
 
-ghost use Rattle.std.specs.Prelude.{◌≡◌, IfOk, codes};
+ghost use Rattle.std.specs.Prelude.{◌≡◌, IfOk};
 ghost use Rattle.request_making.specs.Asked.{asked_of};
 ghost use Rattle.request_making.specs.Written.{request_bytes};
 ghost use Rattle.request_text.specs.RequestText.{request_of};

@@ -1,7 +1,6 @@
 //! What the sentence of a line comes to, in words of the faults that lines tell.
 
 ghost use Rattle.std.specs.Prelude.{◌≡◌, ◌≢◌, ◌++◌, ◌∷◌, [], ℕ, List, None, Some, codes};
-ghost use Rattle.tx_codec.specs.declared.fault.TxFault.{TxFault};
 ghost use Rattle.block_feed.specs.declared.fault.FeedFault.{FeedFault};
 ghost use Rattle.fund_base.specs.declared.outpoint.OutPoint.{OutPoint};
 ghost use Rattle.fund_steps.specs.declared.fault.PlanFault.{PlanFault};

@@ -3,7 +3,7 @@
 ghost use Rattle.std.specs.Prelude.{◌≡◌, ◌≤◌, ◌≤ℤ◌, ◌-ℤ◌, pos, neg_ℤ, unsigned_abs, IfSome};
 ghost use Rattle.fee_rates.specs.Terms.{AreRates, IsLoad};
 ghost use Rattle.request_text.specs.PlainRequest.{PlainRequest, paid_to};
-ghost use Rattle.fund_steps.specs.Amounts.{AreWithin, fees_of, value_of};
+ghost use Rattle.fund_steps.specs.Amounts.{AreWithin, fees_of};
 ghost use Rattle.fund_steps.specs.Terms.{rates_of};
 ghost use Rattle.fund_plan.specs.Chosen.{change_with, left_with};
 ghost use Rattle.fund_plan.specs.Figures.{waste_of};

@@ -7,7 +7,7 @@ ghost use Rattle.fund_base.specs.Outpoints.{outpoint_cmp, same_outpoint};
 ghost use Rattle.coin_candidates.specs.declared.candidate.Candidate.{Candidate};
 ghost use Rattle.fund_base.specs.declared.outpoint.OutPoint.{OutPoint};
 ghost use Rattle.fund_steps.specs.Listed.{burden_by, is_preset, presets_by};
-ghost use Rattle.fund_steps.specs.Selection.{by_outpoint, first_missing, has_coin, in_order, is_listed, unlisted};
+ghost use Rattle.fund_steps.specs.Selection.{first_missing, has_coin, in_order, is_listed, unlisted};
 ghost use Rattle.fund_steps.specs.declared.fault.PlanFault.TheVariants.{Memory as NoMemory, NotEligible};
 
 use crate::bump::BumpInput;

@@ -2,7 +2,7 @@
 
 ghost use Rattle.std.specs.Prelude.{◌≡◌, [], Err, IsOk, None, is_some};
 ghost use Rattle.fund_base.specs.Parsing.{YieldsAll};
-ghost use Rattle.pay_words.specs.Given.{begun, ended_by, flags_in, named, next_of, place_of};
+ghost use Rattle.pay_words.specs.Given.{begun, ended_by, flags_in, next_of, place_of};
 ghost use Rattle.pay_words.specs.declared.fault.WordFault.TheVariants.{Memory as OutOfMemory};
 
 use crate::fault::WordFault;

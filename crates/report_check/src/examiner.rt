@@ -1,6 +1,6 @@
 //! What reports are judged against, and the judgement.
 
-ghost use Rattle.std.specs.Prelude.{◌≡◌, ◌≢◌, ◌≤◌, IfErr, IfOk, MatchResult, None, OnOk, false, length, true};
+ghost use Rattle.std.specs.Prelude.{◌≡◌, ◌≢◌, ◌≤◌, IfErr, IfOk, MatchResult, OnOk, false, length, true};
 ghost use Rattle.coin_candidates.specs.Candidates.{AreCandidates};
 ghost use Rattle.fund_plan.specs.Steps.{steps_of};
 ghost use Rattle.fund_report.specs.declared.report.Report.TheVariants as reports;

@@ -2,8 +2,7 @@
 
 ghost use Rattle.std.specs.Prelude.{◌≡◌, ◌↔◌, ◌≤◌, length, IfErr, IsTrue, OnOk};
 ghost use Rattle.search_run.specs.Answer.{AreWhole};
-ghost use Rattle.search_run.specs.Searched.{searches};
-ghost use Rattle.report_check.specs.Due.{AreForFirst, AreRight};
+ghost use Rattle.report_check.specs.Due.{AreRight};
 ghost use Rattle.report_check.specs.Proved.{AreProved, HasTries, tries_place};
 ghost use Rattle.report_check.specs.Refused.{BreaksBefore};
 ghost use Rattle.report_check.specs.Verdict.{HasLog};

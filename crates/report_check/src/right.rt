@@ -1,6 +1,6 @@
 //! The sections that are due beside a report.
 
-ghost use Rattle.std.specs.Prelude.{◌≡◌, ◌⊎◌, ◌≤◌, [], List, length, IfErr, OnOk};
+ghost use Rattle.std.specs.Prelude.{◌≤◌, [], List, length, IfErr, OnOk};
 ghost use Rattle.search_run.specs.Answer.{AreWhole};
 ghost use Rattle.search_run.specs.Step.{PlainStep};
 ghost use Rattle.report_check.specs.Due.{AreFor, AreRight, AreRightBy, AreUpTo, IsFirstWrong, IsWrongBy, PartsHere};

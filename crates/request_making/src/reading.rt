@@ -1,8 +1,8 @@
 //! Reading amounts and rates.
 
-ghost use Rattle.std.specs.Prelude.{◌≡◌, ◌≤◌, ◌<◌, ◌+◌, ◌-◌, ◌*◌, ◌^◌, length, IfSome};
+ghost use Rattle.std.specs.Prelude.{◌≡◌, ◌≤◌, ◌<◌, ◌+◌, ◌-◌, ◌^◌, length, IfSome};
 ghost use Rattle.std.specs.Option.{SomeIff};
-ghost use Rattle.std.specs.Str.Parse.{AllDigits, digits_value};
+ghost use Rattle.std.specs.Str.Parse.{AllDigits};
 ghost use Rattle.request_making.specs.Spelled.{pointed, spelled, valued};
 ghost use Rattle.request_making.specs.Spelling.{scaled};
 ghost use Rattle.request_making.specs.declared.unit.Kind.TheVariants.{Amount, Rate};

@@ -5,7 +5,6 @@
 //! - `meets`: which rows take the first coin by itself
 //! - `plan REQUEST`: the change, the figures and the unsigned transaction of the payment, or why there is none
 
-ghost use Rattle.std.specs.Prelude.{◌≤◌};
 ghost use Rattle.coin_candidates.specs.Candidates.{AreCandidates};
 
 use crate::coins::candidates_in;
