@@ -1,7 +1,6 @@
 -- How the writing and the printing end is how the command ends.
-use Rattle.std.proofs.Common.{◌≡◌, ◌∙◌, ◌++◌, ℕ, List, Option, Some, None, inl, inr, refl, sym, ap, subst, arith}
+use Rattle.std.proofs.Common.{◌≡◌, ◌∙◌, ◌++◌, ℕ, List, Option, Some, None, inl, inr, refl, sym, ap, subst}
 use Rattle.std.specs.Prelude.{◌⊎◌, codes}
-use Rattle.fund_shelf.proofs.Outside.{rose_earlier}
 use Rattle.fund_shelf.specs.Causes.{OnlyReads, ShelfView, SinkView, Rose}
 use Rattle.block_feed.specs.Block.{ChainBlock}
 use Rattle.fund_outside.specs.Kept.{KeeperView}
@@ -11,13 +10,11 @@ use Rattle.request_text.specs.PlainRequest.{PlainRequest}
 use Rattle.search_run.specs.Step.{AreSteps}
 use Rattle.wallet_text.specs.PlainWallet.{PlainWallet}
 use Rattle.fund_files.specs.Chain.{held_of}
-use Rattle.fund_files.specs.declared.refusal.File.{File}
-use Rattle.fund_files.specs.declared.refusal.File.TheVariants.{Wallet, Blocks, Request}
 use Rattle.kept_job.proofs.SavingLaws.{first_kept}
 use Rattle.kept_job.specs.Kept.{new_of}
 use Rattle.kept_job.specs.Saving.{IsSavedBehind}
-use Rattle.command_fund.specs.Digest.{AreWithin, digest_in}
-use Rattle.command_fund.specs.Inputs.{AreInputs, Reaches, name_of}
+use Rattle.command_fund.specs.Digest.{HasDigest}
+use Rattle.command_fund.specs.Inputs.{name_of}
 use Rattle.command_fund.specs.Jobs.{IsLeft}
 use Rattle.command_fund.specs.Leaving.{HasLeft, IsNotLeft, IsSavedAnew}
 use Rattle.command_fund.specs.PlanEnds.{IsLeftAt}
@@ -83,52 +80,32 @@ finish_ends told_files told told_jobs s p job keeper report log status shelf mid
 
 -- ---- a run that goes on
 
--- what is saved anew of the run's plan is kept as the run was left
-left_is : (told_files told_jobs : Type 0) (files : List ℕ → List ℕ) (s : Sources) (p : Payment) (job : Option (List ℕ)) (left : Left) (keeper keeper' : KeeperView) (w : PlainWallet) (blocks : List ChainBlock) (r : PlainRequest) → (told_files → AreInputs files s p w blocks r)
-    → IsLeftAt (held_of w blocks) r left.plan → AreSteps (steps_of (plan_of (held_of w blocks) r)) → IsSavedAnew told_files told_jobs files s p left job keeper keeper' → told_jobs → IsLeft told_files files s p (plan_of (held_of w blocks) r) r.tries job keeper keeper'
-left_is told_files told_jobs files s p None left keeper keeper' w blocks r inputs at steps saved t = ap (λ (k : KeeperView). k.jobs) saved
-left_is told_files told_jobs files s p (Some job) left keeper keeper' w blocks r inputs at steps saved t =
+-- what is saved anew of the run's plan is kept as the run was left, with the digest of the files
+left_is : (told_files told_jobs : Type 0) (files : List ℕ → List ℕ) (s : Sources) (p : Payment) (job digest : Option (List ℕ)) (left : Left) (keeper keeper' : KeeperView) (w : PlainWallet) (blocks : List ChainBlock) (r : PlainRequest) → HasDigest told_files files s p job digest
+    → IsLeftAt (held_of w blocks) r left.plan → AreSteps (steps_of (plan_of (held_of w blocks) r)) → IsSavedAnew told_jobs left.plan job digest keeper keeper' → told_jobs → IsLeft told_files files s p (plan_of (held_of w blocks) r) r.tries job keeper keeper'
+left_is told_files told_jobs files s p None digest left keeper keeper' w blocks r named at steps saved t = ap (λ (k : KeeperView). k.jobs) saved
+left_is told_files told_jobs files s p (Some job) None left keeper keeper' w blocks r named at steps saved t = absurd named
+left_is told_files told_jobs files s p (Some job) (Some digest) left keeper keeper' w blocks r named at steps saved t =
     let plan = plan_of (held_of w blocks) r in
-    let digest = (saved t).1.0 in
-    let within : told_files → AreWithin files s p = λ f. record { wallet = omega (arith, (inputs f).chain.wallet.fits); blocks = (inputs f).chain.blocks.fits; request = omega (arith, (inputs f).request.fits) } in
-    let behind : IsSavedBehind digest (moved (new_of plan) r.tries) 0 0 (keeper.jobs job) (keeper'.jobs job) = subst (λ (x : PlanState). IsSavedBehind digest x 0 0 (keeper.jobs job) (keeper'.jobs job)) at.stands (saved t).1.2 in
-    ((saved t).0, (digest, (λ f. (saved t).1.1 f (within f)), first_kept plan r.tries digest (keeper.jobs job) (keeper'.jobs job) steps behind, behind))
+    let behind : IsSavedBehind digest (moved (new_of plan) r.tries) 0 0 (keeper.jobs job) (keeper'.jobs job) = subst (λ (x : PlanState). IsSavedBehind digest x 0 0 (keeper.jobs job) (keeper'.jobs job)) at.stands (saved t).1 in
+    ((saved t).0, (digest, named, first_kept plan r.tries digest (keeper.jobs job) (keeper'.jobs job) steps behind, behind))
 
--- the files before one are in order, where all are
-pub reached : (files : List ℕ → List ℕ) (s : Sources) (p : Payment) (w : PlainWallet) (blocks : List ChainBlock) (r : PlainRequest) (file : File) → AreInputs files s p w blocks r → Reaches files s file
-reached files s p w blocks r Wallet i = tt
-reached files s p w blocks r Blocks i = (w, i.chain.wallet)
-reached files s p w blocks r Request i = (w, blocks, i.chain)
-
-module _ (told_files told told_jobs : Type 0) (s : Sources) (p : Payment) (job : Option (List ℕ)) (left : Left) (shelf middle shelf' : ShelfView) (sink sink' : SinkView) (keeper keeper' : KeeperView) (result : Status)
-    (read : OnlyReads told_files shelf middle) (reads_on : OnlyReads told_files middle shelf') (u : IsUnfinished told_files shelf.files s p left.report.items) where
-  unchanged : told_files → shelf'.files ≡ shelf.files
-  unchanged f = reads_on.same f ∙ read.same f
-
+module _ (told_files told told_jobs : Type 0) (s : Sources) (p : Payment) (job digest : Option (List ℕ)) (left : Left) (shelf shelf' : ShelfView) (sink sink' : SinkView) (keeper keeper' : KeeperView) (result : Status)
+    (read : OnlyReads told_files shelf shelf') (u : IsUnfinished told_files shelf.files s p left.report.items) where
   put_ends : (told_jobs → IsLeft told_files shelf.files s p (plan_of (held_of u.wallet u.blocks) u.asked) u.asked.tries job keeper keeper') → IsPut told left.report.items statuses.Unfinished sink sink' result
       → Ends told_files told told_jobs s p job shelf shelf' sink sink' keeper keeper' result
-  put_ends kept (inl h) = subst (λ (x : Status). Ends told_files told told_jobs s p job shelf shelf' sink sink' keeper keeper' x) (sym h.0) (left.report.items, u, unchanged, h.1, kept)
-  put_ends kept (inr (inl h)) = subst (λ (x : Status). Ends told_files told told_jobs s p job shelf shelf' sink sink' keeper keeper' x) (sym h.0) (left.report.items, None, u, inr (h.1, unchanged, h.2, kept))
-  put_ends kept (inr (inr h)) = subst (λ (x : Status). Ends told_files told told_jobs s p job shelf shelf' sink sink' keeper keeper' x) (sym h.0) (inr (left.report.items, None, u, h.1, unchanged, h.2, kept))
+  put_ends kept (inl h) = subst (λ (x : Status). Ends told_files told told_jobs s p job shelf shelf' sink sink' keeper keeper' x) (sym h.0) (left.report.items, u, read.same, h.1, kept)
+  put_ends kept (inr (inl h)) = subst (λ (x : Status). Ends told_files told told_jobs s p job shelf shelf' sink sink' keeper keeper' x) (sym h.0) (left.report.items, None, u, inr (h.1, read.same, h.2, kept))
+  put_ends kept (inr (inr h)) = subst (λ (x : Status). Ends told_files told told_jobs s p job shelf shelf' sink sink' keeper keeper' x) (sym h.0) (inr (left.report.items, None, u, h.1, read.same, h.2, kept))
 
-  not_left_ends : IsNotLeft told s p job middle shelf' sink sink' keeper keeper' result → (told_jobs → keeper'.jobs ≡ keeper.jobs) → Ends told_files told told_jobs s p job shelf shelf' sink sink' keeper keeper' result
-  not_left_ends (inl h) same = subst (λ (x : Status). Ends told_files told told_jobs s p job shelf shelf' sink sink' keeper keeper' x) (sym h.1)
-      (h.0, rose_earlier _ _ _ (read.reads (name_of s p h.0)) h.2, λ f. reached shelf.files s p u.wallet u.blocks u.asked h.0 (u.inputs f), h.3)
-  not_left_ends (inr (inl h)) same = subst (λ (x : Status). Ends told_files told told_jobs s p job shelf shelf' sink sink' keeper keeper' x) (sym h.0) (left.report.items, u, h.1, h.2, h.3)
-  not_left_ends (inr (inr h)) same = subst (λ (x : Status). Ends told_files told told_jobs s p job shelf shelf' sink sink' keeper keeper' x) (sym h.0) (inl (h.1, same, unchanged))
+  not_left_ends : IsNotLeft told job sink sink' keeper keeper' result → (told_jobs → keeper'.jobs ≡ keeper.jobs) → Ends told_files told told_jobs s p job shelf shelf' sink sink' keeper keeper' result
+  not_left_ends (inl h) same = subst (λ (x : Status). Ends told_files told told_jobs s p job shelf shelf' sink sink' keeper keeper' x) (sym h.0) (left.report.items, u, h.1, h.2, h.3)
+  not_left_ends (inr h) same = subst (λ (x : Status). Ends told_files told told_jobs s p job shelf shelf' sink sink' keeper keeper' x) (sym h.0) (inl (h.1, same, read.same))
 
-  pub leave_ends : AreSteps (steps_of (plan_of (held_of u.wallet u.blocks) u.asked)) → IsLeftAt (held_of u.wallet u.blocks) u.asked left.plan
-      → HasLeft told_files told told_jobs s p job left middle shelf' sink sink' keeper keeper' result → Ends told_files told told_jobs s p job shelf shelf' sink sink' keeper keeper' result
-  leave_ends steps at (inl h) =
-      put_ends (λ t. left_is told_files told_jobs shelf.files s p job left keeper keeper' u.wallet u.blocks u.asked u.inputs at steps (saved_before h.1) t) h.0
-    where
-      saved_before : IsSavedAnew told_files told_jobs middle.files s p left job keeper keeper' → IsSavedAnew told_files told_jobs shelf.files s p left job keeper keeper'
-      saved_before a = by job a
-        where
-          by : (o : Option (List ℕ)) → IsSavedAnew told_files told_jobs middle.files s p left o keeper keeper' → IsSavedAnew told_files told_jobs shelf.files s p left o keeper keeper'
-          by None a = a
-          by (Some name) a = λ t. ((a t).0, ((a t).1.0, (λ f. subst (λ (files : List ℕ → List ℕ). AreWithin files s p → (a t).1.0 ≡ digest_in files s p) (read.same f) ((a t).1.1 f)), (a t).1.2))
-  leave_ends steps at (inr h) = not_left_ends h.0 h.1
+  pub leave_ends : AreSteps (steps_of (plan_of (held_of u.wallet u.blocks) u.asked)) → IsLeftAt (held_of u.wallet u.blocks) u.asked left.plan → HasDigest told_files shelf.files s p job digest
+      → HasLeft told told_jobs job digest left sink sink' keeper keeper' result → Ends told_files told told_jobs s p job shelf shelf' sink sink' keeper keeper' result
+  leave_ends steps at named (inl h) = put_ends (left_is told_files told_jobs shelf.files s p job digest left keeper keeper' u.wallet u.blocks u.asked named at steps h.1) h.0
+  leave_ends steps at named (inr h) = not_left_ends h.0 h.1
 
 -- ---- a stop
 

@@ -1,5 +1,5 @@
 -- The digest of the job of some files.
-use Rattle.std.specs.Prelude.{ℕ, ◌≤◌, List, length}
+use Rattle.std.specs.Prelude.{ℕ, ◌≡◌, List, Option, Some, None}
 use Rattle.kept_job.specs.Digest.{job_digest}
 use Rattle.command_end.specs.Names.{Sources}
 use Rattle.command_fund.specs.Names.{Payment}
@@ -8,8 +8,8 @@ use Rattle.command_fund.specs.Names.{Payment}
 abbrev pub digest_in : (List ℕ → List ℕ) → Sources → Payment → List ℕ
 digest_in files s p = job_digest (files s.wallet) (files s.blocks) (files p.request)
 
--- none of them is longer than any file that is taken
-pub record AreWithin (files : List ℕ → List ℕ) (s : Sources) (p : Payment) : Type 0 where
-  pub wallet : length (files s.wallet) ≤ 1073741824
-  pub blocks : length (files s.blocks) ≤ 1073741824
-  pub request : length (files p.request) ≤ 1073741824
+-- What is taken as the digest where a job may be named: with a job that of the files, where they are told; without one none.
+abbrev pub HasDigest : Type 0 → (List ℕ → List ℕ) → Sources → Payment → (job digest : Option (List ℕ)) → Type 0
+HasDigest told files s p None digest = digest ≡ None
+HasDigest told files s p (Some job) None = ⊥
+HasDigest told files s p (Some job) (Some digest) = told → digest ≡ digest_in files s p

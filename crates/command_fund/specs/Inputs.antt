@@ -25,10 +25,6 @@ name_of s p Request = p.request
 abbrev pub AsksInOrder : Sources → Payment → ShelfView → ShelfView → Type 0
 AsksInOrder s p old new = Asks (s.wallet ∷ s.blocks ∷ p.request ∷ []) old.asked new.asked
 
--- The same, and once more in this order for the digest of a job.
-abbrev pub AsksTwice : Sources → Payment → ShelfView → ShelfView → Type 0
-AsksTwice s p old new = Asks (s.wallet ∷ s.blocks ∷ p.request ∷ s.wallet ∷ s.blocks ∷ p.request ∷ []) old.asked new.asked
-
 -- Nothing is asked for behind a refusal: where the wallet file is refused, no other name was; and where the wallet and the
 -- blocks aren't in order, no name but these.
 pub record NoneBehind (s : Sources) (old new : ShelfView) : Type 0 where

@@ -7,7 +7,6 @@ pub mod Leaving
 pub mod Meant
 pub mod Names
 pub mod PlanEnds
-pub mod Reading
 pub mod Replacing
 pub mod Statuses
 pub mod Stops

@@ -193,21 +193,6 @@ Ends told_files told told_jobs s p job shelf shelf' sink sink' keeper keeper' st
 Ends told_files told told_jobs s p job shelf shelf' sink sink' keeper keeper' statuses.Saved = ⊥
 Ends told_files told told_jobs s p job shelf shelf' sink sink' keeper keeper' statuses.CheckRefused = ⊥
 
--- A status that what the files hold comes to by itself: a payment, that there is none, or a refusal. Then no run is kept.
-abbrev pub IsOfTheFiles : Status → Type 0
-IsOfTheFiles statuses.Done = Unit {0}
-IsOfTheFiles statuses.NoSelection = Unit {0}
-IsOfTheFiles statuses.Input = Unit {0}
-IsOfTheFiles statuses.Limit = Unit {0}
-IsOfTheFiles statuses.Usage = ⊥
-IsOfTheFiles statuses.ReadFault = ⊥
-IsOfTheFiles statuses.WriteFault = ⊥
-IsOfTheFiles statuses.KeepFault = ⊥
-IsOfTheFiles statuses.Memory = ⊥
-IsOfTheFiles statuses.Unfinished = ⊥
-IsOfTheFiles statuses.Saved = ⊥
-IsOfTheFiles statuses.CheckRefused = ⊥
-
 -- a status before the log is written
 abbrev pub IsBeforeTheLog : Status → Type 0
 IsBeforeTheLog statuses.Usage = Unit {0}

@@ -1,4 +1,5 @@
 -- Why a payment stops before it writes or prints.
+use Rattle.std.specs.Prelude.{ℕ, List, Option, IsSome}
 use Rattle.fee_bump.specs.declared.fault.BumpFault.{BumpFault}
 use Rattle.fee_bump.specs.declared.fault.BumpFault.TheVariants as bumps
 use Rattle.fund_shelf.specs.Causes.{Rose, ShelfView}
@@ -34,12 +35,12 @@ StopsFor told s p old new (stops.Refused refusal) = told → IsDue old.files s p
 StopsFor told s p old new stops.Keep = ⊥
 StopsFor told s p old new stops.Memory = Unit {0}
 
--- Why a plan isn't kept: a read of a file failed, for the digest of the job; or the keeper did.
-abbrev pub StopsKeeping : Sources → Payment → ShelfView → ShelfView → KeeperView → KeeperView → Stop → Type 0
-StopsKeeping s p old new keeper keeper' (stops.Read file) = IsUnread s p file old new
-StopsKeeping s p old new keeper keeper' (stops.Refused refusal) = ⊥
-StopsKeeping s p old new keeper keeper' stops.Keep = Rose keeper.faults keeper'.faults
-StopsKeeping s p old new keeper keeper' stops.Memory = Unit {0}
+-- Why a plan isn't kept as a job: the keeper failed, or there was not enough memory. Without a job it isn't asked.
+abbrev pub StopsKeeping : Option (List ℕ) → KeeperView → KeeperView → Stop → Type 0
+StopsKeeping job keeper keeper' (stops.Read file) = ⊥
+StopsKeeping job keeper keeper' (stops.Refused refusal) = ⊥
+StopsKeeping job keeper keeper' stops.Keep = IsSome job × Rose keeper.faults keeper'.faults
+StopsKeeping job keeper keeper' stops.Memory = Unit {0}
 
 -- the stop of a keeper that failed or found no memory
 abbrev pub of_keeper : KeepFault → Stop

@@ -6,17 +6,19 @@ ghost use Rattle.fund_shelf.specs.Causes.{OnlyReads};
 ghost use Rattle.fund_files.specs.Chain.{IsHeld};
 ghost use Rattle.fund_files.specs.declared.refusal.File.{File};
 ghost use Rattle.command_end.specs.Names.{plain_sources};
+ghost use Rattle.command_fund.specs.Digest.{HasDigest, digest_in};
 ghost use Rattle.command_fund.specs.Due.{bump_fault_in, terms_for};
 ghost use Rattle.command_fund.specs.Inputs.{AreAsked, AsksInOrder, NoneBehind};
-ghost use Rattle.command_fund.specs.Names.{plain_payment};
+ghost use Rattle.command_fund.specs.Names.{plain_job, plain_payment};
 ghost use Rattle.command_fund.specs.Stops.{StopsFor};
 
 use crate::names::Payment;
 use crate::refusal::Stop;
 use command_end::Sources;
 use fee_bump::{BumpFault, BumpTerms, bump_terms};
-use fund_files::{Held, read_asked, read_chain};
+use fund_files::{Held, read_asked, read_asked_with_digest, read_chain, read_chain_with_digests};
 use fund_shelf::Shelf;
+use kept_job::job_digest;
 use payment_states::all_states;
 use request_text::Request;
 use std::alloc::Global;
@@ -82,4 +84,62 @@ pub fn read_inputs<H: Shelf>(
         request,
         terms,
     })
+}
+
+/// What [`read_inputs`] reads, and the digest of the job of these files, from the bytes that were read.
+pub fn read_inputs_with_digest<H: Shelf>(
+    alloc: Global,
+    sources: &Sources,
+    payment: &Payment,
+    shelf: &mut H,
+) -> Result<(Inputs, [u8; 32]), Stop>
+    ensures held { IfOk result (λ r. AreAsked H.tells (H.view shelf.old).files (plain_sources sources.now) (plain_payment payment.now) r.0.held r.0.request) }
+    ensures terms { IfOk result (λ r. r.0.terms ≡ terms_for r.0.held r.0.request) }
+    ensures digest { H.tells → IfOk result (λ r. r.1 ≡ digest_in (H.view shelf.old).files (plain_sources sources.now) (plain_payment payment.now)) }
+    ensures frame { OnlyReads H.tells (H.view shelf.old) (H.view shelf.new) }
+    ensures stop { IfErr result (StopsFor H.tells (plain_sources sources.now) (plain_payment payment.now) (H.view shelf.old) (H.view shelf.new)) }
+    ensures asked { H.tells → AsksInOrder (plain_sources sources.now) (plain_payment payment.now) (H.view shelf.old) (H.view shelf.new) }
+    ensures none_behind { H.tells → NoneBehind (plain_sources sources.now) (H.view shelf.old) (H.view shelf.new) }
+    // A count of failed reads rises only where one of the three files wasn't read.
+    ensures all_read { ((file : File) → result ≢ Err (Stop.Read file)) → (H.view shelf.new).reads ≡ (H.view shelf.old).reads }
+{
+    let (held, chain) = read_chain_with_digests(alloc, sources.wallet, sources.blocks, shelf)?;
+    let (request, asked) = read_asked_with_digest(alloc, payment.request, shelf)?;
+    let terms = terms_for(alloc, &held, &request)?;
+    let digest = job_digest(&chain.wallet, &chain.blocks, &asked);
+    let inputs = Inputs {
+        held,
+        request,
+        terms,
+    };
+    Ok((inputs, digest))
+}
+
+/// What [`read_inputs`] reads, and the digest of the job where one is named. Without a job nothing is hashed.
+pub fn read_inputs_for<H: Shelf>(
+    alloc: Global,
+    sources: &Sources,
+    payment: &Payment,
+    job: Option<&str>,
+    shelf: &mut H,
+) -> Result<(Inputs, Option<[u8; 32]>), Stop>
+    ensures held { IfOk result (λ r. AreAsked H.tells (H.view shelf.old).files (plain_sources sources.now) (plain_payment payment.now) r.0.held r.0.request) }
+    ensures terms { IfOk result (λ r. r.0.terms ≡ terms_for r.0.held r.0.request) }
+    ensures digest { IfOk result (λ r. HasDigest H.tells (H.view shelf.old).files (plain_sources sources.now) (plain_payment payment.now) (plain_job job.entry) r.1) }
+    ensures frame { OnlyReads H.tells (H.view shelf.old) (H.view shelf.new) }
+    ensures stop { IfErr result (StopsFor H.tells (plain_sources sources.now) (plain_payment payment.now) (H.view shelf.old) (H.view shelf.new)) }
+    ensures asked { H.tells → AsksInOrder (plain_sources sources.now) (plain_payment payment.now) (H.view shelf.old) (H.view shelf.new) }
+    ensures none_behind { H.tells → NoneBehind (plain_sources sources.now) (H.view shelf.old) (H.view shelf.new) }
+    ensures all_read { ((file : File) → result ≢ Err (Stop.Read file)) → (H.view shelf.new).reads ≡ (H.view shelf.old).reads }
+{
+    match job {
+        Some(_) => {
+            let (inputs, digest) = read_inputs_with_digest(alloc, sources, payment, shelf)?;
+            Ok((inputs, Some(digest)))
+        }
+        None => {
+            let inputs = read_inputs(alloc, sources, payment, shelf)?;
+            Ok((inputs, None))
+        }
+    }
 }

@@ -4,7 +4,6 @@
 mod answering;
 mod coins;
 mod command;
-mod digest;
 mod funding;
 mod inputs;
 mod laws;
@@ -15,9 +14,8 @@ mod refusal;
 pub use answering::{answer, name_of, refuse};
 pub use coins::{PlanCoins, plan_coins};
 pub use command::fund;
-pub use digest::read_digest;
 pub use funding::{Ending, Left, Texts, conclude, new_plan, none_texts, open_report, paid_texts};
-pub use inputs::{Inputs, read_inputs};
+pub use inputs::{Inputs, read_inputs, read_inputs_with_digest};
 pub use laws::{payments_are_due, payments_replace};
 pub use names::Payment;
 pub use refusal::{Refusal, Stop};

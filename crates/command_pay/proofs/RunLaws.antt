@@ -39,7 +39,7 @@ pub record Promises (v : Outside) (o : Option Command) (result : Status) : Type 
   pub ends : EndsByStatus v o result
   pub honest : TellsFailures v result
   pub stays : LeavesOthers v o result
-  pub reads : ReadsInOrder v o result
+  pub reads : ReadsInOrder v o
   pub refused : RefusesFirst v o result
   pub complete : TellsDue v o result
 

@@ -1,8 +1,8 @@
 -- How the writing, the saving and the printing end is how the command ends.
-use Rattle.std.proofs.Common.{◌≡◌, ◌∙◌, ◌++◌, ℕ, ◌≤◌, ◌+◌, List, [], ◌∷◌, Option, Some, None, length, inl, inr, sym, ap, subst}
+use Rattle.std.proofs.Common.{◌≡◌, ◌∙◌, ◌++◌, ℕ, ◌≤◌, ◌+◌, List, Option, Some, None, length, inl, inr, sym, ap, subst}
 use Rattle.std.specs.Prelude.{◌⊎◌}
 use Rattle.fund_shelf.proofs.Outside.{rose_earlier}
-use Rattle.fund_shelf.specs.Causes.{Asks, Rose, ShelfView, SinkView}
+use Rattle.fund_shelf.specs.Causes.{Rose, ShelfView, SinkView}
 use Rattle.fund_outside.specs.Kept.{KeeperView, KeptJob, SameForOthers}
 use Rattle.fund_plan.specs.State.{PlanState}
 use Rattle.fund_files.specs.Chain.{held_of}
@@ -14,7 +14,6 @@ use Rattle.command_end.specs.Printed.{IsEnd, IsPut, IsUnwritten, IsWithoutMemory
 use Rattle.command_end.specs.declared.status.Status.{Status}
 use Rattle.command_end.specs.declared.status.Status.TheVariants as statuses
 use Rattle.command_fund.specs.Due.{plan_of}
-use Rattle.command_fund.specs.Inputs.{AsksTwice}
 use Rattle.command_fund.specs.Jobs.{KeepsJobs}
 use Rattle.command_fund.specs.Names.{Payment}
 use Rattle.command_resume.proofs.UninterruptedLaws.{told_gone}
@@ -109,7 +108,3 @@ jobs_on job status keeper middle keeper' same h = record {
   others = λ name differs. h.others name differs ∙ ap (λ (jobs : List ℕ → Option KeptJob). jobs name) same;
   all = λ unsaved. h.all unsaved ∙ same;
 }
-
--- where nothing more is asked for
-pub asked_on : (s : Sources) (p : Payment) (old middle new : ShelfView) → new.asked ≡ middle.asked → AsksTwice s p old middle → AsksTwice s p old new
-asked_on s p old middle new same h = subst (λ (names : List (List ℕ)). Asks (s.wallet ∷ s.blocks ∷ p.request ∷ s.wallet ∷ s.blocks ∷ p.request ∷ []) old.asked names) (sym same) h

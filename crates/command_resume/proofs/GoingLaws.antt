@@ -1,8 +1,6 @@
 -- What is read of the files and of the job, joined; and why going on stops.
-use Rattle.std.proofs.Common.{◌≡◌, ◌∙◌, ℕ, List, Option, refl, sym, ap, subst, arith}
-use Rattle.fund_shelf.proofs.Outside.{rose_earlier}
-use Rattle.fund_shelf.specs.Causes.{OnlyReads, Rose, ShelfView}
-use Rattle.block_feed.specs.Block.{ChainBlock}
+use Rattle.std.proofs.Common.{◌≡◌, ◌∙◌, ℕ, List, Option, refl, sym, ap, subst}
+use Rattle.fund_shelf.specs.Causes.{Rose, ShelfView}
 use Rattle.fund_files.specs.Chain.{held_of}
 use Rattle.fund_files.specs.declared.held.Held.{Held}
 use Rattle.fund_outside.specs.Kept.{KeeperView, KeptJob}
@@ -15,19 +13,15 @@ use Rattle.kept_job.specs.declared.fault.KeptFault.{KeptFault}
 use Rattle.kept_job.specs.declared.fault.KeptFault.TheVariants as faults
 use Rattle.request_text.specs.PlainRequest.{PlainRequest}
 use Rattle.search_run.specs.Step.{AreSteps}
-use Rattle.wallet_text.specs.PlainWallet.{PlainWallet}
 use Rattle.command_end.specs.Names.{Sources}
-use Rattle.command_fund.proofs.Finished.{reached}
 use Rattle.command_fund.proofs.PlanLaws.{stops_on}
-use Rattle.command_fund.specs.Digest.{AreWithin, digest_in}
+use Rattle.command_fund.specs.Digest.{digest_in}
 use Rattle.command_fund.specs.Due.{plan_of}
-use Rattle.command_fund.specs.Inputs.{AreAsked, AreInputs, name_of}
+use Rattle.command_fund.specs.Inputs.{AreAsked}
 use Rattle.command_fund.specs.Names.{Payment}
 use Rattle.command_fund.specs.PlanEnds.{StopsPlan}
-use Rattle.command_fund.specs.Reading.{StopsReading}
 use Rattle.command_fund.specs.Stops as fund_stops
 use Rattle.command_fund.specs.declared.refusal.Stop as funds
-use Rattle.command_fund.specs.declared.refusal.Stop.TheVariants as fund_variants
 use Rattle.command_resume.proofs.LeavingLaws.{ended_on, untold}
 use Rattle.command_resume.specs.Due.{AreReady, IsNotKept}
 use Rattle.command_resume.specs.Endings.{IsEnded}
@@ -38,30 +32,11 @@ use Rattle.command_resume.specs.declared.resuming.Ending.{Ending}
 use Rattle.command_resume.specs.declared.resuming.Ready.{Ready}
 use Rattle.command_resume.specs.declared.resuming.Run.{Run}
 
-within : (files : List ℕ → List ℕ) (s : Sources) (p : Payment) (w : PlainWallet) (blocks : List ChainBlock) (r : PlainRequest) → AreInputs files s p w blocks r → AreWithin files s p
-within files s p w blocks r i =
-    let wallet = i.chain.wallet.fits in
-    let request = i.request.fits in
-    record { wallet = omega (arith, wallet); blocks = i.chain.blocks.fits; request = omega (arith, request) }
-
 module _ (told_files : Type 0) (s : Sources) (p : Payment) (k : Held) (r : PlainRequest) (old : ShelfView) (asked : AreAsked told_files old.files s p k r) where
   -- ---- why it stops
 
   pub plan_stopped : (new : ShelfView) (stop : funds.Stop) → StopsPlan k r stop → fund_stops.StopsFor told_files s p old new stop
   plan_stopped new stop is = stops_on told_files s p k.wallet asked.held.blocks r old new stop asked.inputs (subst (λ (x : Held). StopsPlan x r stop) asked.held.is is)
-
-  -- a read for the digest failed, behind reads of the same files
-  pub reading_stopped : (middle new : ShelfView) (stop : funds.Stop) → OnlyReads told_files old middle → StopsReading s p middle new stop → fund_stops.StopsFor told_files s p old new stop
-  reading_stopped middle new (fund_variants.Read file) only h = (rose_earlier _ _ _ (only.reads (name_of s p file)) h, λ t. reached old.files s p k.wallet asked.held.blocks r file (asked.inputs t))
-  reading_stopped middle new (fund_variants.Refused refusal) only h = absurd h
-  reading_stopped middle new fund_variants.Keep only h = absurd h
-  reading_stopped middle new fund_variants.Memory only h = tt
-
-  -- ---- the digest
-
-  pub named_on : (middle : ShelfView) (digest : List ℕ) → OnlyReads told_files old middle → (told_files → AreWithin middle.files s p → digest ≡ digest_in middle.files s p) → told_files → digest ≡ digest_in old.files s p
-  named_on middle digest only h t =
-      subst (λ (f : List ℕ → List ℕ). AreWithin f s p → digest ≡ digest_in f s p) (only.same t) (h t) (within old.files s p k.wallet asked.held.blocks r (asked.inputs t))
 
   -- ---- the job
 

@@ -1,5 +1,4 @@
 pub mod AnswerLaws
-pub mod AskingLaws
 pub mod EndingLaws
 pub mod EndsLaws
 pub mod Finished

@@ -1,4 +1,3 @@
-pub mod Asked
 pub mod Due
 pub mod Endings
 pub mod Leaving

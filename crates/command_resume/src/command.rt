@@ -4,11 +4,10 @@ ghost use Rattle.std.specs.Prelude.{◌≡◌, ◌≢◌, ◌≤◌, Some};
 ghost use Rattle.fund_shelf.specs.Causes.{CountsNeverFall, NeverFall, SameElsewhere};
 ghost use Rattle.command_end.specs.Names.{plain_sources};
 ghost use Rattle.command_end.specs.Printed.{TellsWhole, TookAll};
-ghost use Rattle.command_fund.specs.Inputs.{AsksTwice, NoneBehind};
+ghost use Rattle.command_fund.specs.Inputs.{AsksInOrder, NoneBehind};
 ghost use Rattle.command_fund.specs.Jobs.{KeepsJobs};
 ghost use Rattle.command_fund.specs.Names.{plain_payment};
 ghost use Rattle.command_fund.specs.Statuses.{IsBeforeTheLog};
-ghost use Rattle.command_resume.specs.Asked.{AsksOnceIfRefused};
 ghost use Rattle.command_resume.specs.Endings.{CanBeLeft};
 ghost use Rattle.command_resume.specs.Leaving.{HasLeft};
 ghost use Rattle.command_resume.specs.Statuses.{Ends};
@@ -70,12 +69,10 @@ pub fn resume<H: Shelf, O: Sink, K: Keeper>(
     ensures kept { H.tells → IsBeforeTheLog result → (H.view shelf.new).files ≡ (H.view shelf.old).files }
     ensures jobs { K.tells → KeepsJobs (Some job.now) result (K.view keeper.old) (K.view keeper.new) }
 
-    // It asks for the wallet file, then for the block file, then for the request, and for the job's digest once more in this
-    // order; and for no other name. Behind a file that is refused it asks for none.
-    ensures asked { H.tells → AsksTwice (plain_sources sources.now) (plain_payment payment.now) (H.view shelf.old) (H.view shelf.new) }
+    // It asks for the wallet file, then for the block file, then for the request, and for no other name; the job's digest is
+    // that of the bytes that were read. Behind a file that is refused it asks for none.
+    ensures asked { H.tells → AsksInOrder (plain_sources sources.now) (plain_payment payment.now) (H.view shelf.old) (H.view shelf.new) }
     ensures none_behind { H.tells → NoneBehind (plain_sources sources.now) (H.view shelf.old) (H.view shelf.new) }
-    // Once alone where the files come to a refusal: of a file, of the payment to be replaced or of the plan.
-    ensures read_once { H.tells → AsksOnceIfRefused (plain_sources sources.now) (plain_payment payment.now) (H.view shelf.old) (H.view shelf.new) }
 
     // A read that failed is told as that, and as nothing else.
     ensures all_read { result ≢ Status.ReadFault → (H.view shelf.new).reads ≡ (H.view shelf.old).reads }

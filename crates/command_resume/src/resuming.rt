@@ -6,11 +6,10 @@ ghost use Rattle.fund_files.specs.Chain.{IsHeld};
 ghost use Rattle.fund_files.specs.declared.refusal.File.{File};
 ghost use Rattle.command_end.specs.Names.{plain_sources};
 ghost use Rattle.command_fund.specs.Due.{bump_fault_in};
-ghost use Rattle.command_fund.specs.Inputs.{AsksTwice, NoneBehind};
+ghost use Rattle.command_fund.specs.Inputs.{AsksInOrder, NoneBehind};
 ghost use Rattle.command_fund.specs.Names.{plain_payment};
 ghost use Rattle.command_fund.specs.Stops as payments;
 ghost use Rattle.kept_job.specs.Refused.{IsNotResumed};
-ghost use Rattle.command_resume.specs.Asked.{AsksOnceIfRefused};
 ghost use Rattle.command_resume.specs.Endings.{IsEnded};
 ghost use Rattle.command_resume.specs.Ready.{HasEnded, IsPlanned, IsReady};
 ghost use Rattle.command_resume.specs.Runs.{IsConcluded, IsRunOn};
@@ -20,7 +19,7 @@ use crate::stop::Stop;
 use command_end::Sources;
 use command_fund::{
     Inputs, Payment, Stop as FundStop, Texts, new_plan, none_texts, open_report, paid_texts,
-    read_digest, read_inputs,
+    read_inputs_with_digest,
 };
 use fund_base::Memory;
 use fund_files::Held;
@@ -114,7 +113,7 @@ fn ends(alloc: Global, held: &Held, request: &Request, run: Run) -> Result<Endin
     }
 }
 
-/// What is read of the files of a command: its request, with the plan and the digest of its job.
+/// What is read of the files of a command: its request, with the plan, and the digest of its job, from the same bytes.
 fn prepare<H: Shelf>(
     alloc: Global,
     sources: &Sources,
@@ -124,20 +123,19 @@ fn prepare<H: Shelf>(
     ensures ready { IfOk result (IsReady H.tells (H.view shelf.old).files (plain_sources sources.now) (plain_payment payment.now)) }
     ensures frame { OnlyReads H.tells (H.view shelf.old) (H.view shelf.new) }
     ensures stop { IfErr result (payments.StopsFor H.tells (plain_sources sources.now) (plain_payment payment.now) (H.view shelf.old) (H.view shelf.new)) }
-    ensures asked { H.tells → AsksTwice (plain_sources sources.now) (plain_payment payment.now) (H.view shelf.old) (H.view shelf.new) }
-    ensures read_once { H.tells → AsksOnceIfRefused (plain_sources sources.now) (plain_payment payment.now) (H.view shelf.old) (H.view shelf.new) }
+    ensures asked { H.tells → AsksInOrder (plain_sources sources.now) (plain_payment payment.now) (H.view shelf.old) (H.view shelf.new) }
     ensures none_behind { H.tells → NoneBehind (plain_sources sources.now) (H.view shelf.old) (H.view shelf.new) }
     ensures all_read { ((file : File) → result ≢ Err (FundStop.Read file)) → (H.view shelf.new).reads ≡ (H.view shelf.old).reads }
 {
+    let (inputs, digest) = read_inputs_with_digest(alloc, sources, payment, shelf)?;
     let Inputs {
         held,
         request,
         terms,
-    } = read_inputs(alloc, sources, payment, shelf)?;
+    } = inputs;
     let plan = new_plan(alloc, &held, &request, terms)?;
     plan.keeps_rules();
     plan.keeps_steps();
-    let digest = read_digest(alloc, sources, payment, shelf)?;
     Ok(Ready {
         held,
         request,
@@ -191,8 +189,7 @@ pub fn go_on<H: Shelf, K: Keeper>(
     ensures ends { IfOk result (IsEnded H.tells K.tells (H.view shelf.old).files (plain_sources sources.now) (plain_payment payment.now) ((K.view keeper.old).jobs job.now)) }
     ensures frame { OnlyReads H.tells (H.view shelf.old) (H.view shelf.new) }
     ensures stop { IfErr result (StopsFor H.tells K.tells (plain_sources sources.now) (plain_payment payment.now) job.now (H.view shelf.old) (H.view shelf.new) (K.view keeper.old) (K.view keeper.new)) }
-    ensures asked { H.tells → AsksTwice (plain_sources sources.now) (plain_payment payment.now) (H.view shelf.old) (H.view shelf.new) }
-    ensures read_once { H.tells → AsksOnceIfRefused (plain_sources sources.now) (plain_payment payment.now) (H.view shelf.old) (H.view shelf.new) }
+    ensures asked { H.tells → AsksInOrder (plain_sources sources.now) (plain_payment payment.now) (H.view shelf.old) (H.view shelf.new) }
     ensures none_behind { H.tells → NoneBehind (plain_sources sources.now) (H.view shelf.old) (H.view shelf.new) }
     ensures all_read { ((file : File) → result ≢ Err (Stop.Funding (FundStop.Read file))) → (H.view shelf.new).reads ≡ (H.view shelf.old).reads }
     ensures jobs { K.tells → (K.view keeper.new).jobs ≡ (K.view keeper.old).jobs }

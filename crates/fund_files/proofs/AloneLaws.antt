@@ -1,14 +1,12 @@
 -- A wallet behind which no block stands, and its book.
-use Rattle.std.proofs.Common.{◌≡◌, ◌∙◌, ℕ, [], ◌++◌, List, None, Some, ap, arith, sym, subst, refl}
+use Rattle.std.proofs.Common.{◌≡◌, ◌∙◌, ℕ, [], List, ap, arith, sym, subst, refl}
 use Rattle.std.specs.Prelude.{map, All}
 use Rattle.std.proofs.lemmas.List.{append-nil}
 use Rattle.std.proofs.lemmas.List.Elements.{All-nil}
 use Rattle.block_feed.specs.Block.{ChainBlock}
 use Rattle.tx_codec.specs.Transaction.{Transaction}
 use Rattle.tx_codec.specs.TransactionText.{IsTransaction}
-use Rattle.coin_book.specs.Faults.{fault_of}
 use Rattle.coin_book.specs.History.{Confirmed, History, confirmed_before, start_of}
-use Rattle.coin_book.specs.declared.fault.BookFault.{BookFault}
 use Rattle.wallet_text.specs.PlainWallet.{PlainWallet}
 use Rattle.wallet_text.specs.WalletRules.{IsWallet}
 use Rattle.fund_files.specs.Booked.{IsBooked}

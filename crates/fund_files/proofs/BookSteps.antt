@@ -1,15 +1,15 @@
 -- The pending transactions in the book, one by one.
-use Rattle.std.proofs.Common.{◌≡◌, ◌∙◌, ℕ, Result, Ok, Err, suc, zero, ◌+◌, ◌<◌, List, [], ◌∷◌, ◌++◌, length, take, get_or, Some, None, refl, sym, ap, subst, arith}
-use Rattle.std.specs.Prelude.{◌≢◌, All, AllPairs, IfOk}
+use Rattle.std.proofs.Common.{◌≡◌, ◌∙◌, ℕ, Result, Ok, Err, suc, zero, ◌+◌, ◌<◌, List, [], ◌∷◌, ◌++◌, length, take, get_or, Some, sym, ap, subst, arith}
+use Rattle.std.specs.Prelude.{◌≢◌, All, IfOk}
 use Rattle.fund_base.specs.declared.memory.Memory.{Memory}
-use Rattle.std.proofs.lemmas.List.{take_more, take_all}
+use Rattle.std.proofs.lemmas.List.{take_more}
 use Rattle.std.proofs.lemmas.List.Elements.{All-nil, All-cons}
 use Rattle.tx_codec.specs.Transaction.{Transaction}
 use Rattle.tx_codec.specs.Txid.{txid_of}
 use Rattle.coin_book.specs.Faults.{fault_of}
 use Rattle.coin_book.specs.declared.fault.BookFault.{BookFault}
 use Rattle.coin_book.specs.declared.fault.BookFault.TheVariants.{Memory as NoMemory}
-use Rattle.coin_book.specs.History.{Confirmed, History, with_pending}
+use Rattle.coin_book.specs.History.{History, with_pending}
 use Rattle.wallet_text.specs.WalletRules.{AreDistinct}
 use Rattle.fund_files.specs.Booked.{IfKept, IsBooked}
 use Rattle.fund_files.specs.declared.booking.Booked.{Booked}

@@ -1,5 +1,5 @@
 -- What files come to, by what was found in them one by one.
-use Rattle.std.proofs.Common.{◌≡◌, ◌∙◌, ◌<◌, ◌≤◌, ℕ, nat_lt, List, length, Option, Some, None, Result, Ok, Err, inl, inr, refl, sym, ap}
+use Rattle.std.proofs.Common.{◌≡◌, ◌∙◌, ◌<◌, ◌≤◌, ℕ, nat_lt, List, length, Option, Result, Ok, Err, inl, inr, refl, sym, ap}
 use Rattle.std.specs.Prelude.{◌≢◌}
 use Rattle.std.proofs.lemmas.Bool.{lt-ltb, le-ltb, cond-true, cond-false}
 use Rattle.block_feed.specs.Block.{ChainBlock}
@@ -15,7 +15,6 @@ use Rattle.request_text.specs.declared.fault.Refusal as requests
 use Rattle.wallet_text.specs.PlainWallet.{PlainWallet}
 use Rattle.wallet_text.specs.WalletText.{wallet_of}
 use Rattle.wallet_text.specs.declared.fault.Refusal as wallets
-use Rattle.fund_files.specs.declared.held.Held.{Held}
 use Rattle.fund_files.specs.declared.refusal.File.TheVariants.{Wallet, Blocks, Request}
 use Rattle.fund_files.specs.Cause.{FileCause, TooLong, BadWallet, BadBlocks, RepeatCoin, ManyCoins, BadRequest}
 use Rattle.fund_files.specs.Chain.{held_of}

@@ -1,10 +1,9 @@
 -- One block more of the file, in the book.
-use Rattle.std.proofs.Common.{◌≡◌, ◌∙◌, ℕ, ◌+◌, ◌<◌, ◌≤◌, min, List, [], ◌∷◌, ◌++◌, length, Ok, Err, Option, Some, None, refl, sym, ap, subst, append_assoc, arith}
+use Rattle.std.proofs.Common.{◌≡◌, ◌∙◌, ℕ, ◌<◌, ◌≤◌, List, [], ◌∷◌, ◌++◌, length, Ok, Err, Some, None, refl, sym, ap, subst, append_assoc, arith}
 use Rattle.std.specs.Prelude.{All, flat_map, map}
 use Rattle.std.proofs.lemmas.List.{append-nil}
 use Rattle.std.proofs.lemmas.List.Elements.{All-nil, All-push}
 use Rattle.std.proofs.lemmas.Grind.{flat_map-append}
-use Rattle.tx_codec.specs.Transaction.{Transaction}
 use Rattle.tx_codec.specs.TransactionText.{IsTransaction}
 use Rattle.block_feed.specs.Block.{ChainBlock, IsLinked, height_after}
 use Rattle.block_feed.specs.Blocks.{blocks_of}
@@ -13,7 +12,7 @@ use Rattle.block_feed.specs.declared.fault.FeedFault.{FeedFault}
 use Rattle.block_feed.proofs.FileLaws.{HasGiven, given_all, given_fault, given_more, given_none}
 use Rattle.coin_book.specs.History.{Confirmed, History, confirmed_before, confirmed_in, start_of, with_block}
 use Rattle.wallet_text.specs.PlainWallet.{PlainWallet}
-use Rattle.fund_files.specs.Booked.{AreRead, IsBooked, IsRead}
+use Rattle.fund_files.specs.Booked.{IsBooked, IsRead, StartsBehind}
 use Rattle.fund_files.specs.Chain.{HaveTexts, confirmed_history, tip_behind, tip_of}
 use Rattle.fund_files.specs.declared.booking.Booked.{Booked}
 use Rattle.fund_files.specs.declared.held.Tip.{Tip}
@@ -37,14 +36,14 @@ tip_at height hash = record { height = height; hash = hash }
 same_tip : (height height' : ℕ) (hash hash' : List ℕ) → height ≡ height' → hash ≡ hash' → tip_at height hash ≡ tip_at height' hash'
 same_tip height height' hash hash' at named = ap (λ (n : ℕ). tip_at n hash) at ∙ ap (λ (l : List ℕ). tip_at height' l) named
 
-pub so_far_none : (told : Type 0) (file : List ℕ) (w : PlainWallet) (feed : FeedState) (booked : Booked) → feed.place ≡ 0 → feed.hash ≡ w.hash → feed.height ≡ w.height → w.height ≤ 100_000_000 → IsBooked booked (start_of w)
-    → SoFar told file w feed (record { height = feed.height; hash = feed.hash }) booked
-so_far_none told file w feed booked start hash height low b = record {
+pub so_far_none : (told : Type 0) (file : List ℕ) (w : PlainWallet) (feed : FeedState) (height : ℕ) (hash : List ℕ) (booked : Booked) → StartsBehind w feed → height ≡ w.height → hash ≡ w.hash → w.height ≤ 100_000_000 → IsBooked booked (start_of w)
+    → SoFar told file w feed (tip_at height hash) booked
+so_far_none told file w feed height hash booked starts height_is hash_is low b = record {
   blocks = [];
-  tip_is = same_tip feed.height w.height feed.hash w.hash height hash;
-  height = omega (arith, low, height);
+  tip_is = same_tip height w.height hash w.hash height_is hash_is;
+  height = omega (arith, low, height_is);
   texts = All-nil HasText;
-  given = λ t. subst (λ (h : List ℕ). HasGiven file h w.height [] feed) hash (subst (λ (n : ℕ). HasGiven file feed.hash n [] feed) height (given_none file feed start));
+  given = λ t. subst (λ (h : List ℕ). HasGiven file h w.height [] feed) starts.hash (subst (λ (n : ℕ). HasGiven file feed.hash n [] feed) starts.height (given_none file feed starts.place));
   booked_is = subst (λ (c : List Confirmed). IsBooked booked (record { scripts = w.scripts; confirmed = c; pending = [] })) (sym (append-nil (map confirmed_before w.earlier))) b;
 }
 

@@ -1,5 +1,5 @@
 -- What only reads, and then only reads again, only reads.
-use Rattle.std.proofs.Common.{◌∙◌, ℕ, arith}
+use Rattle.std.proofs.Common.{◌∙◌, arith}
 use Rattle.fund_shelf.specs.Causes.{OnlyReads, ShelfView}
 
 pub only_reads_on : (told : Type 0) (old middle new : ShelfView) → OnlyReads told old middle → OnlyReads told middle new → OnlyReads told old new

@@ -1,5 +1,5 @@
 -- A stop at one file is a stop of the reading of all.
-use Rattle.std.proofs.Common.{◌≡◌, ℕ, ◌≤◌, ◌<◌, List, [], length, Some, Err, Ok, Result, inl, inr, refl, sym, subst, arith}
+use Rattle.std.proofs.Common.{◌≡◌, ℕ, List, [], Some, Err, Ok, Result, inl, inr, refl, sym, subst, arith}
 use Rattle.std.specs.Prelude.{IfErr}
 use Rattle.fund_shelf.specs.Causes.{ShelfView, OnlyReads, Rose}
 use Rattle.fund_shelf.proofs.Outside.{rose_earlier}
@@ -12,7 +12,6 @@ use Rattle.coin_book.specs.History.{History}
 use Rattle.coin_book.specs.declared.fault.BookFault.{BookFault}
 use Rattle.coin_book.specs.declared.fault.BookFault.TheVariants as books
 use Rattle.coin_book.proofs.ToldSteps.{never_memory}
-use Rattle.request_text.specs.PlainRequest.{PlainRequest}
 use Rattle.tx_codec.specs.Transaction.{Transaction}
 use Rattle.wallet_text.specs.PlainWallet.{PlainWallet}
 use Rattle.fund_files.specs.declared.booking.Booked.{Booked}
@@ -27,7 +26,7 @@ use Rattle.fund_files.specs.Chain.{confirmed_history, history_of}
 use Rattle.fund_files.specs.Contents.{HasFault, HasNoBook, HasWallet}
 use Rattle.fund_files.specs.FileStops.{IsAskedFault, IsBlocksCause, IsReached, IsUnread, IsWalletCause, StopsAsked, StopsAt, StopsChain}
 use Rattle.fund_files.specs.Outcome.{book_cause, feed_cause}
-use Rattle.fund_files.specs.Refusals.{IsChainCause, IsChainMeant, IsRequestCause}
+use Rattle.fund_files.specs.Refusals.{IsChainMeant, IsRequestCause}
 use Rattle.fund_files.proofs.BookSteps.{waiting}
 use Rattle.fund_files.proofs.ChainLaws.{blocks_refused, request_by, request_long, wallet_refused}
 
@@ -117,7 +116,7 @@ asked_stop told name old new (stops.Read file) h = h
 asked_stop told name old new (stops.Refused refusal) h = λ t. asked_cause (old.files name) (cause_of refusal) (h t)
 asked_stop told name old new stops.Memory h = tt
 
-pub asked_stops : (told : Type 0) (name : List ℕ) (old new : ShelfView) (result : Result PlainRequest Stop) → IfErr result (StopsAt Request (Rose (old.reads name) (new.reads name)) (λ cause. told → IsAskedFault (old.files name) cause)) → IfErr result (StopsAsked told name old new)
+pub asked_stops : {T : Type 0} (told : Type 0) (name : List ℕ) (old new : ShelfView) (result : Result T Stop) → IfErr result (StopsAt Request (Rose (old.reads name) (new.reads name)) (λ cause. told → IsAskedFault (old.files name) cause)) → IfErr result (StopsAsked told name old new)
 asked_stops told name old new (Ok request) h = tt
 asked_stops told name old new (Err stop) h = asked_stop told name old new stop h
 

@@ -1,7 +1,9 @@
 -- The book while a wallet and blocks are read.
-use Rattle.std.specs.Prelude.{ℕ, ◌≡◌, ◌≤◌, ◌<◌, List, length, None, Some}
+use Rattle.std.specs.Prelude.{ℕ, ◌≡◌, ◌≤◌, ◌<◌, List, [], length, None, Some}
 use Rattle.block_feed.specs.Block.{ChainBlock}
 use Rattle.block_feed.specs.BlockFile.{IsBlockFile}
+use Rattle.block_feed.specs.Digest.{HasTaken}
+use Rattle.block_feed.specs.Feed.{FeedState}
 use Rattle.coin_book.specs.Faults.{fault_of}
 use Rattle.coin_book.specs.History.{History}
 use Rattle.fund_files.specs.Chain.{HaveTexts, confirmed_history, tip_of}
@@ -33,3 +35,12 @@ pub record IsRead (told : Type 0) (file : List ℕ) (w : PlainWallet) (tip : Tip
   pub blocks : List ChainBlock
   pub read : AreRead told file w tip blocks
   pub booked_is : IsBooked booked (confirmed_history w blocks)
+
+-- The feed stands at the beginning of a block file, behind the wallet's block. Where it computes a digest, that has taken nothing
+-- yet.
+pub record StartsBehind (w : PlainWallet) (feed : FeedState) : Type 0 where
+  pub hash : feed.hash ≡ w.hash
+  pub height : feed.height ≡ w.height
+  pub place : feed.place ≡ 0
+  pub fault : feed.fault ≡ None
+  pub taken : HasTaken feed.hasher []

@@ -4,6 +4,7 @@ pub mod Booked
 pub mod Cause
 pub mod Chain
 pub mod Contents
+pub mod Digests
 pub mod FileStops
 pub mod Outcome
 pub mod Refusals

@@ -1,11 +1,12 @@
 //! The blocks of the block file, read one by one into the book.
 
-ghost use Rattle.std.specs.Prelude.{◌≡◌, ◌≢◌, [], ◌∷◌, false, Ok, Err, IfErr, IsErrOf, IfOk};
+ghost use Rattle.std.specs.Prelude.{◌≡◌, ◌≢◌, [], ◌∷◌, false, Ok, Err, IfErr, IsErrOf, IsSome, IfOk, OnOk};
 ghost use Rattle.fund_shelf.specs.Causes.{Asks, OnlyReads, Rose};
 ghost use Rattle.block_feed.specs.Block.{ChainBlock};
 ghost use Rattle.block_feed.specs.Blocks.{blocks_of};
+ghost use Rattle.block_feed.specs.Digest.{IsDigest};
 ghost use Rattle.fund_files.specs.Behind.{IsBehind};
-ghost use Rattle.fund_files.specs.Booked.{AreRead, IsBooked, IsRead};
+ghost use Rattle.fund_files.specs.Booked.{AreRead, IsBooked, IsRead, StartsBehind};
 ghost use Rattle.fund_files.specs.Cause.{cause_of};
 ghost use Rattle.fund_files.specs.FileStops.{IsBlocksCause, StopsAt, is_of_wallet, stop_of};
 ghost use Rattle.fund_files.specs.Outcome.{book_cause};
@@ -22,17 +23,36 @@ use fund_shelf::Shelf;
 use std::alloc::Global;
 use wallet_text::Wallet;
 
+/// A feed of the blocks that stand behind the wallet's.
+pub fn feed_behind(wallet: &Wallet) -> Feed
+    ensures { StartsBehind wallet.now result }
+{
+    Feed::new(wallet.hash, wallet.height)
+}
+
+/// The same, and it computes the SHA-256 of the block file.
+pub fn feed_with_digest(wallet: &Wallet) -> Feed
+    ensures starts { StartsBehind wallet.now result }
+    ensures asked_for { IsSome result.hasher }
+{
+    Feed::with_digest(wallet.hash, wallet.height)
+}
+
 /// What the wallet's earlier transactions make with those of the file `name`, whose blocks stand behind the wallet's,
-/// and the tip. The file is read to its end whatever the book says. The error is the first fault of the file.
+/// and the tip. The file is read to its end whatever the book says, and the feed then has its digest, if it computes one.
+/// The error is the first fault of the file.
 #[tactic(auto, using(fund_shelf::proofs::Asking::asks_none, fund_shelf::proofs::Asking::asks_again))]
 fn read_blocks<H: Shelf>(
     alloc: Global,
     shelf: &mut H,
     name: &str,
     wallet: &Wallet,
+    feed: &mut Feed,
 ) -> Result<(Booked, Tip), FeedFault>
-    requires { IsWallet wallet.now }
+    requires rules { IsWallet wallet.now }
+    requires starts { StartsBehind wallet.now feed.old }
     ensures read { IfOk result (λ r. IsRead H.tells ((H.view shelf.old).files name.now) wallet.now r.1 r.0) }
+    ensures digest { H.tells → OnOk result (IsDigest feed.old.hasher ((H.view shelf.old).files name.now) feed.new.digest) }
     ensures fault { H.tells → IfErr result (λ e. e ≢ FeedFault.Memory → e ≢ FeedFault.Read → blocks_of ((H.view shelf.old).files name.now) wallet.now.hash wallet.now.height ≡ Err e) }
     ensures cause { IsErrOf result FeedFault.Read → Rose ((H.view shelf.old).reads name.now) ((H.view shelf.new).reads name.now) }
     ensures unfailed { result ≢ Err FeedFault.Read → (H.view shelf.new).reads ≡ (H.view shelf.old).reads }
@@ -42,7 +62,6 @@ fn read_blocks<H: Shelf>(
     let Ok(mut booked) = begin(alloc, wallet) else {
         return Err(FeedFault::Memory);
     };
-    let mut feed = Feed::new(wallet.hash, wallet.height);
     let mut tip = Tip {
         height: wallet.height,
         hash: wallet.hash,
@@ -87,22 +106,26 @@ pub fn book_refusal(fault: BookFault) -> FileRefusal
     }
 }
 
-/// The book of the wallet and of the blocks of the file `name`, and the tip.
+/// The book of the wallet and of the blocks of the file `name`, and the tip. The feed then has the digest of the file, if it
+/// computes one.
 pub fn book_from<H: Shelf>(
     alloc: Global,
     shelf: &mut H,
     name: &str,
     wallet: &Wallet,
+    feed: &mut Feed,
 ) -> Result<(Book, Tip), Stop>
-    requires { IsWallet wallet.now }
+    requires rules { IsWallet wallet.now }
+    requires starts { StartsBehind wallet.now feed.old }
     ensures held { IfOk result (λ r. IsBehind H.tells ((H.view shelf.old).files name.now) wallet.now r.0 r.1) }
+    ensures digest { H.tells → OnOk result (IsDigest feed.old.hasher ((H.view shelf.old).files name.now) feed.new.digest) }
     ensures frame { OnlyReads H.tells (H.view shelf.old) (H.view shelf.new) }
     ensures unfailed { result ≢ Err (Stop.Read File.Blocks) → (H.view shelf.new).reads ≡ (H.view shelf.old).reads }
     ensures asked { H.tells → Asks (name.now ∷ []) (H.view shelf.old).asked (H.view shelf.new).asked }
     ensures own { IfErr result (λ stop. is_of_wallet stop ≡ false) }
     ensures stop { IfErr result (StopsAt File.Blocks (Rose ((H.view shelf.old).reads name.now) ((H.view shelf.new).reads name.now)) (λ cause. H.tells → IsBlocksCause wallet.now ((H.view shelf.old).files name.now) cause)) }
 {
-    let (booked, tip) = match read_blocks(alloc, shelf, name, wallet) {
+    let (booked, tip) = match read_blocks(alloc, shelf, name, wallet, feed) {
         Ok(read) => read,
         Err(fault) => return Err(blocks_stop(fault)),
     };

@@ -10,7 +10,7 @@ ghost use Rattle.fund_files.specs.Cause.{FileCause, TooLong, cause_of};
 ghost use Rattle.fund_files.specs.Contents.{HasRequest};
 ghost use Rattle.fund_files.specs.FileStops.{IsAskedFault, IsWalletCause, StopsAsked, StopsAt, StopsChain, is_of_wallet, read_stop_of};
 
-use crate::blocks::book_from;
+use crate::blocks::{book_from, feed_behind};
 use crate::held::Held;
 use crate::refusal::{File, FileRefusal};
 use crate::stop::Stop;
@@ -20,10 +20,10 @@ use std::alloc::Global;
 use wallet_text::{Wallet, WalletFault, read_wallet};
 
 /// The greatest length of a wallet file, in bytes.
-const WALLET_LIMIT: usize = 16_777_216;
+pub const WALLET_LIMIT: usize = 16_777_216;
 
 /// The greatest length of a request file, in bytes.
-const REQUEST_LIMIT: usize = 1_048_576;
+pub const REQUEST_LIMIT: usize = 1_048_576;
 
 /// Why the reading stops at a file that wasn't read whole.
 fn read_stop(file: File, error: ReadError) -> Stop
@@ -38,7 +38,7 @@ fn read_stop(file: File, error: ReadError) -> Stop
 }
 
 /// The bytes of a file, which has this name and at most `limit` bytes; a longer one is refused.
-fn read_input<H: Shelf>(
+pub fn read_input<H: Shelf>(
     alloc: Global,
     shelf: &mut H,
     file: File,
@@ -60,7 +60,7 @@ fn read_input<H: Shelf>(
 }
 
 /// Why the reading stops at a wallet file with this fault.
-fn wallet_stop(fault: WalletFault) -> Stop
+pub fn wallet_stop(fault: WalletFault) -> Stop
     ensures refused { result ≢ Stop.Memory → (fault ≢ WalletFault.Memory) × (result ≡ Stop.Refused (FileRefusal.BadWallet fault)) }
     ensures memory { result ≡ Stop.Memory → fault ≡ WalletFault.Memory }
 {
@@ -110,12 +110,13 @@ pub fn read_chain<H: Shelf>(
     ensures refused_alone { H.tells → (cause : FileCause) → IsWalletCause ((H.view shelf.old).files wallet.now) cause → Asks (wallet.now ∷ []) (H.view shelf.old).asked (H.view shelf.new).asked }
 {
     let wallet = wallet_from(alloc, shelf, wallet)?;
-    let (book, tip) = book_from(alloc, shelf, blocks, &wallet)?;
+    let mut feed = feed_behind(&wallet);
+    let (book, tip) = book_from(alloc, shelf, blocks, &wallet, &mut feed)?;
     Ok(Held { wallet, book, tip })
 }
 
 /// Why the reading stops at a request file with this fault.
-fn request_stop(fault: RequestFault) -> Stop
+pub fn request_stop(fault: RequestFault) -> Stop
     ensures refused { result ≢ Stop.Memory → (fault ≢ RequestFault.Memory) × (result ≡ Stop.Refused (FileRefusal.BadRequest fault)) }
     ensures memory { result ≡ Stop.Memory → fault ≡ RequestFault.Memory }
 {

@@ -1,11 +1,12 @@
 //! From files to values: the wallet file and the block file to the wallet, the book of its coins and where its chain
-//! ends; the request file to the request. Nothing else of Ninelace reads files that a user gives. A wallet that was made
-//! without files is held likewise.
+//! ends; the request file to the request; and each with the SHA-256 of the bytes that were read, where that is asked for. A
+//! wallet that was made without files is held likewise.
 #![tactic(auto)]
 
 mod alone;
 mod blocks;
 mod booking;
+mod digests;
 mod files;
 mod held;
 mod laws;
@@ -13,6 +14,7 @@ mod refusal;
 mod stop;
 
 pub use alone::hold;
+pub use digests::{ChainDigests, read_asked_with_digest, read_chain_with_digests};
 pub use files::{read_asked, read_chain};
 pub use held::{Held, Tip};
 pub use laws::chains_are_due;

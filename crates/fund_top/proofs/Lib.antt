@@ -1,4 +1,3 @@
-pub mod AskedLaws
 pub mod CommandEnds
 pub mod EndsLaws
 pub mod DueLaws

@@ -7,10 +7,9 @@ use Rattle.command_desk.specs.Statuses as desks
 use Rattle.command_end.specs.Lines.{GotLine, fault_line}
 use Rattle.command_end.specs.declared.status.Status.{Status}
 use Rattle.command_end.specs.declared.status.Status.TheVariants as statuses
-use Rattle.command_fund.specs.Inputs.{AsksInOrder}
 use Rattle.command_fund.specs.Jobs.{KeepsJobs}
 use Rattle.command_fund.specs.Statuses as payments
-use Rattle.command_fund.specs.Statuses.{IsBeforeTheLog, IsOfTheFiles}
+use Rattle.command_fund.specs.Statuses.{IsBeforeTheLog}
 use Rattle.command_resume.specs.Statuses as resumes
 use Rattle.command_work.specs.Statuses as loads
 use Rattle.fund_top.specs.Asked.{AsksFor}
@@ -95,8 +94,8 @@ module _ (v : Outside) (c : Command) (o : Option Command) (is : Some c ≡ o) (s
   pub command_stays : (v.tells_files → KeepsOthers c v.shelf.files v.shelf'.files) → (v.tells_files → IsBeforeTheLog status → v.shelf'.files ≡ v.shelf.files) → (v.tells_jobs → KeepsJobs (job_of c) status v.keeper v.keeper') → LeavesOthers v o status
   command_stays others kept jobs = subst (λ (x : Option Command). LeavesOthers v x status) is (record { others = others; kept = kept; jobs = jobs })
 
-  pub command_reads : (v.tells_files → AsksFor c v.shelf v.shelf') → (v.tells_files → IsOfTheFiles status → WhereFunding (Some c) (λ s p. AsksInOrder s p v.shelf v.shelf')) → WhereWorking (Some c) (λ number count. v.shelf' ≡ v.shelf) → ReadsInOrder v o status
-  command_reads asked read_once apart = subst (λ (x : Option Command). ReadsInOrder v x status) is (record { asked = asked; read_once = read_once; apart = apart })
+  pub command_reads : (v.tells_files → AsksFor c v.shelf v.shelf') → WhereWorking (Some c) (λ number count. v.shelf' ≡ v.shelf) → ReadsInOrder v o
+  command_reads asked apart = subst (λ (x : Option Command). ReadsInOrder v x) is (record { asked = asked; apart = apart })
 
 -- words that are no command, of which only the line is put
 module _ (v : Outside) (o : Option Command) (is : None ≡ o) where
@@ -126,8 +125,8 @@ module _ (v : Outside) (o : Option Command) (is : None ≡ o) where
   pub usage_stays : v.shelf'.files ≡ v.shelf.files → LeavesOthers v o statuses.Usage
   usage_stays same = subst (λ (x : Option Command). LeavesOthers v x statuses.Usage) is (record { others = λ told. tt; kept = λ told before. same; jobs = λ told. tt })
 
-  pub usage_reads : ReadsInOrder v o statuses.Usage
-  usage_reads = subst (λ (x : Option Command). ReadsInOrder v x statuses.Usage) is (record { asked = λ told. tt; read_once = λ told files. tt; apart = tt })
+  pub usage_reads : ReadsInOrder v o
+  usage_reads = subst (λ (x : Option Command). ReadsInOrder v x) is (record { asked = λ told. tt; apart = tt })
 
   pub usage_goes_on : GoesOn v o statuses.Usage
   usage_goes_on = subst (λ (x : Option Command). GoesOn v x statuses.Usage) is (record { uninterrupted = λ files text jobs. tt })

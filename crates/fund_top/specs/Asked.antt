@@ -1,29 +1,26 @@
 -- Which files a command reads, and in what order.
-use Rattle.std.specs.Prelude.{◌≡◌, [], ◌∷◌, ◌++◌, Some, None}
+use Rattle.std.specs.Prelude.{◌≡◌, [], ◌∷◌, ◌++◌}
 use Rattle.fund_shelf.specs.Causes.{Asks, ShelfView}
 use Rattle.fund_files.specs.Cause.{FileCause}
 use Rattle.fund_files.specs.FileStops.{IsWalletCause}
 use Rattle.fund_steps.specs.Plan.{PlainPlan}
 use Rattle.command_check.specs.Asked as checks
 use Rattle.command_check.specs.Evidence.{HasLoggedReport, HavePlan}
-use Rattle.command_fund.specs.Inputs.{AsksInOrder, AsksTwice, NoneBehind}
+use Rattle.command_fund.specs.Inputs.{AsksInOrder, NoneBehind}
 use Rattle.command_desk.specs.Script.{lines_of}
 use Rattle.command_desk.specs.Asked as desks
-use Rattle.command_resume.specs.Asked.{AsksOnceIfRefused}
 use Rattle.fund_top.specs.Words.{Command, Coins, Fund, Resume, Check, Work, Desk}
 
 -- The files that its words name are asked for, one after the other, each as often as its reading takes, and no other name is.
--- The log of a payment isn't: it is written. Where there is a job, the files may be read once more, for its digest; not where one
--- goes on with it and the files come to a refusal. Behind a file that is refused none is asked for. A check asks for its log
--- only beside a report that has one, and for neither report nor log where the payment is refused. A desk asks for its script,
+-- The log of a payment isn't: it is written. A job asks for no file once more: its digest is that of the bytes that were read.
+-- Behind a file that is refused none is asked for. A check asks for its log only beside a report that has one, and for neither report nor log where the payment is refused. A desk asks for its script,
 -- and then for the files that the lines of it name.
 abbrev pub AsksFor : Command → ShelfView → ShelfView → Type 0
 AsksFor (Coins s) shelf shelf' =
     Asks (s.wallet ∷ s.blocks ∷ []) shelf.asked shelf'.asked
     × ((cause : FileCause) → IsWalletCause (shelf.files s.wallet) cause → Asks (s.wallet ∷ []) shelf.asked shelf'.asked)
-AsksFor (Fund s p None) shelf shelf' = AsksInOrder s p shelf shelf' × NoneBehind s shelf shelf'
-AsksFor (Fund s p (Some job)) shelf shelf' = AsksTwice s p shelf shelf' × NoneBehind s shelf shelf'
-AsksFor (Resume s p job) shelf shelf' = AsksTwice s p shelf shelf' × NoneBehind s shelf shelf' × AsksOnceIfRefused s p shelf shelf'
+AsksFor (Fund s p job) shelf shelf' = AsksInOrder s p shelf shelf' × NoneBehind s shelf shelf'
+AsksFor (Resume s p job) shelf shelf' = AsksInOrder s p shelf shelf' × NoneBehind s shelf shelf'
 AsksFor (Check s p report) shelf shelf' =
     checks.AsksInOrder s p report shelf shelf'
     × NoneBehind s shelf shelf'

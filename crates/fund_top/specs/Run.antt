@@ -7,9 +7,8 @@ use Rattle.command_end.specs.declared.status.Status.TheVariants as statuses
 use Rattle.command_check.specs.Statuses.{EndsAccepted}
 use Rattle.command_coins.specs.Statuses.{EndsListed}
 use Rattle.command_desk.specs.Statuses.{EndsRunning}
-use Rattle.command_fund.specs.Inputs.{AsksInOrder}
 use Rattle.command_fund.specs.Jobs.{KeepsJobs}
-use Rattle.command_fund.specs.Statuses.{EndsFunded, IsBeforeTheLog, IsOfTheFiles}
+use Rattle.command_fund.specs.Statuses.{EndsFunded, IsBeforeTheLog}
 use Rattle.command_resume.specs.Statuses.{EndsFunded as EndsResumed}
 use Rattle.command_work.specs.Statuses.{EndsSummed}
 use Rattle.fund_top.specs.Asked.{AsksFor}
@@ -91,12 +90,10 @@ pub record LeavesOthers (v : Outside) (words : Option Command) (status : Status)
   pub jobs : v.tells_jobs → IfSome words (λ c. KeepsJobs (job_of c) status v.keeper v.keeper')
 
 -- What is read.
-pub record ReadsInOrder (v : Outside) (words : Option Command) (status : Status) : Type 0 where
-  -- Only the files that the words name are read, in their order, and with a job once more in this order, for its digest, unless it
-  -- is gone on with and the files are refused; the log of a payment never, and behind a file that is refused none.
+pub record ReadsInOrder (v : Outside) (words : Option Command) : Type 0 where
+  -- Only the files that the words name are read, in their order, each once, with a job and without; the log of a payment never, and
+  -- behind a file that is refused none.
   pub asked : v.tells_files → IfSome words (λ c. AsksFor c v.shelf v.shelf')
-  -- What the files of a payment come to by themselves is found by reading them once.
-  pub read_once : v.tells_files → IsOfTheFiles status → WhereFunding words (λ s p. AsksInOrder s p v.shelf v.shelf')
   -- A workload is summed up without files: none is asked for or touched.
   pub apart : WhereWorking words (λ number count. v.shelf' ≡ v.shelf)
 

@@ -2,14 +2,13 @@
 
 ghost use Rattle.std.specs.Prelude.{◌≡◌, ◌≢◌, Some};
 ghost use Rattle.command_end.specs.Printed.{TellsWhole, TookAll};
-ghost use Rattle.command_fund.specs.Inputs.{AsksInOrder};
 ghost use Rattle.command_fund.specs.Jobs.{KeepsJobs};
-ghost use Rattle.command_fund.specs.Statuses.{IsBeforeTheLog, IsOfTheFiles};
+ghost use Rattle.command_fund.specs.Statuses.{IsBeforeTheLog};
 ghost use Rattle.fund_top.specs.Asked.{AsksFor};
 ghost use Rattle.fund_top.specs.Command.{plain};
 ghost use Rattle.fund_top.specs.Outside.{outside};
 ghost use Rattle.fund_top.specs.Run.{EndsByStatus, GoesOn, LeavesOthers, ReadsInOrder, RefusesFirst, TellsDue, TellsFailures, TellsUsage};
-ghost use Rattle.fund_top.specs.Statuses.{Ends, KeepsOthers, WhereFunding, WhereWorking, job_of};
+ghost use Rattle.fund_top.specs.Statuses.{Ends, KeepsOthers, WhereWorking, job_of};
 ghost use Rattle.fund_top.specs.Words.{IsInRange, command_of};
 
 use crate::words::{Command, parse};
@@ -42,7 +41,6 @@ fn act<H: Shelf, O: Sink, K: Keeper>(
     ensures apart { WhereWorking (Some (plain command.now)) (λ number count. (H.view shelf.new) ≡ (H.view shelf.old)) }
     ensures jobs { K.tells → KeepsJobs (job_of (plain command.now)) result (K.view keeper.old) (K.view keeper.new) }
     ensures asked { H.tells → AsksFor (plain command.now) (H.view shelf.old) (H.view shelf.new) }
-    ensures read_once { H.tells → IsOfTheFiles result → WhereFunding (Some (plain command.now)) (λ s p. AsksInOrder s p (H.view shelf.old) (H.view shelf.new)) }
     ensures unfailed { result ≢ Status.KeepFault → (K.view keeper.new).faults ≡ (K.view keeper.old).faults }
     ensures all_read { result ≢ Status.ReadFault → (H.view shelf.new).reads ≡ (H.view shelf.old).reads }
     ensures all_written { result ≢ Status.WriteFault → (H.view shelf.new).writes ≡ (H.view shelf.old).writes }
@@ -70,7 +68,8 @@ fn act<H: Shelf, O: Sink, K: Keeper>(
 ///   payments and their states, and the coins that may be spent.
 /// - `fund WALLET BLOCKS REQUEST LOG` reads three files, funds the payment of the request with its tries, writes the log, and
 ///   then prints the report. Where the run is unfinished, no log is written: the tries are used up, a search is open, and
-///   nothing is taken. With a `JOB` behind these words an unfinished run is kept as that job, before its report is printed.
+///   nothing is taken. With a `JOB` behind these words an unfinished run is kept as that job, before its report is printed; the
+///   job's digest is that of the bytes that were read.
 /// - `resume WALLET BLOCKS REQUEST LOG JOB` goes on with a kept job, with the request's tries, and ends as `fund` does. Where
 ///   it is unfinished again, the bytes of its log that are new are kept as one part more.
 /// - `check WALLET BLOCKS REQUEST REPORT LOG` reads the files of a payment, a report and the log of it, and prints that the
@@ -107,8 +106,8 @@ pub fn run<H: Shelf, O: Sink, K: Keeper>(
     // What stays: the files but the log, and the jobs but the one that is named.
     ensures stays { LeavesOthers (outside H.tells O.tells K.tells (H.view shelf.old) (H.view shelf.new) (O.view out.old) (O.view out.new) (K.view keeper.old) (K.view keeper.new)) (command_of words.now.items) result }
 
-    // What is read: the files that are named, in their order.
-    ensures reads { ReadsInOrder (outside H.tells O.tells K.tells (H.view shelf.old) (H.view shelf.new) (O.view out.old) (O.view out.new) (K.view keeper.old) (K.view keeper.new)) (command_of words.now.items) result }
+    // What is read: the files that are named, in their order, each once.
+    ensures reads { ReadsInOrder (outside H.tells O.tells K.tells (H.view shelf.old) (H.view shelf.new) (O.view out.old) (O.view out.new) (K.view keeper.old) (K.view keeper.new)) (command_of words.now.items) }
 
     // Going on with a job gives the answer of a run without a stop.
     ensures uninterrupted { GoesOn (outside H.tells O.tells K.tells (H.view shelf.old) (H.view shelf.new) (O.view out.old) (O.view out.new) (K.view keeper.old) (K.view keeper.new)) (command_of words.now.items) result }

@@ -1,5 +1,5 @@
 -- The digest that names a job.
-use Rattle.std.specs.Prelude.{ℕ, ◌≡◌, ◌≤◌, ◌++◌, List, length}
+use Rattle.std.specs.Prelude.{ℕ, ◌++◌, List}
 use Rattle.sha2.specs.Sha256.{sha256}
 
 -- by the digests of its wallet file, its block file and its request file
@@ -9,7 +9,3 @@ digest_by wallet blocks request = sha256 (wallet ++ (blocks ++ request))
 -- by the files
 abbrev pub job_digest : (wallet blocks request : List ℕ) → List ℕ
 job_digest wallet blocks request = digest_by (sha256 wallet) (sha256 blocks) (sha256 request)
-
--- the digest of a file that is within the longest limit; of a longer one nothing is said
-abbrev pub IsFileDigest : List ℕ → List ℕ → Type 0
-IsFileDigest file digest = length file ≤ 1073741824 → digest ≡ sha256 file

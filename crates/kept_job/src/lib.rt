@@ -11,7 +11,7 @@ mod resuming;
 mod saving;
 mod sizes;
 
-pub use digest::{file_digest, job_digest};
+pub use digest::job_digest;
 pub use fault::KeptFault;
 pub use laws::{
     jobs_go_on, kept_jobs_are_gone_on_with, refused_jobs_have_one_fault, resumed_plans_claim,

@@ -1,9 +1,9 @@
-use Rattle.std.proofs.Common.{◌≡◌, Result, Err, inl, inr, refl}
+use Rattle.std.proofs.Common.{◌≡◌, Result, Err, inl, inr}
 use Rattle.command_end.proofs.WholeLaws.{put_whole}
 use Rattle.command_end.specs.Names.{plain_sources}
-use Rattle.command_fund.specs.Names.{plain_payment}
+use Rattle.command_fund.specs.Names.{plain_job, plain_payment}
 use Rattle.command_fund.proofs.Finished.{stop_untold}
-use Rattle.command_fund.proofs.LeavingLaws.{not_left, put_jobs, same_jobs}
+use Rattle.command_fund.proofs.LeavingLaws.{anew_jobs, not_left, same_jobs}
 use Rattle.command_fund.specs.declared.refusal.Stop.{Stop}
 use Rattle.command_fund.proofs.command.leave.Goals as goal
 
@@ -11,44 +11,21 @@ same_stop : (a b : Stop) → ◌≡◌ {A = Result Unit Stop} (Err a) (Err b) �
 same_stop a b e = cc
 
 pub returns-in-Ok-clause-left : goal.returns-in-Ok-clause-left
-returns-in-Ok-clause-left g c =
-    rw c.in-Some.is (inl (rw c.deref.ensures.value at c.put_report.ensures.ends, λ k. (c.keep_anew.ensures.others k, c.in-Ok.ensures.kept k)))
+returns-in-Ok-clause-left g c = inl (rw c.deref.ensures.value at c.put_report.ensures.ends, c.in-Ok.ensures.kept)
 
 pub returns-in-Ok-clause-jobs : goal.returns-in-Ok-clause-jobs
 returns-in-Ok-clause-jobs g c = λ k.
-    rw c.in-Some.is (put_jobs _ c.args.left.now.report.items c.in-Some.job.now (g.O.Sink.view c.args.out.now) (g.O.Sink.view c.put_report.new.out) (g.K.Keeper.view c.args.keeper.now) (g.K.Keeper.view c.keep_anew.new.keeper) c.put_report.result (rw c.deref.ensures.value at c.put_report.ensures.ends) (c.keep_anew.ensures.others k))
-
-pub returns-in-Ok-clause-unasked : goal.returns-in-Ok-clause-unasked
-returns-in-Ok-clause-unasked g c = λ none. absurd (let e = c.in-Some.is in cc)
+    anew_jobs _ _ c.args.left.now.report.items c.args.left.now.plan (plain_job c.args.job) c.args.digest (g.O.Sink.view c.args.out.now) (g.O.Sink.view c.put_report.new.out) (g.K.Keeper.view c.args.keeper.now) (g.K.Keeper.view c.keep_anew.new.keeper) c.put_report.result (rw c.deref.ensures.value at c.put_report.ensures.ends) c.in-Ok.ensures.kept k
 
 pub returns-in-Err-clause-left : goal.returns-in-Err-clause-left
 returns-in-Err-clause-left g c =
-    rw c.in-Some.is (inr (not_left _ (plain_sources c.args.sources.now) (plain_payment c.args.payment.now) c.in-Some.job.now c.in-Err.stop (g.H.Shelf.view c.args.shelf.now) (g.H.Shelf.view c.keep_anew.new.shelf) (g.O.Sink.view c.args.out.now) (g.O.Sink.view c.answer.new.out) (g.K.Keeper.view c.args.keeper.now) (g.K.Keeper.view c.keep_anew.new.keeper) c.answer.result c.in-Err.ensures.stop c.answer.ensures.answered, λ k. c.in-Err.ensures.same k))
+    inr (not_left _ (plain_sources c.args.sources.now) (plain_payment c.args.payment.now) (plain_job c.args.job) c.in-Err.stop (g.O.Sink.view c.args.out.now) (g.O.Sink.view c.answer.new.out) (g.K.Keeper.view c.args.keeper.now) (g.K.Keeper.view c.keep_anew.new.keeper) c.answer.result c.in-Err.ensures.stop c.answer.ensures.answered, λ k. c.in-Err.ensures.same k)
 
 pub returns-in-Err-clause-jobs : goal.returns-in-Err-clause-jobs
 returns-in-Err-clause-jobs g c = λ k. same_jobs _ _ (g.K.Keeper.view c.args.keeper.now) (g.K.Keeper.view c.keep_anew.new.keeper) (c.in-Err.ensures.same k)
 
-pub returns-in-Err-clause-unasked : goal.returns-in-Err-clause-unasked
-returns-in-Err-clause-unasked g c = λ none. absurd (let e = c.in-Some.is in cc)
-
-pub returns-in-None-clause-left : goal.returns-in-None-clause-left
-returns-in-None-clause-left g c =
-    rw c.in-None.is (inl (rw c.deref-in-None.ensures.value at c.put_report-in-None.ensures.ends, refl))
-
-pub returns-in-None-clause-jobs : goal.returns-in-None-clause-jobs
-returns-in-None-clause-jobs g c = λ k. same_jobs _ _ (g.K.Keeper.view c.args.keeper.now) (g.K.Keeper.view c.args.keeper.now) refl
-
 pub returns-in-Err-clause-unfailed : goal.returns-in-Err-clause-unfailed
 returns-in-Err-clause-unfailed g c = λ other. c.in-Err.ensures.unfailed (λ e. other (c.answer.ensures.keep (same_stop _ _ e)))
-
-pub returns-in-Ok-clause-all_read : goal.returns-in-Ok-clause-all_read
-returns-in-Ok-clause-all_read g c = λ other. c.in-Ok.ensures.all_read (λ file e. cc)
-
-pub returns-in-Err-clause-all_read : goal.returns-in-Err-clause-all_read
-returns-in-Err-clause-all_read g c = λ other. c.in-Err.ensures.all_read (λ file e. other (c.answer.ensures.read file (same_stop _ _ e)))
-
-pub returns-in-None-clause-all_read : goal.returns-in-None-clause-all_read
-returns-in-None-clause-all_read g c = λ other. refl
 
 -- ---- failed puts
 
@@ -58,6 +35,3 @@ returns-in-Ok-clause-all_put g c = put_whole (g.O.Sink.view c.args.out.now) (g.O
 pub returns-in-Err-clause-all_put : goal.returns-in-Err-clause-all_put
 returns-in-Err-clause-all_put g c = λ whole.
     absurd (stop_untold _ (plain_sources c.args.sources.now) (plain_payment c.args.payment.now) c.in-Err.stop (g.O.Sink.view c.args.out.now) (g.O.Sink.view c.answer.new.out) c.answer.result c.answer.ensures.answered whole)
-
-pub returns-in-None-clause-all_put : goal.returns-in-None-clause-all_put
-returns-in-None-clause-all_put g c = put_whole (g.O.Sink.view c.args.out.now) (g.O.Sink.view c.put_report-in-None.new.out) c.put_report-in-None.result c.put_report-in-None.ensures.all_put

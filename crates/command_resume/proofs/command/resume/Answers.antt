@@ -4,9 +4,8 @@ use Rattle.command_end.specs.Names.{plain_sources}
 use Rattle.command_end.specs.declared.status.Status.TheVariants as statuses
 use Rattle.command_fund.specs.Names.{plain_payment}
 use Rattle.command_fund.proofs.InputLaws.{inputs_behind}
-use Rattle.command_fund.proofs.LeavingLaws.{same_jobs}
-use Rattle.command_resume.proofs.AskingLaws.{once_on}
-use Rattle.command_resume.proofs.Finished.{asked_on, finish_ends, jobs_on, leave_ends}
+use Rattle.command_fund.proofs.LeavingLaws.{asked_on, same_jobs}
+use Rattle.command_resume.proofs.Finished.{finish_ends, jobs_on, leave_ends}
 use Rattle.command_resume.proofs.StopLaws.{stop_ends, stop_untold}
 use Rattle.command_resume.specs.declared.resuming.Ending.{Ending}
 use Rattle.command_resume.specs.declared.stop.Stop.{Stop}
@@ -86,20 +85,6 @@ pub returns-in-Ok-Funded-clause-none_behind : goal.returns-in-Ok-Funded-clause-n
 returns-in-Ok-Funded-clause-none_behind g c =
     let ends = rw c.in-Ok-Funded.field-0-is at c.in-Ok-Funded.ensures.ends in
     inputs_behind _ (plain_sources c.args.sources.now) (plain_payment c.args.payment.now) ends.wallet ends.blocks ends.asked (g.H.Shelf.view c.args.shelf.now) (g.H.Shelf.view c.finish-in-Ok-Funded.new.shelf) ends.inputs
-
--- ---- files that are refused
-
-pub returns-in-Ok-Unfinished-clause-read_once : goal.returns-in-Ok-Unfinished-clause-read_once
-returns-in-Ok-Unfinished-clause-read_once g c = c.go_on.ensures.read_once
-
-pub returns-in-Ok-NoSelection-clause-read_once : goal.returns-in-Ok-NoSelection-clause-read_once
-returns-in-Ok-NoSelection-clause-read_once g c = once_on _ (plain_sources c.args.sources.now) (plain_payment c.args.payment.now) (g.H.Shelf.view c.args.shelf.now) (g.H.Shelf.view c.go_on.new.shelf) (g.H.Shelf.view c.finish.new.shelf) c.finish.ensures.asked c.go_on.ensures.read_once
-
-pub returns-in-Ok-Funded-clause-read_once : goal.returns-in-Ok-Funded-clause-read_once
-returns-in-Ok-Funded-clause-read_once g c = once_on _ (plain_sources c.args.sources.now) (plain_payment c.args.payment.now) (g.H.Shelf.view c.args.shelf.now) (g.H.Shelf.view c.go_on.new.shelf) (g.H.Shelf.view c.finish-in-Ok-Funded.new.shelf) c.finish-in-Ok-Funded.ensures.asked c.go_on.ensures.read_once
-
-pub returns-in-Err-clause-read_once : goal.returns-in-Err-clause-read_once
-returns-in-Err-clause-read_once g c = c.go_on.ensures.read_once
 
 -- ---- failed reads
 

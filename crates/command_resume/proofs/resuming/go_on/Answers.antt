@@ -41,15 +41,6 @@ returns-in_err-ending-clause-none_behind g c = c.prepare.ensures.none_behind
 pub returns-clause-none_behind : goal.returns-clause-none_behind
 returns-clause-none_behind g c = c.prepare.ensures.none_behind
 
-pub returns-in_err-ready-clause-read_once : goal.returns-in_err-ready-clause-read_once
-returns-in_err-ready-clause-read_once g c = c.prepare.ensures.read_once
-
-pub returns-in_err-ending-clause-read_once : goal.returns-in_err-ending-clause-read_once
-returns-in_err-ending-clause-read_once g c = c.prepare.ensures.read_once
-
-pub returns-clause-read_once : goal.returns-clause-read_once
-returns-clause-read_once g c = c.prepare.ensures.read_once
-
 pub returns-in_err-ready-clause-all_read : goal.returns-in_err-ready-clause-all_read
 returns-in_err-ready-clause-all_read g c =
     let p = err_from_is_err_and c.from_residual.result c.from_residual.ensures.1 in

@@ -1,9 +1,10 @@
-use Rattle.std.proofs.Common.{[], ◌∷◌, ◌≡◌, ◌≤◌, ◌∙◌, ap, sym, subst, List, ℕ, length, arith, refl, Err, None}
+use Rattle.std.proofs.Common.{[], ◌∷◌, ◌≡◌, ◌≤◌, ◌∙◌, ap, subst, List, ℕ, length, arith, refl, Err, None}
 use Rattle.std.proofs.lemmas.Result.{err_from_is_err_and}
 use Rattle.fund_shelf.proofs.Asking.{asks_again, asks_none}
 use Rattle.block_feed.specs.Block.{ChainBlock}
 use Rattle.block_feed.specs.Feed.{StandsBefore, next_of}
 use Rattle.wallet_text.specs.PlainWallet.{PlainWallet}
+use Rattle.fund_files.proofs.DigestSteps.{taken_all, taken_more, taken_none}
 use Rattle.fund_files.proofs.FeedSteps.{so_far_none, so_far_all, so_far_fault, so_far_more}
 use Rattle.fund_files.proofs.blocks.read_blocks.Goals as goal
 
@@ -11,13 +12,16 @@ pub reading-init : goal.reading-init
 reading-init g c =
     let hash = ap (λ (x : PlainWallet). x.hash) c.wallet.view_is in
     let height = ap (λ (x : PlainWallet). x.height) c.wallet.view_is in
-    rw c.new-feed.ensures (record {
-      fine = refl;
+    let starts = c.requires.starts in
+    record {
+      fine = starts.fault;
       frame = record { same = λ t. refl; reads = λ name. omega arith; writes = refl };
       reads = refl;
       asked = λ t. asks_none (c.args.name.now ∷ []) (g.H.Shelf.view c.args.shelf.now).asked;
-      so_far = so_far_none g.H.Shelf.tells ((g.H.Shelf.view c.args.shelf.now).files c.args.name.now) c.args.wallet.now (record { hash = c.wallet.inside.hash; height = c.wallet.inside.height; place = 0; fault = None; hasher = None; digest = None }) c.in-Ok.booked refl hash height c.requires.height c.in-Ok.ensures;
-    })
+      so_far = so_far_none g.H.Shelf.tells ((g.H.Shelf.view c.args.shelf.now).files c.args.name.now) c.args.wallet.now c.args.feed.now c.wallet.inside.height c.wallet.inside.hash c.in-Ok.booked starts height hash c.requires.rules.height c.in-Ok.ensures;
+      hashing = refl;
+      taken = taken_none _ ((g.H.Shelf.view c.args.shelf.now).files c.args.name.now) c.args.feed.now starts.place starts.taken;
+    }
 
 pub returns-in_err-block-clause-fault : goal.returns-in_err-block-clause-fault
 returns-in_err-block-clause-fault g c = λ t.
@@ -36,6 +40,12 @@ returns-in_default-2-clause-read g c =
     (λ t. subst (λ (files : List ℕ → List ℕ). length (files c.args.name.now) ≤ 1_073_741_824) (c.reading.invariant.frame.same t) (found t c.reading.invariant.fine).1)
     c.reading.invariant.so_far
 
+pub returns-in_default-2-clause-digest : goal.returns-in_default-2-clause-digest
+returns-in_default-2-clause-digest g c =
+    let digests = rw c.in_default-2.is at c.in_ok-block.ensures.digests in
+    taken_all g.H.Shelf.tells _ ((g.H.Shelf.view c.reading.shelf).files c.args.name.now) c.args.feed.now c.reading.feed c.next.new.self c.reading.invariant.hashing (λ t. ap (λ (files : List ℕ → List ℕ). files c.args.name.now) (c.reading.invariant.frame.same t))
+    (λ t. digests t c.reading.invariant.fine) c.reading.invariant.taken
+
 pub reading-preserved : goal.reading-preserved
 reading-preserved g c =
     let e = c.in_ok-block.ensures in
@@ -44,6 +54,7 @@ reading-preserved g c =
     let exact = rw c.in-Some.is at e.exact in
     let within = rw c.in-Some.is at e.within in
     let before = rw c.in-Some.is at e.before in
+    let digests = rw c.in-Some.is at e.digests in
     let hash = ap (λ (b : ChainBlock). b.hash) c.block.view_is in
     let height = ap (λ (b : ChainBlock). b.height) c.block.view_is in
     record {
@@ -55,6 +66,9 @@ reading-preserved g c =
       };
       reads = e.frame.unfailed (λ h. absurd cc) ∙ c.reading.invariant.reads;
       asked = λ t. asks_again _ _ _ _ (c.reading.invariant.asked t) (e.frame.asked t);
+      hashing = e.asked_for ∙ c.reading.invariant.hashing;
+      taken = taken_more g.H.Shelf.tells _ ((g.H.Shelf.view c.reading.shelf).files c.args.name.now) c.reading.feed c.next.new.self c.in-Some.block (λ t. ap (λ (files : List ℕ → List ℕ). files c.args.name.now) (c.reading.invariant.frame.same t))
+          (λ t. digests t c.reading.invariant.fine) (λ t. (within t c.reading.invariant.fine).0) c.reading.invariant.taken;
       so_far = so_far_more g.H.Shelf.tells _ _ _ _ c.reading.feed c.next.new.self c.reading.booked c.add_block.new.booked c.in-Some.block _ _ linked moves (λ t. ap (λ (files : List ℕ → List ℕ). files c.args.name.now) (c.reading.invariant.frame.same t))
           (λ t. exact t c.reading.invariant.fine) (λ t. within t c.reading.invariant.fine) (λ t. before t c.reading.invariant.fine) _ _ height hash c.in_default-add_block.ensures c.reading.invariant.so_far;
     }

@@ -1,4 +1,3 @@
-use Rattle.std.proofs.Common.{◌≡◌}
 use Rattle.fund_files.proofs.BookSteps.{fresh_in, waiting_more, waiting_none}
 use Rattle.fund_files.proofs.booking.add_waiting.Goals as goal
 

@@ -1,4 +1,4 @@
-use Rattle.std.proofs.Common.{◌≡◌, ap, ℕ, List, [], ◌∷◌}
+use Rattle.std.proofs.Common.{ap, ℕ, List, [], ◌∷◌}
 use Rattle.std.proofs.lemmas.Result.{err_from_is_err_and}
 use Rattle.fund_shelf.proofs.Asking.{asks_first, asks_then}
 use Rattle.fund_files.specs.Contents.{HasWallet}

@@ -1,6 +1,5 @@
 use Rattle.command_end.specs.Names.{plain_sources}
 use Rattle.command_fund.specs.Names.{plain_job, plain_payment}
-use Rattle.fund_top.proofs.AskedLaws.{payment_asks}
 use Rattle.fund_top.proofs.CommandEnds.{check_ends, desk_ends, listing_ends, load_ends, payment_ends, resume_ends}
 use Rattle.fund_top.proofs.top.act.Goals as goal
 
@@ -14,17 +13,13 @@ returns-in-Fund-clause-ends g c =
     (g.K.Keeper.view c.args.keeper.now) (g.K.Keeper.view c.fund.new.keeper) c.fund.result c.fund.ensures.ends)
 
 pub returns-in-Fund-clause-asked : goal.returns-in-Fund-clause-asked
-returns-in-Fund-clause-asked g c =
-    rw c.in-Fund.is (λ told. payment_asks (plain_sources c.in-Fund.sources) (plain_payment c.in-Fund.payment) c.in-Fund.job (g.H.Shelf.view c.args.shelf.now) (g.H.Shelf.view c.fund.new.shelf) (c.fund.ensures.asked told) (c.fund.ensures.asked_once told) (c.fund.ensures.none_behind told))
+returns-in-Fund-clause-asked g c = rw c.in-Fund.is (λ told. (c.fund.ensures.asked told, c.fund.ensures.none_behind told))
 
 pub returns-in-Coins-clause-asked : goal.returns-in-Coins-clause-asked
 returns-in-Coins-clause-asked g c = rw c.in-Coins.is (λ told. (c.coins.ensures.asked told, c.coins.ensures.refused_alone told))
 
 pub returns-in-Resume-clause-asked : goal.returns-in-Resume-clause-asked
-returns-in-Resume-clause-asked g c = rw c.in-Resume.is (λ told. (c.resume.ensures.asked told, c.resume.ensures.none_behind told, c.resume.ensures.read_once told))
-
-pub returns-in-Fund-clause-read_once : goal.returns-in-Fund-clause-read_once
-returns-in-Fund-clause-read_once g c = rw c.in-Fund.is c.fund.ensures.read_once
+returns-in-Resume-clause-asked g c = rw c.in-Resume.is (λ told. (c.resume.ensures.asked told, c.resume.ensures.none_behind told))
 
 pub returns-in-Resume-clause-ends : goal.returns-in-Resume-clause-ends
 returns-in-Resume-clause-ends g c =

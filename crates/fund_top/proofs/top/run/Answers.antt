@@ -19,7 +19,7 @@ pub returns-in-Some-clause-stays : goal.returns-in-Some-clause-stays
 returns-in-Some-clause-stays g c = command_stays _ (plain c.in-Some.command) _ (c.in-Some.ensures.command ∙ ap command_of c.as_slice.ensures.value) c.act.result c.act.ensures.others c.act.ensures.kept c.act.ensures.jobs
 
 pub returns-in-Some-clause-reads : goal.returns-in-Some-clause-reads
-returns-in-Some-clause-reads g c = command_reads _ (plain c.in-Some.command) _ (c.in-Some.ensures.command ∙ ap command_of c.as_slice.ensures.value) c.act.result c.act.ensures.asked c.act.ensures.read_once c.act.ensures.apart
+returns-in-Some-clause-reads g c = command_reads _ (plain c.in-Some.command) _ (c.in-Some.ensures.command ∙ ap command_of c.as_slice.ensures.value) c.act.result c.act.ensures.asked c.act.ensures.apart
 
 pub returns-in-Some-clause-uninterrupted : goal.returns-in-Some-clause-uninterrupted
 returns-in-Some-clause-uninterrupted g c = command_goes_on _ (plain c.in-Some.command) _ (c.in-Some.ensures.command ∙ ap command_of c.as_slice.ensures.value) c.act.result c.act.ensures.ends
