@@ -28,9 +28,9 @@ use Rattle.wallet_text.specs.PlainWallet.{PlainWallet}
 use Rattle.command_check.specs.Due.{Accepted, ComesTo}
 use Rattle.command_check.specs.Evidence.{IsWithin}
 use Rattle.command_end.specs.Names.{Sources}
-use Rattle.command_fund.specs.Due.{log_text_at, plan_of}
-use Rattle.command_fund.specs.Inputs.{AreInputs}
-use Rattle.command_fund.specs.Names.{Payment}
+use Rattle.command_inputs.specs.Due.{log_text_at, plan_of}
+use Rattle.command_inputs.specs.Inputs.{AreInputs}
+use Rattle.command_inputs.specs.Names.{Payment}
 use Rattle.checked_runs.specs.Beside.{IsFunded, IsNotFunded, IsUnfinished, StandWithLog, StandsBeside, reported_of}
 use Rattle.checked_runs.proofs.AnswerLaws.{funded_in_order, none_in_order}
 use Rattle.checked_runs.proofs.FoundLaws.{can_be_told}

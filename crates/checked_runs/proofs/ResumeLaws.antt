@@ -19,9 +19,9 @@ use Rattle.kept_job.specs.Kept.{IsAsAfter, IsKeptAt}
 use Rattle.command_check.specs.Due.{Accepted, ComesTo}
 use Rattle.command_check.specs.Evidence.{IsWithin}
 use Rattle.command_end.specs.Names.{Sources}
-use Rattle.command_fund.specs.Digest.{digest_in}
-use Rattle.command_fund.specs.Due.{plan_of}
-use Rattle.command_fund.specs.Names.{Payment}
+use Rattle.command_inputs.specs.Digest.{digest_in}
+use Rattle.command_inputs.specs.Due.{plan_of}
+use Rattle.command_inputs.specs.Names.{Payment}
 use Rattle.checked_runs.specs.Beside.{StandWithLog, StandsBeside}
 use Rattle.checked_runs.proofs.CommandLaws.{HasNone, HasPaid, comes_to, paid_checked, unpaid_checked}
 use Rattle.checked_runs.proofs.LengthLaws.{open_within}

@@ -1,13 +1,13 @@
 -- A report and its log beside the files of which they tell.
 use Rattle.std.specs.Prelude.{ℕ, ◌≡◌, List}
 use Rattle.command_end.specs.Names.{Sources}
-use Rattle.command_fund.specs.Names.{Payment}
-use Rattle.command_fund.specs.Statuses as payments
+use Rattle.command_inputs.specs.Names.{Payment}
+use Rattle.command_inputs.specs.Results as payments
 use Rattle.fund_files.specs.Chain.{held_of, history_of}
 use Rattle.fund_payment.specs.Report.{reported}
 use Rattle.fund_plan.specs.Outcome.{tries_at}
 use Rattle.fund_report.specs.PlainFunded as reports
-use Rattle.command_fund.specs.Due.{plan_of}
+use Rattle.command_inputs.specs.Due.{plan_of}
 
 -- The wallet, the blocks and the request are as they were, and the report stands in a file of this name.
 pub record StandsBeside (files files' : List ℕ → List ℕ) (s : Sources) (p : Payment) (name report : List ℕ) : Type 0 where

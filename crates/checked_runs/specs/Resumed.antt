@@ -6,8 +6,8 @@ use Rattle.fund_report.specs.PlainFunded as reports
 use Rattle.fund_files.specs.Chain.{held_of, history_of}
 use Rattle.fund_payment.specs.Report.{reported}
 use Rattle.command_end.specs.Names.{Sources}
-use Rattle.command_fund.specs.Due.{plan_of}
-use Rattle.command_fund.specs.Names.{Payment}
+use Rattle.command_inputs.specs.Due.{plan_of}
+use Rattle.command_inputs.specs.Names.{Payment}
 use Rattle.command_resume.specs.Resumed as resumes
 
 -- where the files and the jobs are told

@@ -8,8 +8,8 @@ ghost use Rattle.fund_files.specs.Chain.{held_of};
 ghost use Rattle.command_check.specs.Due.{Accepted, ComesTo};
 ghost use Rattle.command_check.specs.Evidence.{IsWithin};
 ghost use Rattle.command_end.specs.Names.{Sources};
-ghost use Rattle.command_fund.specs.Due.{plan_of};
-ghost use Rattle.command_fund.specs.Names.{Payment};
+ghost use Rattle.command_inputs.specs.Due.{plan_of};
+ghost use Rattle.command_inputs.specs.Names.{Payment};
 ghost use Rattle.checked_runs.specs.Beside.{IsFunded, IsNotFunded, IsUnfinished, StandWithLog, StandsBeside, reported_of};
 ghost use Rattle.checked_runs.specs.Summed.{IsSummed, lines_for, report_for, reported_for};
 

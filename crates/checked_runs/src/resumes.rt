@@ -9,9 +9,9 @@ ghost use Rattle.kept_job.specs.Kept.{IsKeptAt};
 ghost use Rattle.command_check.specs.Due.{Accepted, ComesTo};
 ghost use Rattle.command_check.specs.Evidence.{IsWithin};
 ghost use Rattle.command_end.specs.Names.{Sources};
-ghost use Rattle.command_fund.specs.Digest.{digest_in};
-ghost use Rattle.command_fund.specs.Due.{plan_of};
-ghost use Rattle.command_fund.specs.Names.{Payment};
+ghost use Rattle.command_inputs.specs.Digest.{digest_in};
+ghost use Rattle.command_inputs.specs.Due.{plan_of};
+ghost use Rattle.command_inputs.specs.Names.{Payment};
 ghost use Rattle.checked_runs.specs.Beside.{StandWithLog, StandsBeside};
 ghost use Rattle.checked_runs.specs.Resumed.{IsFunded, IsNotFunded, IsUnfinished, reported_after};
 

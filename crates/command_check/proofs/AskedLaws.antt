@@ -3,8 +3,8 @@ use Rattle.std.proofs.Common.{◌≡◌, ℕ, List, [], ◌∷◌, sym, subst}
 use Rattle.fund_shelf.specs.Causes.{Asks, ShelfView}
 use Rattle.fund_shelf.proofs.Asking.{asks_first, asks_then}
 use Rattle.command_end.specs.Names.{Sources}
-use Rattle.command_fund.specs.Names.{Payment}
-use Rattle.command_fund.specs.Inputs as inputs
+use Rattle.command_inputs.specs.Names.{Payment}
+use Rattle.command_inputs.specs.Inputs as inputs
 use Rattle.command_check.specs.Asked.{AsksInOrder, AsksNoLog}
 
 -- the payment's alone

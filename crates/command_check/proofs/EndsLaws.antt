@@ -9,17 +9,17 @@ use Rattle.command_end.specs.Names.{Sources}
 use Rattle.command_end.specs.Printed.{IsPut, TellsWhole}
 use Rattle.command_end.specs.declared.status.Status.{Status}
 use Rattle.command_end.specs.declared.status.Status.TheVariants as statuses
-use Rattle.command_fund.proofs.Finished as payment_laws
-use Rattle.command_fund.proofs.Finished.{refusal_status}
-use Rattle.command_fund.specs.Cause.{cause_of, status_of_cause}
-use Rattle.command_fund.specs.Names.{Payment}
-use Rattle.command_fund.specs.Stops as payment_stops
-use Rattle.command_fund.specs.Words as payment_words
-use Rattle.command_fund.specs.Words.{refusal_words}
-use Rattle.command_fund.specs.Meant.{IsDue}
-use Rattle.command_fund.specs.declared.refusal.Refusal.{Refusal}
-use Rattle.command_fund.specs.declared.refusal.Stop.{Stop as PaymentStop}
-use Rattle.command_fund.specs.declared.refusal.Stop.TheVariants as payments
+use Rattle.command_inputs.proofs.StopLaws as payment_laws
+use Rattle.command_inputs.proofs.StopLaws.{refusal_status}
+use Rattle.command_inputs.specs.Cause.{cause_of, status_of_cause}
+use Rattle.command_inputs.specs.Names.{Payment}
+use Rattle.command_inputs.specs.Stops as payment_stops
+use Rattle.command_inputs.specs.Words as payment_words
+use Rattle.command_inputs.specs.Words.{refusal_words}
+use Rattle.command_inputs.specs.Meant.{IsDue}
+use Rattle.command_inputs.specs.declared.refusal.Refusal.{Refusal}
+use Rattle.command_inputs.specs.declared.refusal.Stop.{Stop as PaymentStop}
+use Rattle.command_inputs.specs.declared.refusal.Stop.TheVariants as payments
 use Rattle.command_check.proofs.OutcomeLaws.{one_outcome}
 use Rattle.command_check.specs.Evidence.{evidence_name}
 use Rattle.command_check.specs.Due.{Accepted, Broken, ComesTo, IsAnAcceptance, Outcome, Refused, TooLong, status_of}

@@ -7,14 +7,14 @@ use Rattle.fund_steps.specs.Plan.{IsPlan, PlainPlan}
 use Rattle.request_text.specs.PlainRequest.{PlainRequest}
 use Rattle.fund_files.specs.declared.held.Held.{Held}
 use Rattle.command_end.specs.Names.{Sources}
-use Rattle.command_fund.proofs.PlanLaws.{stops_on}
-use Rattle.command_fund.specs.Due.{plan_of}
-use Rattle.command_fund.specs.Inputs.{AreAsked}
-use Rattle.command_fund.specs.Names.{Payment}
-use Rattle.command_fund.specs.PlanEnds.{StopsPlan}
-use Rattle.command_fund.specs.Replacing.{PaysTheBurden, ReplacesIf}
-use Rattle.command_fund.specs.Stops.{StopsFor}
-use Rattle.command_fund.specs.declared.refusal.Stop.{Stop}
+use Rattle.command_inputs.proofs.PlanLaws.{stops_on}
+use Rattle.command_inputs.specs.Due.{plan_of}
+use Rattle.command_inputs.specs.Inputs.{AreAsked}
+use Rattle.command_inputs.specs.Names.{Payment}
+use Rattle.command_inputs.specs.PlanEnds.{StopsPlan}
+use Rattle.command_inputs.specs.Replacing.{PaysTheBurden, ReplacesIf}
+use Rattle.command_inputs.specs.Stops.{StopsFor}
+use Rattle.command_inputs.specs.declared.refusal.Stop.{Stop}
 use Rattle.command_check.specs.Evidence.{IsReplacingPlan}
 
 -- whatever pays the burden of a plan replaces the payment that its request names

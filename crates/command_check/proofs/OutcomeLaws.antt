@@ -17,12 +17,12 @@ use Rattle.fund_files.specs.Chain.{held_of}
 use Rattle.fund_files.specs.Outcome.{asked_of, chain_of}
 use Rattle.fund_files.specs.declared.held.Held.{Held}
 use Rattle.command_end.specs.Names.{Sources}
-use Rattle.command_fund.proofs.DueLaws.{answer_due}
-use Rattle.command_fund.specs.Cause.{Cause}
-use Rattle.command_fund.specs.Due as payments
-use Rattle.command_fund.specs.Due.{by_answer, due_of, plan_of}
-use Rattle.command_fund.specs.Meant.{IsDue}
-use Rattle.command_fund.specs.Names.{Payment}
+use Rattle.command_inputs.proofs.DueLaws.{answer_due}
+use Rattle.command_inputs.specs.Cause.{Cause}
+use Rattle.command_inputs.specs.Due as payments
+use Rattle.command_inputs.specs.Due.{by_answer, due_of, plan_of}
+use Rattle.command_inputs.specs.Meant.{IsDue}
+use Rattle.command_inputs.specs.Names.{Payment}
 use Rattle.command_check.specs.Due.{Accepted, BreaksRule, Broken, CanBeJudged, ComesTo, IsFormBroken, KeepsRules, Outcome, Refused, TooLong}
 use Rattle.command_check.specs.Evidence.{HasReport, HavePlan, IsReached, IsTooLong, IsWithin, evidence_name}
 use Rattle.command_check.specs.declared.stop.Evidence.{Evidence}

@@ -12,7 +12,7 @@ use Rattle.report_check.specs.Payment.{IsPsbtText, PaysBy}
 use Rattle.report_check.specs.Verdict.{IsPaid}
 use Rattle.request_text.specs.PlainRequest.{PlainRequest}
 use Rattle.wallet_text.specs.PlainWallet.{PlainWallet}
-use Rattle.command_fund.specs.Replacing.{PaysTheBurden}
+use Rattle.command_inputs.specs.Replacing.{PaysTheBurden}
 use Rattle.command_check.specs.Evidence.{BurdenReplaces}
 use Rattle.command_check.specs.Statuses.{Replaced, payment_in}
 

@@ -15,7 +15,7 @@ use Rattle.report_check.specs.Vouched.{Vouches}
 use Rattle.report_check.specs.declared.fault.CheckFault.{CheckFault}
 use Rattle.report_check.specs.declared.fault.CheckFault.TheVariants as faults
 use Rattle.command_end.specs.Names.{Sources}
-use Rattle.command_fund.specs.Names.{Payment}
+use Rattle.command_inputs.specs.Names.{Payment}
 use Rattle.command_check.proofs.ReplacedLaws.{replaced_as}
 use Rattle.command_check.specs.Due.{CanBeJudged, IsFormBroken}
 use Rattle.command_check.specs.Evidence.{AreRead, BurdenReplaces, HasLoggedReport, HasReport, HavePlan, IsPlanOf, IsReplacingPlan, IsTooLong, IsWithin}

@@ -2,7 +2,7 @@
 use Rattle.std.specs.Prelude.{ℕ, List, [], ◌∷◌}
 use Rattle.fund_shelf.specs.Causes.{Asks, ShelfView}
 use Rattle.command_end.specs.Names.{Sources}
-use Rattle.command_fund.specs.Names.{Payment}
+use Rattle.command_inputs.specs.Names.{Payment}
 
 -- The wallet file was asked for, then the block file, the request, the report and the log, each any number of times, and no
 -- other name was.

@@ -10,9 +10,9 @@ use Rattle.report_check.specs.declared.fault.CheckFault.TheVariants as faults
 use Rattle.command_end.specs.Names.{Sources}
 use Rattle.command_end.specs.declared.status.Status.{Status}
 use Rattle.command_end.specs.declared.status.Status.TheVariants as statuses
-use Rattle.command_fund.specs.Cause.{Cause, status_of_cause}
-use Rattle.command_fund.specs.Meant.{IsDue}
-use Rattle.command_fund.specs.Names.{Payment}
+use Rattle.command_inputs.specs.Cause.{Cause, status_of_cause}
+use Rattle.command_inputs.specs.Meant.{IsDue}
+use Rattle.command_inputs.specs.Names.{Payment}
 use Rattle.command_check.specs.Evidence.{HasReport, HavePlan, IsReached, IsTooLong, IsWithin, evidence_name}
 use Rattle.command_check.specs.declared.stop.Evidence.{Evidence}
 

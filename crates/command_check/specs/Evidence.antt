@@ -11,10 +11,10 @@ use Rattle.request_text.specs.PlainRequest.{PlainRequest}
 use Rattle.wallet_text.specs.PlainWallet.{PlainWallet}
 use Rattle.fund_files.specs.Chain.{held_of, history_of}
 use Rattle.command_end.specs.Names.{Sources}
-use Rattle.command_fund.specs.Due.{plan_of}
-use Rattle.command_fund.specs.Inputs.{AreInputs}
-use Rattle.command_fund.specs.Names.{Payment}
-use Rattle.command_fund.specs.Replacing.{PaysTheBurden, ReplacesIf}
+use Rattle.command_inputs.specs.Due.{plan_of}
+use Rattle.command_inputs.specs.Inputs.{AreInputs}
+use Rattle.command_inputs.specs.Names.{Payment}
+use Rattle.command_inputs.specs.Replacing.{PaysTheBurden, ReplacesIf}
 use Rattle.command_check.specs.declared.stop.Evidence.{Evidence}
 use Rattle.command_check.specs.declared.stop.Evidence.TheVariants.{Report, Log}
 

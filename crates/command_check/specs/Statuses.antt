@@ -23,10 +23,10 @@ use Rattle.command_end.specs.Lines.{GotLine, fault_line}
 use Rattle.command_end.specs.Names.{Sources}
 use Rattle.command_end.specs.declared.status.Status.{Status}
 use Rattle.command_end.specs.declared.status.Status.TheVariants as statuses
-use Rattle.command_fund.specs.Inputs as inputs
-use Rattle.command_fund.specs.Names.{Payment}
-use Rattle.command_fund.specs.Replacing.{ReplacesIf}
-use Rattle.command_fund.specs.Statuses as payments
+use Rattle.command_inputs.specs.Inputs as inputs
+use Rattle.command_inputs.specs.Names.{Payment}
+use Rattle.command_inputs.specs.Replacing.{ReplacesIf}
+use Rattle.command_inputs.specs.Results as payments
 use Rattle.command_check.specs.Due.{Accepted, Broken, ComesTo, TooLong}
 use Rattle.command_check.specs.Evidence.{IsPlanOf, IsReached, IsUnread, evidence_name}
 use Rattle.command_check.specs.Words.{accepted_text, check_fault_words, evidence_word}

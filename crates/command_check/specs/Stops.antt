@@ -11,8 +11,8 @@ use Rattle.report_check.specs.Verdict.{HasLog, IsFault}
 use Rattle.report_check.specs.declared.fault.CheckFault.{CheckFault}
 use Rattle.report_check.specs.declared.fault.CheckFault.TheVariants as faults
 use Rattle.command_end.specs.Names.{Sources}
-use Rattle.command_fund.specs.Names.{Payment}
-use Rattle.command_fund.specs.Stops as payments
+use Rattle.command_inputs.specs.Names.{Payment}
+use Rattle.command_inputs.specs.Stops as payments
 use Rattle.command_check.specs.Due.{TooLong, Broken, ComesTo, IsFormBroken}
 use Rattle.command_check.specs.Evidence.{HasLoggedReport, IsReached, IsTooLong, IsUnread}
 use Rattle.command_check.specs.declared.stop.Evidence.{Evidence}

@@ -14,8 +14,8 @@ use Rattle.command_end.specs.AnswerLines.{IsAnswered}
 use Rattle.command_end.specs.Names.{Sources}
 use Rattle.command_end.specs.declared.status.Status.{Status}
 use Rattle.command_end.specs.declared.status.Status.TheVariants as statuses
-use Rattle.command_fund.specs.Names.{Payment}
-use Rattle.command_fund.specs.Words as payments
+use Rattle.command_inputs.specs.Names.{Payment}
+use Rattle.command_inputs.specs.Words as payments
 use Rattle.command_check.specs.Evidence.{evidence_name}
 use Rattle.command_check.specs.declared.stop.Evidence.{Evidence}
 use Rattle.command_check.specs.declared.stop.Evidence.TheVariants.{Report, Log}

@@ -7,15 +7,15 @@ ghost use Rattle.command_end.specs.AnswerLines.{IsAnswered};
 ghost use Rattle.command_end.specs.Lines.{GotLine, fault_line};
 ghost use Rattle.command_end.specs.Names.{plain_sources};
 ghost use Rattle.command_end.specs.Parts.{parts_text};
-ghost use Rattle.command_fund.specs.Names.{plain_payment};
-ghost use Rattle.command_fund.specs.declared.refusal.Stop.TheVariants as payments;
+ghost use Rattle.command_inputs.specs.Names.{plain_payment};
+ghost use Rattle.command_inputs.specs.declared.refusal.Stop.TheVariants as payments;
 ghost use Rattle.command_check.specs.Evidence.{evidence_name};
 ghost use Rattle.command_check.specs.Words.{IsStopped, check_fault_words, evidence_word, stop_status, stop_words};
 
 use crate::stop::{Evidence, Stop};
 use crate::words::{broken_parts, evidence_word};
 use command_end::{Part, Sources, Status, put_fault, refuse_read, want_of_memory};
-use command_fund::{Payment, answer as answer_payment};
+use command_inputs::{Payment, answer as answer_payment};
 use fund_shelf::Sink;
 use report_check::CheckFault;
 

@@ -5,8 +5,8 @@ ghost use Rattle.fund_shelf.specs.Causes.{CountsNeverFall, OnlyReads};
 ghost use Rattle.fund_steps.specs.Plan.{PlainPlan};
 ghost use Rattle.command_end.specs.Names.{plain_sources};
 ghost use Rattle.command_end.specs.Printed.{TellsWhole, TookAll};
-ghost use Rattle.command_fund.specs.Inputs.{NoneBehind};
-ghost use Rattle.command_fund.specs.Names.{plain_payment};
+ghost use Rattle.command_inputs.specs.Inputs.{NoneBehind};
+ghost use Rattle.command_inputs.specs.Names.{plain_payment};
 ghost use Rattle.command_check.specs.Asked.{AsksInOrder, AsksNoLog, AsksPayment};
 ghost use Rattle.command_check.specs.Due.{ComesTo, IsAnAcceptance, Outcome, status_of};
 ghost use Rattle.command_check.specs.Evidence.{HasLoggedReport, HavePlan};
@@ -15,34 +15,9 @@ ghost use Rattle.command_check.specs.Statuses.{Ends, NoneFailed, NoneUnread};
 use crate::answer::answer;
 use crate::judging::accepted;
 use command_end::{Sources, Status, put_report};
-use command_fund::Payment;
+use command_inputs::Payment;
 use fund_shelf::{Shelf, Sink};
 use std::alloc::Global;
-
-/// Puts what is printed of a report that is accepted, or the line of a stop.
-fn verdict<H: Shelf, O: Sink>(
-    alloc: Global,
-    sources: &Sources,
-    payment: &Payment,
-    report: &str,
-    shelf: &mut H,
-    out: &mut O,
-) -> Status
-    ensures ends { Ends H.tells O.tells (plain_sources sources.now) (plain_payment payment.now) report.now (H.view shelf.old) (H.view shelf.new) (O.view out.old) (O.view out.new) result }
-    ensures frame { OnlyReads H.tells (H.view shelf.old) (H.view shelf.new) }
-    ensures counts { CountsNeverFall (O.view out.old) (O.view out.new) }
-    ensures asked { H.tells → AsksInOrder (plain_sources sources.now) (plain_payment payment.now) report.now (H.view shelf.old) (H.view shelf.new) }
-    ensures none_behind { H.tells → NoneBehind (plain_sources sources.now) (H.view shelf.old) (H.view shelf.new) }
-    ensures no_log { H.tells → (HasLoggedReport ((H.view shelf.old).files report.now) → ⊥) → AsksNoLog (plain_sources sources.now) (plain_payment payment.now) report.now (H.view shelf.old) (H.view shelf.new) }
-    ensures unread { H.tells → ((plan : PlainPlan) → HavePlan (H.view shelf.old).files (plain_sources sources.now) (plain_payment payment.now) plan → ⊥) → AsksPayment (plain_sources sources.now) (plain_payment payment.now) (H.view shelf.old) (H.view shelf.new) }
-    ensures all_read { result ≢ Status.ReadFault → (H.view shelf.new).reads ≡ (H.view shelf.old).reads }
-    ensures all_put { TellsWhole result → TookAll (O.view out.old) (O.view out.new) }
-{
-    match accepted(alloc, sources, payment, report, shelf) {
-        Ok(text) => put_report(text.as_bytes(), Status::Done, out),
-        Err(stop) => answer(sources, payment, report, stop, out),
-    }
-}
 
 /// Checks the report of a payment, which is the file `report`, with its log, which is the payment's: it reads the three files
 /// of the payment, then the report and, unless that is of an unfinished run, the log; and prints to `out` that the report is
@@ -86,5 +61,8 @@ pub fn check<H: Shelf, O: Sink>(
     ensures no_log { H.tells → (HasLoggedReport ((H.view shelf.old).files report.now) → ⊥) → AsksNoLog (plain_sources sources.now) (plain_payment payment.now) report.now (H.view shelf.old) (H.view shelf.new) }
     ensures unread { H.tells → ((plan : PlainPlan) → HavePlan (H.view shelf.old).files (plain_sources sources.now) (plain_payment payment.now) plan → ⊥) → AsksPayment (plain_sources sources.now) (plain_payment payment.now) (H.view shelf.old) (H.view shelf.new) }
 {
-    verdict(alloc, sources, payment, report, shelf, out)
+    match accepted(alloc, sources, payment, report, shelf) {
+        Ok(text) => put_report(text.as_bytes(), Status::Done, out),
+        Err(stop) => answer(sources, payment, report, stop, out),
+    }
 }

@@ -1,6 +1,6 @@
 //! Why a report isn't accepted.
 
-use command_fund::Stop as PaymentStop;
+use command_inputs::Stop as PaymentStop;
 use fund_base::Memory;
 use report_check::CheckFault;
 

@@ -1,6 +1,5 @@
 -- How a listing ends that stops.
-use Rattle.std.proofs.Common.{◌≡◌, ℕ, List, ◌++◌, Result, inl, inr, refl, sym, subst}
-use Rattle.std.specs.Prelude.{codes}
+use Rattle.std.proofs.Common.{inl, refl, sym, subst}
 use Rattle.fund_shelf.specs.Causes.{ShelfView, SinkView}
 use Rattle.fund_files.specs.Cause.{cause_of}
 use Rattle.fund_files.specs.FileStops.{StopsChain}
@@ -10,13 +9,9 @@ use Rattle.fund_files.specs.declared.refusal.FileRefusal.TheVariants as refusals
 use Rattle.fund_files.specs.declared.stop.Stop.{Stop}
 use Rattle.fund_files.specs.declared.stop.Stop.TheVariants as stops
 use Rattle.command_end.specs.Lines.{GotLine, fault_line, file_refusal_words, status_of_file}
-use Rattle.command_end.proofs.WholeLaws.{answered_stops, file_stops, wanting_stops}
 use Rattle.command_end.specs.Names.{Sources}
-use Rattle.command_end.specs.Printed.{TellsWhole}
 use Rattle.command_end.specs.declared.status.Status.{Status}
-use Rattle.command_end.specs.declared.status.Status.TheVariants as statuses
-use Rattle.command_coins.specs.Answer.{IsStopped}
-use Rattle.command_coins.specs.Due.{name_of}
+use Rattle.command_end.specs.ChainAnswer.{IsStopped}
 use Rattle.command_coins.specs.Statuses.{Ends, IsDue}
 use Rattle.command_coins.proofs.ListingLaws.{refused_due}
 
@@ -38,9 +33,3 @@ stop_ends told_files told s (stops.Refused refusal) shelf shelf' sink sink' resu
     subst (λ (x : Status). Ends told_files told s shelf shelf' sink sink' x) (sym a.0)
     (refused_ends told_files told s refusal shelf shelf' sink sink' (λ t. (refused_due shelf.files s (cause_of refusal) (h t).meant, (h t).meant)) a.1)
 stop_ends told_files told s stops.Memory shelf shelf' sink sink' result h w = subst (λ (x : Status). Ends told_files told s shelf shelf' sink sink' x) (sym w.0) (inl w.1)
-
--- no stop is told as a listing that is printed whole
-pub stop_untold : (told : Type 0) (s : Sources) (stop : Stop) (sink sink' : SinkView) (result : Status) → IsStopped told s stop sink sink' result → TellsWhole result → ⊥
-stop_untold told s (stops.Read file) sink sink' result h whole = answered_stops told (codes "read " ++ name_of s file) statuses.ReadFault sink sink' result (λ w. w) h whole
-stop_untold told s (stops.Refused refusal) sink sink' result h whole = answered_stops told (file_refusal_words refusal) (status_of_file (cause_of refusal)) sink sink' result (file_stops (cause_of refusal)) h whole
-stop_untold told s stops.Memory sink sink' result h whole = wanting_stops told sink sink' result h whole

@@ -1,4 +1,3 @@
-pub mod AskingLaws
 pub mod EndsLaws
 pub mod LinesLaws
 pub mod ListingLaws

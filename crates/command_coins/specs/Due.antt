@@ -1,20 +1,12 @@
 -- What the files of a listing come to.
-use Rattle.std.specs.Prelude.{ℕ, List, [], Result, Ok, Err}
+use Rattle.std.specs.Prelude.{ℕ, List, Result, Ok, Err}
 use Rattle.command_coins.specs.Listing.{listing_of}
 use Rattle.fund_files.specs.Cause.{FileCause}
 use Rattle.fund_files.specs.Outcome.{chain_of}
 use Rattle.fund_files.specs.declared.held.Held.{Held}
-use Rattle.fund_files.specs.declared.refusal.File.{File}
-use Rattle.fund_files.specs.declared.refusal.File.TheVariants.{Wallet, Blocks, Request}
 use Rattle.payment_states.specs.Candidates.{candidates_of}
 use Rattle.payment_states.specs.Payments.{payments_of}
 use Rattle.command_end.specs.Names.{Sources}
-
--- the name of a file that is read; a request isn't, and has none
-abbrev pub name_of : Sources → File → List ℕ
-name_of s Wallet = s.wallet
-name_of s Blocks = s.blocks
-name_of s Request = []
 
 -- the listing of a chain: its tip, its payments and their states, its coins that may be spent
 unfoldable pub listing_in : Held → List ℕ

@@ -1,4 +1,3 @@
-pub mod Answer
 pub mod Due
 pub mod Listing
 pub mod Statuses

@@ -1,6 +1,6 @@
 -- How a listing ends, by its status.
-use Rattle.std.specs.Prelude.{ℕ, ◌≡◌, ◌⊎◌, List, [], ◌∷◌, ◌++◌, codes, Result, Ok, Err}
-use Rattle.fund_shelf.specs.Causes.{Asks, ShelfView, SinkView, Rose, HasPart}
+use Rattle.std.specs.Prelude.{ℕ, ◌≡◌, ◌⊎◌, List, ◌++◌, codes, Result, Ok, Err}
+use Rattle.fund_shelf.specs.Causes.{ShelfView, SinkView, Rose, HasPart}
 use Rattle.block_feed.specs.Block.{ChainBlock}
 use Rattle.wallet_text.specs.PlainWallet.{PlainWallet}
 use Rattle.fund_files.specs.Cause.{FileCause, cause_of}
@@ -9,13 +9,13 @@ use Rattle.fund_files.specs.Contents.{HasChain}
 use Rattle.fund_files.specs.FileStops.{IsReached, IsUnread}
 use Rattle.fund_files.specs.Refusals.{IsChainMeant}
 use Rattle.fund_files.specs.declared.refusal.File.{File}
-use Rattle.fund_files.specs.declared.refusal.File.TheVariants.{Wallet, Blocks, Request}
 use Rattle.fund_files.specs.declared.refusal.FileRefusal.{FileRefusal}
 use Rattle.command_end.specs.Lines.{GotLine, fault_line, file_refusal_words, status_of_file}
 use Rattle.command_end.specs.Names.{Sources}
 use Rattle.command_end.specs.declared.status.Status.{Status}
 use Rattle.command_end.specs.declared.status.Status.TheVariants as statuses
-use Rattle.command_coins.specs.Due.{due_of, listing_in, name_of}
+use Rattle.command_coins.specs.Due.{due_of, listing_in}
+use Rattle.command_end.specs.ChainAnswer.{name_of}
 
 -- the status of what the files come to, where nothing fails
 abbrev pub status_of : Result (List ℕ) FileCause → Status
@@ -53,16 +53,6 @@ abbrev pub EndsUnread : Type 0 → Type 0 → Sources → ShelfView → ShelfVie
 EndsUnread told_files told s shelf shelf' sink sink' =
     (file : File) × IsUnread s.wallet s.blocks file shelf shelf' × (told_files → IsReached (shelf.files s.wallet) file)
     × (told → GotLine (fault_line (codes "read " ++ name_of s file)) sink sink')
-
--- the names of the files up to this one; a request isn't read
-abbrev pub names_to : Sources → File → List (List ℕ)
-names_to s Wallet = s.wallet ∷ []
-names_to s Blocks = s.wallet ∷ s.blocks ∷ []
-names_to s Request = []
-
--- A file wasn't read, and none was asked for after it.
-abbrev pub AsksToUnread : Sources → ShelfView → ShelfView → Type 0
-AsksToUnread s shelf shelf' = (file : File) × IsUnread s.wallet s.blocks file shelf shelf' × Asks (names_to s file) shelf.asked shelf'.asked
 
 -- The sink has got a part of a listing of a wallet and blocks. Where the files are told, they hold these and come to it.
 abbrev pub HasDue : Type 0 → Type 0 → Sources → ShelfView → SinkView → SinkView → Type 0

@@ -4,15 +4,13 @@ ghost use Rattle.std.specs.Prelude.{◌≡◌, ◌≢◌, [], ◌∷◌, true, I
 ghost use Rattle.fund_shelf.specs.Causes.{Asks, CountsNeverFall, OnlyReads};
 ghost use Rattle.fund_files.specs.Cause.{FileCause};
 ghost use Rattle.fund_files.specs.FileStops.{IsWalletCause, StopsChain, is_of_wallet};
-ghost use Rattle.command_end.specs.Lines.{GotLine, fault_line};
 ghost use Rattle.command_end.specs.Names.{plain_sources};
 ghost use Rattle.command_end.specs.Printed.{TellsWhole, TookAll};
-ghost use Rattle.command_coins.specs.Answer.{IsStopped, stop_status, stop_words};
-ghost use Rattle.command_coins.specs.Due.{name_of};
-ghost use Rattle.command_coins.specs.Statuses.{AsksToUnread, Ends, IsListed};
+ghost use Rattle.command_coins.specs.Statuses.{Ends, IsListed};
+ghost use Rattle.command_end.specs.ChainAnswer.{AsksToUnread};
 
 use crate::chain_listing::listing_text;
-use command_end::{Sources, Status, put_report, refuse_file, refuse_read, want_of_memory};
+use command_end::{Sources, Status, put_report, refuse_chain};
 use fund_base::Memory;
 use fund_files::{File, Stop, read_chain};
 use fund_shelf::{Shelf, Sink};
@@ -32,32 +30,6 @@ fn listed<H: Shelf>(alloc: Global, sources: &Sources, shelf: &mut H) -> Result<S
     match listing_text(alloc, &held) {
         Ok(text) => Ok(text),
         Err(Memory) => Err(Stop::Memory),
-    }
-}
-
-/// The name of a file that is read. A request isn't.
-fn name_of<'a>(sources: &Sources<'a>, file: File) -> &'a str
-    ensures { result.now ≡ name_of (plain_sources sources.now) file }
-{
-    match file {
-        File::Wallet => sources.wallet,
-        File::Blocks => sources.blocks,
-        File::Request => "",
-    }
-}
-
-/// Puts the line of a stop, and answers its status, without memory.
-pub fn answer<O: Sink>(sources: &Sources, stop: Stop, out: &mut O) -> Status
-    ensures is { result ≡ stop_status stop }
-    ensures line { O.tells → GotLine (fault_line (stop_words (plain_sources sources.now) stop)) (O.view out.old) (O.view out.new) }
-    ensures answered { IsStopped O.tells (plain_sources sources.now) stop (O.view out.old) (O.view out.new) result }
-    ensures read { (file : File) → stop ≡ Stop.Read file → result ≡ Status.ReadFault }
-    ensures counts { CountsNeverFall (O.view out.old) (O.view out.new) }
-{
-    match stop {
-        Stop::Read(file) => refuse_read(name_of(sources, file), out),
-        Stop::Refused(refusal) => refuse_file(&refusal, out),
-        Stop::Memory => want_of_memory(out),
     }
 }
 
@@ -88,6 +60,6 @@ pub fn coins<H: Shelf, O: Sink>(
 {
     match listed(alloc, sources, shelf) {
         Ok(text) => put_report(text.as_bytes(), Status::Done, out),
-        Err(stop) => answer(sources, stop, out),
+        Err(stop) => refuse_chain(sources, stop, out),
     }
 }

@@ -8,6 +8,6 @@ mod laws;
 mod lines;
 mod text;
 
-pub use command::{answer as refuse_chain, coins};
+pub use command::coins;
 pub use laws::listings_are_due;
 pub use text::listing;

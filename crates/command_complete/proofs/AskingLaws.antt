@@ -4,7 +4,7 @@ use Rattle.fund_shelf.specs.Causes.{ShelfView, SinkView}
 use Rattle.fund_files.specs.declared.refusal.File.{File}
 use Rattle.fund_files.specs.declared.stop.Stop.{Stop as ChainStop}
 use Rattle.fund_files.specs.declared.stop.Stop.TheVariants as chains
-use Rattle.command_coins.proofs.AskingLaws.{stopped_asks}
+use Rattle.command_end.proofs.ChainLaws.{stopped_asks}
 use Rattle.command_end.specs.Names.{Sources}
 use Rattle.command_end.specs.declared.status.Status.{Status}
 use Rattle.command_end.specs.declared.status.Status.TheVariants as statuses

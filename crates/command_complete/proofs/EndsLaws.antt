@@ -8,8 +8,8 @@ use Rattle.fund_files.specs.FileStops as chain_stops
 use Rattle.fund_files.specs.declared.refusal.FileRefusal.{FileRefusal}
 use Rattle.fund_files.specs.declared.stop.Stop.{Stop as ChainStop}
 use Rattle.fund_files.specs.declared.stop.Stop.TheVariants as chains
-use Rattle.command_coins.proofs.EndsLaws as chain_laws
-use Rattle.command_coins.specs.Answer as chain_answers
+use Rattle.command_end.proofs.ChainLaws as chain_laws
+use Rattle.command_end.specs.ChainAnswer as chain_answers
 use Rattle.command_end.proofs.WholeLaws.{answered_stops, not_whole, wanting_stops}
 use Rattle.command_end.specs.AnswerLines.{IsWanting}
 use Rattle.command_end.specs.Lines.{GotLine, fault_line, file_refusal_words, status_of_file}

@@ -2,7 +2,7 @@
 use Rattle.std.specs.Prelude.{ℕ, ◌≡◌, ◌⊎◌, true, List, [], ◌∷◌}
 use Rattle.fund_shelf.specs.Causes.{Asks, Rose, ShelfView}
 use Rattle.fund_files.specs.FileStops.{is_of_wallet}
-use Rattle.command_coins.specs.Statuses as chains
+use Rattle.command_end.specs.ChainAnswer as chains
 use Rattle.command_end.specs.Names.{Sources}
 use Rattle.command_complete.specs.declared.stop.Stop.{Stop}
 use Rattle.command_complete.specs.declared.stop.Stop.TheVariants as stops

@@ -6,7 +6,7 @@ use Rattle.command_end.specs.Words.{psbt_fault_words}
 use Rattle.fund_shelf.specs.Causes.{SinkView}
 use Rattle.command_complete.specs.declared.fault.CompleteFault.{CompleteFault}
 use Rattle.command_complete.specs.declared.fault.CompleteFault.TheVariants.{Missing, OtherOutput, Memory}
-use Rattle.command_coins.specs.Answer as chains
+use Rattle.command_end.specs.ChainAnswer as chains
 use Rattle.command_end.specs.AnswerLines.{IsAnswered}
 use Rattle.command_end.specs.Names.{Sources}
 use Rattle.command_end.specs.declared.status.Status.{Status}

@@ -10,8 +10,9 @@ ghost use Rattle.command_complete.specs.Words.{IsStopped, refusal_words, stop_st
 
 use crate::stop::{Refusal, Stop};
 use crate::words::refusal_parts;
-use command_coins::refuse_chain;
-use command_end::{Sources, Status, put_fault, put_line, refuse_read, want_of_memory};
+use command_end::{
+    Sources, Status, put_fault, put_line, refuse_chain, refuse_read, want_of_memory,
+};
 use fund_shelf::Sink;
 
 /// The line of a PSBT file that is too long.

@@ -17,30 +17,6 @@ use command_end::{Sources, Status, put_report};
 use fund_shelf::{Shelf, Sink};
 use std::alloc::Global;
 
-/// Puts the PSBT made whole, or the line of a stop.
-fn printed<H: Shelf, O: Sink>(
-    alloc: Global,
-    sources: &Sources,
-    psbt: &str,
-    shelf: &mut H,
-    out: &mut O,
-) -> Status
-    ensures ends { Ends H.tells O.tells (plain_sources sources.now) psbt.now (H.view shelf.old) (H.view shelf.new) (O.view out.old) (O.view out.new) result }
-    ensures frame { OnlyReads H.tells (H.view shelf.old) (H.view shelf.new) }
-    ensures counts { CountsNeverFall (O.view out.old) (O.view out.new) }
-    ensures all_read { result ≢ Status.ReadFault → (H.view shelf.new).reads ≡ (H.view shelf.old).reads }
-    ensures all_put { TellsWhole result → TookAll (O.view out.old) (O.view out.new) }
-    ensures asked { H.tells → AsksInOrder (plain_sources sources.now) psbt.now (H.view shelf.old) (H.view shelf.new) }
-    ensures unread_last { H.tells → result ≡ Status.ReadFault → AsksToUnread (plain_sources sources.now) psbt.now (H.view shelf.old) (H.view shelf.new) }
-    ensures refused_alone { H.tells → (cause : FileCause) → IsWalletCause ((H.view shelf.old).files sources.now.wallet.now) cause → Asks (sources.now.wallet.now ∷ []) (H.view shelf.old).asked (H.view shelf.new).asked }
-    ensures chain_alone { H.tells → ((h : History) → HasBook (H.view shelf.old).files (plain_sources sources.now) h → ⊥) → AsksChain (plain_sources sources.now) (H.view shelf.old) (H.view shelf.new) }
-{
-    match completed(alloc, sources, psbt, shelf) {
-        Ok(text) => put_report(&text, Status::Done, out),
-        Err(stop) => answer(sources, psbt, stop, out),
-    }
-}
-
 /// Makes the PSBT of the file `psbt` whole: it reads the wallet, the blocks behind it and the PSBT, and prints to `out` the same
 /// PSBT with the whole transaction beside each output that it spends, in base64 and a line feed. The file has the PSBT in
 /// base64, with or without a line feed at its end, and as it would be written: with no pairs but the unsigned transaction,
@@ -78,5 +54,8 @@ pub fn complete<H: Shelf, O: Sink>(
     ensures refused_alone { H.tells → (cause : FileCause) → IsWalletCause ((H.view shelf.old).files sources.now.wallet.now) cause → Asks (sources.now.wallet.now ∷ []) (H.view shelf.old).asked (H.view shelf.new).asked }
     ensures chain_alone { H.tells → ((h : History) → HasBook (H.view shelf.old).files (plain_sources sources.now) h → ⊥) → AsksChain (plain_sources sources.now) (H.view shelf.old) (H.view shelf.new) }
 {
-    printed(alloc, sources, psbt, shelf, out)
+    match completed(alloc, sources, psbt, shelf) {
+        Ok(text) => put_report(&text, Status::Done, out),
+        Err(stop) => answer(sources, psbt, stop, out),
+    }
 }

@@ -8,9 +8,11 @@ use Rattle.fund_base.proofs.Decimals.{found as number_found}
 use Rattle.fund_base.specs.Decimal.{number_of}
 use Rattle.hex.specs.Hex.{decode_of}
 use Rattle.hex.specs.declared.error.FromHexError.{FromHexError}
-use Rattle.command_desk.specs.Line.{Line, Open, Turn, Commit, Close, Release, Blocks, Pending, Other, Says, by_hash, by_one, by_tries, by_two, by_words, is_file_word, is_name, line_of, where_fits}
+use Rattle.command_desk.specs.Line.{Line, Open, Turn, Commit, Close, Release, Blocks, Pending, Other, Says, by_hash, by_one, by_tries, by_two, by_words, is_file_word, line_of, where_fits}
 use Rattle.command_desk.specs.Script.{three_words, two_words, words_of}
-use Rattle.command_desk.proofs.WordLaws.{HasNoBlank, file_there, name_there, three_there, two_there}
+use Rattle.command_desk.proofs.WordLaws.{HasNoBlank, file_there, three_there, two_there}
+use Rattle.fund_outside.proofs.NameLaws.{name_there}
+use Rattle.fund_outside.specs.JobName.{is_job_name}
 
 -- where a test decides, the line says so or it is any other
 fits : (line : List ℕ) (b : Bool) (said : Line) → (b ≡ true → Says line said) → Says line (where_fits b said)
@@ -25,8 +27,8 @@ two_said line v a b is plain = by_open (bytes_eq v (codes "open")) refl
   where
     turns : (o : Option ℕ) → number_of 10_000_000 b ≡ o → v ≡ codes "turn" → Says line (by_tries a o)
     turns None e verb = tt
-    turns (Some n) e verb = fits line (is_name a && nat_le 1 n) (Turn a n) (λ h.
-        let x = and_parts (is_name a) (nat_le 1 n) h in
+    turns (Some n) e verb = fits line (is_job_name a && nat_le 1 n) (Turn a n) (λ h.
+        let x = and_parts (is_job_name a) (nat_le 1 n) h in
         let d = number_found 10_000_000 b n e in
         (is ∙ ap (λ (w : List ℕ). three_words w a b) verb ∙ ap (λ (w : List ℕ). three_words (codes "turn") a w) d.0, name_there a x.0, leb-true 1 n x.1, d.1))
 
@@ -34,9 +36,9 @@ two_said line v a b is plain = by_open (bytes_eq v (codes "open")) refl
     by_turn true e = turns (number_of 10_000_000 b) refl (verb_is v (codes "turn") e)
     by_turn false e = tt
 
-    by_open : (o : Bool) → bytes_eq v (codes "open") ≡ o → Says line (cond o (where_fits (is_name a && is_file_word b) (Open a b)) (cond (bytes_eq v (codes "turn")) (by_tries a (number_of 10_000_000 b)) Other))
-    by_open true e = fits line (is_name a && is_file_word b) (Open a b) (λ h.
-        let x = and_parts (is_name a) (is_file_word b) h in
+    by_open : (o : Bool) → bytes_eq v (codes "open") ≡ o → Says line (cond o (where_fits (is_job_name a && is_file_word b) (Open a b)) (cond (bytes_eq v (codes "turn")) (by_tries a (number_of 10_000_000 b)) Other))
+    by_open true e = fits line (is_job_name a && is_file_word b) (Open a b) (λ h.
+        let x = and_parts (is_job_name a) (is_file_word b) h in
         (is ∙ ap (λ (w : List ℕ). three_words w a b) (verb_is v (codes "open") e), name_there a x.0, file_there b x.1 plain))
     by_open false e = by_turn (bytes_eq v (codes "turn")) refl
 
@@ -65,13 +67,13 @@ one_said line v a is plain = by_commit (bytes_eq v (codes "commit")) refl
     by_release false e = by_blocks (bytes_eq v (codes "blocks")) refl
 
     by_close : (b : Bool) → bytes_eq v (codes "close") ≡ b
-        → Says line (cond b (where_fits (is_name a) (Close a)) (cond (bytes_eq v (codes "release")) (by_hash (decode_of a)) (cond (bytes_eq v (codes "blocks")) (where_fits (is_file_word a) (Blocks a)) (cond (bytes_eq v (codes "pending")) (where_fits (nat_lt 0 (length a)) (Pending a)) Other))))
-    by_close true e = fits line (is_name a) (Close a) (λ h. (said_by (codes "close") e, name_there a h))
+        → Says line (cond b (where_fits (is_job_name a) (Close a)) (cond (bytes_eq v (codes "release")) (by_hash (decode_of a)) (cond (bytes_eq v (codes "blocks")) (where_fits (is_file_word a) (Blocks a)) (cond (bytes_eq v (codes "pending")) (where_fits (nat_lt 0 (length a)) (Pending a)) Other))))
+    by_close true e = fits line (is_job_name a) (Close a) (λ h. (said_by (codes "close") e, name_there a h))
     by_close false e = by_release (bytes_eq v (codes "release")) refl
 
     by_commit : (b : Bool) → bytes_eq v (codes "commit") ≡ b
-        → Says line (cond b (where_fits (is_name a) (Commit a)) (cond (bytes_eq v (codes "close")) (where_fits (is_name a) (Close a)) (cond (bytes_eq v (codes "release")) (by_hash (decode_of a)) (cond (bytes_eq v (codes "blocks")) (where_fits (is_file_word a) (Blocks a)) (cond (bytes_eq v (codes "pending")) (where_fits (nat_lt 0 (length a)) (Pending a)) Other)))))
-    by_commit true e = fits line (is_name a) (Commit a) (λ h. (said_by (codes "commit") e, name_there a h))
+        → Says line (cond b (where_fits (is_job_name a) (Commit a)) (cond (bytes_eq v (codes "close")) (where_fits (is_job_name a) (Close a)) (cond (bytes_eq v (codes "release")) (by_hash (decode_of a)) (cond (bytes_eq v (codes "blocks")) (where_fits (is_file_word a) (Blocks a)) (cond (bytes_eq v (codes "pending")) (where_fits (nat_lt 0 (length a)) (Pending a)) Other)))))
+    by_commit true e = fits line (is_job_name a) (Commit a) (λ h. (said_by (codes "commit") e, name_there a h))
     by_commit false e = by_close (bytes_eq v (codes "close")) refl
 
 pub says_of : (line : List ℕ) → Says line (line_of line)

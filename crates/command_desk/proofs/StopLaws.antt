@@ -13,8 +13,8 @@ use Rattle.fund_files.specs.declared.refusal.FileRefusal.{FileRefusal}
 use Rattle.fund_files.specs.declared.refusal.FileRefusal.TheVariants as refusals
 use Rattle.fund_files.specs.declared.stop.Stop as reads
 use Rattle.fund_files.specs.declared.stop.Stop.TheVariants as reading
-use Rattle.command_coins.proofs.EndsLaws as chains
-use Rattle.command_coins.specs.Answer as listings
+use Rattle.command_end.proofs.ChainLaws as chains
+use Rattle.command_end.specs.ChainAnswer as listings
 use Rattle.command_end.proofs.WholeLaws.{not_whole, wanting_stops}
 use Rattle.command_end.specs.AnswerLines.{IsWanting}
 use Rattle.command_end.specs.Lines.{GotLine, fault_line, file_refusal_words, status_of_file}

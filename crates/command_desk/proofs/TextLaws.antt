@@ -9,27 +9,27 @@ use Rattle.std.proofs.lemmas.Str.{IsUtf8-from_ascii, IsUtf8-from_is_utf8, is_utf
 use Rattle.hex.proofs.HexLemmas.{decode_of-ok, decode_sized-twice}
 use Rattle.hex.specs.Hex.{decode_of, decode_sized}
 use Rattle.hex.specs.declared.error.FromHexError.{FromHexError}
-use Rattle.desk_machine.specs.Commands.{is_name_byte}
 use Rattle.command_desk.specs.Lent.{txid_in, txid_word}
-use Rattle.command_desk.specs.Line.{is_file_word, is_name}
+use Rattle.command_desk.specs.Line.{is_file_word}
+use Rattle.fund_outside.specs.JobName.{is_job_byte, is_job_name}
 
 -- ---- names are text
 
-small : (b : ℕ) → is_name_byte b ≡ true → b < 128
+small : (b : ℕ) → is_job_byte b ≡ true → b < 128
 small b e = grind (arith, nat_tests, e)
 
-all_small : (word : List ℕ) → list_all is_name_byte word ≡ true → IsAscii word
+all_small : (word : List ℕ) → list_all is_job_byte word ≡ true → IsAscii word
 all_small [] e i = omega arith
-all_small (b ∷ word) e zero = small b (and_parts (is_name_byte b) (list_all is_name_byte word) e).0
-all_small (b ∷ word) e (suc i) = all_small word (and_parts (is_name_byte b) (list_all is_name_byte word) e).1 i
+all_small (b ∷ word) e zero = small b (and_parts (is_job_byte b) (list_all is_job_byte word) e).0
+all_small (b ∷ word) e (suc i) = all_small word (and_parts (is_job_byte b) (list_all is_job_byte word) e).1 i
 
-pub name_is_text : (word : List ℕ) → is_name word ≡ true → IsUtf8 word
+pub name_is_text : (word : List ℕ) → is_job_name word ≡ true → IsUtf8 word
 name_is_text word e =
-    let a = and_parts (nat_le 1 (length word)) (nat_le (length word) 32 && list_all is_name_byte word) e in
-    let b = and_parts (nat_le (length word) 32) (list_all is_name_byte word) a.1 in
+    let a = and_parts (nat_le 1 (length word)) (nat_le (length word) 32 && list_all is_job_byte word) e in
+    let b = and_parts (nat_le (length word) 32) (list_all is_job_byte word) a.1 in
     IsUtf8-from_ascii word (all_small word b.1)
 
-pub some_name : (word name : List ℕ) → is_name word ≡ true → name ≡ word → Some name ≡ cond (is_name word) (Some word) None
+pub some_name : (word name : List ℕ) → is_job_name word ≡ true → name ≡ word → Some name ≡ cond (is_job_name word) (Some word) None
 some_name word name named e = ap (λ (w : List ℕ). Some w) e ∙ ap (λ (b : Bool). cond b (Some word) None) (sym named)
 
 pub some_file : (word file : List ℕ) → 0 < length word → file ≡ word → IsUtf8 word → Some file ≡ cond (is_file_word word) (Some word) None

@@ -7,8 +7,7 @@ use Rattle.std.proofs.lemmas.Bool.{and_parts, eqb-false, eqb-true, leb-true, ltb
 use Rattle.std.proofs.lemmas.List.{append-nil}
 use Rattle.std.proofs.lemmas.List.Elements.{All-cons, All-head, All-nil, All-tail}
 use Rattle.std.proofs.lemmas.Str.{IsUtf8-from_is_utf8}
-use Rattle.desk_machine.specs.Commands.{IsName, is_name_byte}
-use Rattle.command_desk.specs.Line.{IsFileWord, Other, by_words, is_file_word, is_name, line_of}
+use Rattle.command_desk.specs.Line.{IsFileWord, Other, by_words, is_file_word, line_of}
 use Rattle.command_desk.specs.Script.{before_part, three_words, two_words, words_behind, words_of}
 
 abbrev pub HasNoBlank : List ℕ → Type 0
@@ -104,13 +103,7 @@ two_back a b plain_a plain_b = word_front a b plain_a ∙ ap (λ (ws : List (Lis
 pub three_back : (a b c : List ℕ) → HasNoBlank a → HasNoBlank b → HasNoBlank c → words_of (three_words a b c) ≡ a ∷ b ∷ c ∷ []
 three_back a b c plain_a plain_b plain_c = word_front a (b ++ (32 ∷ c)) plain_a ∙ ap (λ (ws : List (List ℕ)). a ∷ ws) (two_back b c plain_b plain_c)
 
--- ---- names, and names of files
-
-pub name_there : (name : List ℕ) → is_name name ≡ true → IsName name
-name_there name e =
-    let a = and_parts (nat_le 1 (length name)) (nat_le (length name) 32 && list_all is_name_byte name) e in
-    let b = and_parts (nat_le (length name) 32) (list_all is_name_byte name) a.1 in
-    record { some = leb-true 1 (length name) a.0; most = leb-true (length name) 32 b.0; each = b.1 }
+-- ---- names of files
 
 pub file_there : (file : List ℕ) → is_file_word file ≡ true → HasNoBlank file → IsFileWord file
 file_there file e plain =

@@ -6,8 +6,7 @@ use Rattle.fund_files.specs.FileStops.{IsReached, IsUnread}
 use Rattle.fund_files.specs.Refusals.{IsChainCause}
 use Rattle.fund_files.specs.declared.refusal.File.{File}
 use Rattle.fund_files.specs.declared.refusal.FileRefusal.{FileRefusal}
-use Rattle.command_coins.specs.Due.{name_of}
-use Rattle.command_coins.specs.Statuses.{names_to}
+use Rattle.command_end.specs.ChainAnswer.{name_of, names_to}
 use Rattle.command_end.specs.Lines.{GotLine, fault_line, file_refusal_words, status_of_file}
 use Rattle.command_end.specs.Names.{Sources}
 use Rattle.command_end.specs.declared.status.Status.{Status}

@@ -1,13 +1,13 @@
 -- What a line of a script says.
 use Rattle.std.specs.Prelude.{ℕ, ◌≡◌, ◌≢◌, ◌≤◌, ◌<◌, ◌==◌, ◌&&◌, List, [], ◌∷◌, All, Bool, codes, length, bytes_eq, nat_le, nat_lt, reverse, Option, Some, None, Result, Ok, Err, if◌then◌else◌}
 use Rattle.std.specs.Fmt.{decimal}
-use Rattle.std.specs.List.{list_all}
 use Rattle.std.specs.Str.{IsUtf8, is_utf8}
 use Rattle.hex.specs.Hex.{decode_of}
 use Rattle.hex.specs.declared.error.FromHexError.{FromHexError}
 use Rattle.fund_base.specs.Decimal.{number_of}
 use Rattle.desk_machine.specs.Commands as commands
-use Rattle.desk_machine.specs.Commands.{Command, IsName, is_name_byte}
+use Rattle.desk_machine.specs.Commands.{Command}
+use Rattle.fund_outside.specs.JobName.{IsJobName, is_job_name}
 use Rattle.command_desk.specs.Script.{three_words, two_words, words_of}
 
 -- a command, by the names of its files; or any other line
@@ -35,19 +35,16 @@ IsTxidWord word txid = (decode_of word ≡ Ok (reverse txid)) × (length txid �
 
 -- The line says this: the words of a command, with one blank between them.
 abbrev pub Says : List ℕ → Line → Type 0
-Says line (Open name file) = (line ≡ three_words (codes "open") name file) × IsName name × IsFileWord file
-Says line (Turn name tries) = (line ≡ three_words (codes "turn") name (decimal tries)) × IsName name × (1 ≤ tries) × (tries ≤ 10_000_000)
-Says line (Commit name) = (line ≡ two_words (codes "commit") name) × IsName name
-Says line (Close name) = (line ≡ two_words (codes "close") name) × IsName name
+Says line (Open name file) = (line ≡ three_words (codes "open") name file) × IsJobName name × IsFileWord file
+Says line (Turn name tries) = (line ≡ three_words (codes "turn") name (decimal tries)) × IsJobName name × (1 ≤ tries) × (tries ≤ 10_000_000)
+Says line (Commit name) = (line ≡ two_words (codes "commit") name) × IsJobName name
+Says line (Close name) = (line ≡ two_words (codes "close") name) × IsJobName name
 Says line (Release txid) = (word : List ℕ) × (line ≡ two_words (codes "release") word) × IsTxidWord word txid
 Says line (Blocks file) = (line ≡ two_words (codes "blocks") file) × IsFileWord file
 Says line (Pending hex) = (line ≡ two_words (codes "pending") hex) × (0 < length hex) × All (λ b. b ≢ 32) hex
 Says line Other = Unit {0}
 
 -- ---- the same, worked out
-
-abbrev pub is_name : List ℕ → Bool
-is_name name = nat_le 1 (length name) && (nat_le (length name) 32 && list_all is_name_byte name)
 
 abbrev pub is_file_word : List ℕ → Bool
 is_file_word file = nat_lt 0 (length file) && is_utf8 file
@@ -57,7 +54,7 @@ where_fits fits line = if fits then line else Other
 
 abbrev pub by_tries : List ℕ → Option ℕ → Line
 by_tries name None = Other
-by_tries name (Some n) = where_fits (is_name name && nat_le 1 n) (Turn name n)
+by_tries name (Some n) = where_fits (is_job_name name && nat_le 1 n) (Turn name n)
 
 abbrev pub by_hash : Result (List ℕ) FromHexError → Line
 by_hash (Err error) = Other
@@ -66,15 +63,15 @@ by_hash (Ok bytes) = where_fits (length bytes == 32) (Release (reverse bytes))
 -- of two words behind a verb
 abbrev pub by_two : (verb a b : List ℕ) → Line
 by_two verb a b =
-    if bytes_eq verb (codes "open") then where_fits (is_name a && is_file_word b) (Open a b)
+    if bytes_eq verb (codes "open") then where_fits (is_job_name a && is_file_word b) (Open a b)
     else if bytes_eq verb (codes "turn") then by_tries a (number_of 10_000_000 b)
     else Other
 
 -- of one
 abbrev pub by_one : (verb a : List ℕ) → Line
 by_one verb a =
-    if bytes_eq verb (codes "commit") then where_fits (is_name a) (Commit a)
-    else if bytes_eq verb (codes "close") then where_fits (is_name a) (Close a)
+    if bytes_eq verb (codes "commit") then where_fits (is_job_name a) (Commit a)
+    else if bytes_eq verb (codes "close") then where_fits (is_job_name a) (Close a)
     else if bytes_eq verb (codes "release") then by_hash (decode_of a)
     else if bytes_eq verb (codes "blocks") then where_fits (is_file_word a) (Blocks a)
     else if bytes_eq verb (codes "pending") then where_fits (nat_lt 0 (length a)) (Pending a)

@@ -6,8 +6,8 @@ use Rattle.fund_shelf.specs.declared.pieces.ReadError.TheVariants as reads
 use Rattle.fund_files.specs.FileStops.{StopsChain}
 use Rattle.fund_files.specs.declared.stop.Stop as files
 use Rattle.fund_files.specs.declared.stop.Stop.TheVariants as chains
-use Rattle.command_coins.specs.Answer as listings
-use Rattle.command_coins.specs.Statuses.{names_to}
+use Rattle.command_end.specs.ChainAnswer as listings
+use Rattle.command_end.specs.ChainAnswer.{names_to}
 use Rattle.command_end.specs.AnswerLines.{IsAnswered}
 use Rattle.command_end.specs.Names.{Sources}
 use Rattle.command_end.specs.declared.status.Status.{Status}

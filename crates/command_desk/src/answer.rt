@@ -8,8 +8,7 @@ ghost use Rattle.command_end.specs.Names.{plain_sources};
 ghost use Rattle.command_desk.specs.Stops.{IsStopped, stop_status, stop_words};
 
 use crate::stop::Stop;
-use command_coins::refuse_chain;
-use command_end::{Sources, Status, put_line, refuse_read, want_of_memory};
+use command_end::{Sources, Status, put_line, refuse_chain, refuse_read, want_of_memory};
 use fund_files::Stop as ChainStop;
 use fund_shelf::Sink;
 

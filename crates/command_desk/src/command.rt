@@ -16,28 +16,6 @@ use command_end::{Sources, Status};
 use fund_shelf::{Shelf, Sink};
 use std::alloc::Global;
 
-/// Runs the lines of a script, or puts the line of a stop.
-fn run_desk<H: Shelf, O: Sink>(
-    alloc: Global,
-    sources: &Sources,
-    script: &str,
-    shelf: &mut H,
-    out: &mut O,
-) -> Status
-    ensures ends { Ends H.tells O.tells (plain_sources sources.now) script.now (H.view shelf.old) (H.view shelf.new) (O.view out.old) (O.view out.new) result }
-    ensures frame { OnlyReads H.tells (H.view shelf.old) (H.view shelf.new) }
-    ensures counts { CountsNeverFall (O.view out.old) (O.view out.new) }
-    ensures all_read { result ≢ Status.ReadFault → (H.view shelf.new).reads ≡ (H.view shelf.old).reads }
-    ensures all_put { TellsWhole result → TookAll (O.view out.old) (O.view out.new) }
-    ensures asked { H.tells → Asks (first_names (plain_sources sources.now) script.now ++ files_in (lines_of ((H.view shelf.old).files script.now))) (H.view shelf.old).asked (H.view shelf.new).asked }
-    ensures none_behind { H.tells → NoneBehind (plain_sources sources.now) script.now (H.view shelf.old) (H.view shelf.new) }
-{
-    match read_start(alloc, sources, script, shelf) {
-        Ok(Start { mut desk, text }) => run_lines(alloc, &mut desk, &text, shelf, out),
-        Err(stop) => answer(sources, script, stop, out),
-    }
-}
-
 /// Runs the lines of a script at a desk: it reads the wallet file, the block file and the script, which is the file `script` of
 /// at most 16,777,216 bytes, and prints to `out` the desk's reply to each line, before it reads the file that the next line
 /// names. The wallet and the blocks are refused as they are when coins are listed. A request that a line names has at most
@@ -76,5 +54,8 @@ pub fn desk<H: Shelf, O: Sink>(
     ensures asked { H.tells → Asks (first_names (plain_sources sources.now) script.now ++ files_in (lines_of ((H.view shelf.old).files script.now))) (H.view shelf.old).asked (H.view shelf.new).asked }
     ensures none_behind { H.tells → NoneBehind (plain_sources sources.now) script.now (H.view shelf.old) (H.view shelf.new) }
 {
-    run_desk(alloc, sources, script, shelf, out)
+    match read_start(alloc, sources, script, shelf) {
+        Ok(Start { mut desk, text }) => run_lines(alloc, &mut desk, &text, shelf, out),
+        Err(stop) => answer(sources, script, stop, out),
+    }
 }

@@ -1,13 +1,13 @@
 //! What a line of a script says.
 
 ghost use Rattle.std.specs.Prelude.{◌≡◌, true, Some, None, option_copied, if◌then◌else◌};
-ghost use Rattle.std.specs.List.{list_all};
-ghost use Rattle.desk_machine.specs.Commands.{is_name_byte};
+ghost use Rattle.fund_outside.specs.JobName.{is_job_name};
 ghost use Rattle.command_desk.specs.Lent.{is_job_verb, plain_line, txid_word};
-ghost use Rattle.command_desk.specs.Line.{by_one, by_two, is_file_word, is_name, line_of};
+ghost use Rattle.command_desk.specs.Line.{by_one, by_two, is_file_word, line_of};
 
 use crate::script::next_word;
 use fund_base::{Txid, read_decimal};
+use fund_outside::is_job_name;
 use std::str;
 
 /// A line: a command, with the names of its files; or any other line. A name is that of a job: 1 to 32 letters, digits and
@@ -32,33 +32,11 @@ pub enum Line<'a> {
     Other,
 }
 
-/// Whether the byte may stand in a name.
-fn is_name_byte(byte: u8) -> bool
-    ensures { result ≡ is_name_byte byte }
-{
-    byte.is_ascii_uppercase()
-        || (byte.is_ascii_lowercase() || (byte.is_ascii_digit() || byte == b'-'))
-}
-
-/// Whether each byte may stand in a name.
-fn are_name_bytes(word: &[u8]) -> bool
-    ensures { result ≡ list_all is_name_byte word.now }
-{
-    word.iter().all(|byte| is_name_byte(*byte))
-}
-
-/// Whether the word is a name.
-fn is_name(word: &[u8]) -> bool
-    ensures { result ≡ is_name word.now }
-{
-    !word.is_empty() && (word.len() <= 32 && are_name_bytes(word))
-}
-
 /// The word, if it is a name.
 fn name_of(word: &[u8]) -> Option<&str>
-    ensures { option_copied result ≡ (if is_name word.now then Some word.now else None) }
+    ensures { option_copied result ≡ (if is_job_name word.now then Some word.now else None) }
 {
-    if !is_name(word) {
+    if !is_job_name(word) {
         return None;
     }
     match str::from_utf8(word) {

@@ -1,3 +1,4 @@
+pub mod ChainLaws
 pub mod CoinLaws
 pub mod NameLaws
 pub mod PutLaws

@@ -1,4 +1,5 @@
 pub mod AnswerLines
+pub mod ChainAnswer
 pub mod Coin
 pub mod Lines
 pub mod LinesText

@@ -9,6 +9,7 @@
 mod address_words;
 mod block_words;
 mod bump_words;
+mod chain_stop;
 mod coin_words;
 mod log_words;
 mod name_words;
@@ -28,6 +29,7 @@ mod word_laws;
 pub use address_words::address_fault_word;
 pub use block_words::feed_fault_parts;
 pub use bump_words::bump_fault_parts;
+pub use chain_stop::refuse_chain;
 pub use coin_words::{coin_text, shown_hash};
 pub use log_words::log_fault_part;
 pub use name_words::shown_name;

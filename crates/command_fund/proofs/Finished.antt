@@ -1,6 +1,6 @@
 -- How the writing and the printing end is how the command ends.
 use Rattle.std.proofs.Common.{◌≡◌, ◌∙◌, ◌++◌, ℕ, List, Option, Some, None, inl, inr, refl, sym, ap, subst}
-use Rattle.std.specs.Prelude.{◌⊎◌, codes}
+use Rattle.std.specs.Prelude.{◌⊎◌}
 use Rattle.fund_shelf.specs.Causes.{OnlyReads, ShelfView, SinkView, Rose}
 use Rattle.block_feed.specs.Block.{ChainBlock}
 use Rattle.fund_outside.specs.Kept.{KeeperView}
@@ -13,33 +13,29 @@ use Rattle.fund_files.specs.Chain.{held_of}
 use Rattle.kept_job.proofs.SavingLaws.{first_kept}
 use Rattle.kept_job.specs.Kept.{new_of}
 use Rattle.kept_job.specs.Saving.{IsSavedBehind}
-use Rattle.command_fund.specs.Digest.{HasDigest}
-use Rattle.command_fund.specs.Inputs.{name_of}
+use Rattle.command_inputs.specs.Digest.{HasDigest}
 use Rattle.command_fund.specs.Jobs.{IsLeft}
 use Rattle.command_fund.specs.Leaving.{HasLeft, IsNotLeft, IsSavedAnew}
-use Rattle.command_fund.specs.PlanEnds.{IsLeftAt}
-use Rattle.command_fund.specs.declared.funding.Left.{Left}
+use Rattle.command_inputs.specs.PlanEnds.{IsLeftAt}
+use Rattle.command_inputs.specs.declared.funding.Left.{Left}
 use Rattle.command_end.specs.declared.status.Status.{Status}
 use Rattle.command_end.specs.declared.status.Status.TheVariants as statuses
-use Rattle.command_fund.specs.Statuses.{Ends, EndsUnwritten, EndsWithoutMemory, IsLogLost, IsReport, IsUnfinished}
-use Rattle.command_fund.specs.Due.{Refused, due_of, plan_of}
-use Rattle.command_end.specs.Printed.{IsEnd, IsPut, IsUnwritten, IsWithoutMemory, TellsWhole}
+use Rattle.command_fund.specs.Statuses.{Ends, EndsUnwritten, EndsWithoutMemory, IsReport}
+use Rattle.command_inputs.specs.Results.{IsLogLost, IsUnfinished}
+use Rattle.command_inputs.specs.Due.{Refused, due_of, plan_of}
+use Rattle.command_end.specs.Printed.{IsEnd, IsPut, IsUnwritten, IsWithoutMemory}
 use Rattle.command_end.specs.Names.{Sources}
-use Rattle.command_fund.specs.Names.{Payment}
-use Rattle.fund_steps.specs.declared.fault.PlanFault.{PlanFault}
-use Rattle.fund_steps.specs.declared.fault.PlanFault.TheVariants as plans
-use Rattle.fund_files.specs.Cause.{FileCause}
-use Rattle.fund_files.specs.Cause as files
-use Rattle.command_end.proofs.WholeLaws.{answered_stops, file_stops, not_whole, wanting_stops}
+use Rattle.command_inputs.specs.Names.{Payment}
 use Rattle.command_end.specs.AnswerLines.{IsWanting}
-use Rattle.command_end.specs.Lines.{GotLine, fault_line, status_of_file}
-use Rattle.command_fund.specs.Cause.{Cause, Files, Bump, Plan, cause_of, status_of_cause, status_of_plan}
-use Rattle.command_fund.specs.Meant.{IsDue}
-use Rattle.command_fund.specs.Stops.{StopsFor}
-use Rattle.command_fund.specs.Words.{IsStopped, refusal_words}
-use Rattle.command_fund.specs.declared.refusal.Refusal.{Refusal}
-use Rattle.command_fund.specs.declared.refusal.Stop.{Stop}
-use Rattle.command_fund.specs.declared.refusal.Stop.TheVariants as stops
+use Rattle.command_end.specs.Lines.{GotLine, fault_line}
+use Rattle.command_inputs.specs.Cause.{Cause, cause_of, status_of_cause}
+use Rattle.command_inputs.specs.Meant.{IsDue}
+use Rattle.command_inputs.specs.Stops.{StopsFor}
+use Rattle.command_inputs.specs.Words.{IsStopped, refusal_words}
+use Rattle.command_inputs.specs.declared.refusal.Refusal.{Refusal}
+use Rattle.command_inputs.specs.declared.refusal.Stop.{Stop}
+use Rattle.command_inputs.specs.declared.refusal.Stop.TheVariants as stops
+use Rattle.command_inputs.proofs.StopLaws.{refusal_status}
 
 -- what a report is of isn't refused
 pub report_due : (told_files : Type 0) (files : List ℕ → List ℕ) (s : Sources) (p : Payment) (report : List ℕ) (log : Option (List ℕ)) → IsReport told_files files s p report log → told_files → (cause : Cause) → due_of files s p ≡ Refused cause → ⊥
@@ -81,7 +77,7 @@ finish_ends told_files told told_jobs s p job keeper report log status shelf mid
 -- ---- a run that goes on
 
 -- what is saved anew of the run's plan is kept as the run was left, with the digest of the files
-left_is : (told_files told_jobs : Type 0) (files : List ℕ → List ℕ) (s : Sources) (p : Payment) (job digest : Option (List ℕ)) (left : Left) (keeper keeper' : KeeperView) (w : PlainWallet) (blocks : List ChainBlock) (r : PlainRequest) → HasDigest told_files files s p job digest
+left_is : (told_files told_jobs : Type 0) (files : List ℕ → List ℕ) (s : Sources) (p : Payment) (job digest : Option (List ℕ)) (left : Left (Unit {0})) (keeper keeper' : KeeperView) (w : PlainWallet) (blocks : List ChainBlock) (r : PlainRequest) → HasDigest told_files files s p job digest
     → IsLeftAt (held_of w blocks) r left.plan → AreSteps (steps_of (plan_of (held_of w blocks) r)) → IsSavedAnew told_jobs left.plan job digest keeper keeper' → told_jobs → IsLeft told_files files s p (plan_of (held_of w blocks) r) r.tries job keeper keeper'
 left_is told_files told_jobs files s p None digest left keeper keeper' w blocks r named at steps saved t = ap (λ (k : KeeperView). k.jobs) saved
 left_is told_files told_jobs files s p (Some job) None left keeper keeper' w blocks r named at steps saved t = absurd named
@@ -90,7 +86,7 @@ left_is told_files told_jobs files s p (Some job) (Some digest) left keeper keep
     let behind : IsSavedBehind digest (moved (new_of plan) r.tries) 0 0 (keeper.jobs job) (keeper'.jobs job) = subst (λ (x : PlanState). IsSavedBehind digest x 0 0 (keeper.jobs job) (keeper'.jobs job)) at.stands (saved t).1 in
     ((saved t).0, (digest, named, first_kept plan r.tries digest (keeper.jobs job) (keeper'.jobs job) steps behind, behind))
 
-module _ (told_files told told_jobs : Type 0) (s : Sources) (p : Payment) (job digest : Option (List ℕ)) (left : Left) (shelf shelf' : ShelfView) (sink sink' : SinkView) (keeper keeper' : KeeperView) (result : Status)
+module _ (told_files told told_jobs : Type 0) (s : Sources) (p : Payment) (job digest : Option (List ℕ)) (left : Left (Unit {0})) (shelf shelf' : ShelfView) (sink sink' : SinkView) (keeper keeper' : KeeperView) (result : Status)
     (read : OnlyReads told_files shelf shelf') (u : IsUnfinished told_files shelf.files s p left.report.items) where
   put_ends : (told_jobs → IsLeft told_files shelf.files s p (plan_of (held_of u.wallet u.blocks) u.asked) u.asked.tries job keeper keeper') → IsPut told left.report.items statuses.Unfinished sink sink' result
       → Ends told_files told told_jobs s p job shelf shelf' sink sink' keeper keeper' result
@@ -109,26 +105,6 @@ module _ (told_files told told_jobs : Type 0) (s : Sources) (p : Payment) (job d
 
 -- ---- a stop
 
--- a refusal has one of two statuses
-file_status : (cause : FileCause) → (status_of_file cause ≡ statuses.Input) ⊎ (status_of_file cause ≡ statuses.Limit)
-file_status (files.TooLong file) = inr refl
-file_status (files.BadWallet fault) = inl refl
-file_status (files.BadBlocks fault) = inl refl
-file_status (files.RepeatCoin coin) = inl refl
-file_status files.ManyCoins = inr refl
-file_status (files.BadRequest fault) = inl refl
-
-plan_status : (fault : PlanFault) → (status_of_plan fault ≡ statuses.Input) ⊎ (status_of_plan fault ≡ statuses.Limit)
-plan_status (plans.Total sum) = inl refl
-plan_status (plans.NotEligible point) = inl refl
-plan_status (plans.TooMany number n) = inr refl
-plan_status plans.Memory = inl refl
-
-pub refusal_status : (cause : Cause) → (status_of_cause cause ≡ statuses.Input) ⊎ (status_of_cause cause ≡ statuses.Limit)
-refusal_status (Files cause) = file_status cause
-refusal_status (Bump fault) = inl refl
-refusal_status (Plan fault) = plan_status fault
-
 refused_ends : (told_files told told_jobs : Type 0) (s : Sources) (p : Payment) (job : Option (List ℕ)) (keeper : KeeperView) (refusal : Refusal) (shelf shelf' : ShelfView) (sink sink' : SinkView) → (told_files → IsDue shelf.files s p (cause_of refusal)) → (told → GotLine (fault_line (refusal_words refusal)) sink sink')
     → (status_of_cause (cause_of refusal) ≡ statuses.Input) ⊎ (status_of_cause (cause_of refusal) ≡ statuses.Limit) → Ends told_files told told_jobs s p job shelf shelf' sink sink' keeper keeper (status_of_cause (cause_of refusal))
 refused_ends told_files told told_jobs s p job keeper refusal shelf shelf' sink sink' due line (inl e) = subst (λ (x : Status). Ends told_files told told_jobs s p job shelf shelf' sink sink' keeper keeper x) (sym e) (refusal, e, due, line)
@@ -144,22 +120,3 @@ stop_ends told_files told told_jobs s p job keeper (stops.Refused refusal) shelf
     subst (λ (x : Status). Ends told_files told told_jobs s p job shelf shelf' sink sink' keeper keeper x) (sym a.0) (refused_ends told_files told told_jobs s p job keeper refusal shelf shelf' sink sink' h a.1 (refusal_status (cause_of refusal)))
 stop_ends told_files told told_jobs s p job keeper stops.Keep shelf shelf' sink sink' result h same w = absurd h
 stop_ends told_files told told_jobs s p job keeper stops.Memory shelf shelf' sink sink' result h same w = wanting_ends told_files told told_jobs s p job keeper shelf shelf' sink sink' result same w
-
--- ---- no stop is told as printed whole
-
-plan_untold : (fault : PlanFault) → TellsWhole (status_of_plan fault) → ⊥
-plan_untold (plans.Total sum) whole = whole
-plan_untold (plans.NotEligible point) whole = whole
-plan_untold (plans.TooMany number n) whole = whole
-plan_untold plans.Memory whole = whole
-
-pub cause_untold : (cause : Cause) → TellsWhole (status_of_cause cause) → ⊥
-cause_untold (Files cause) whole = file_stops cause whole
-cause_untold (Bump fault) whole = whole
-cause_untold (Plan fault) whole = plan_untold fault whole
-
-pub stop_untold : (told : Type 0) (s : Sources) (p : Payment) (stop : Stop) (sink sink' : SinkView) (result : Status) → IsStopped told s p stop sink sink' result → TellsWhole result → ⊥
-stop_untold told s p (stops.Read file) sink sink' result h whole = answered_stops told (codes "read " ++ name_of s p file) statuses.ReadFault sink sink' result (λ w. w) h whole
-stop_untold told s p (stops.Refused refusal) sink sink' result h whole = answered_stops told (refusal_words refusal) (status_of_cause (cause_of refusal)) sink sink' result (cause_untold (cause_of refusal)) h whole
-stop_untold told s p stops.Keep sink sink' result h whole = not_whole statuses.KeepFault result (λ w. w) h.0 whole
-stop_untold told s p stops.Memory sink sink' result h whole = wanting_stops told sink sink' result h whole

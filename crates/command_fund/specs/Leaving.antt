@@ -8,7 +8,7 @@ use Rattle.command_end.specs.Lines.{GotLine, fault_line}
 use Rattle.command_end.specs.Printed.{IsPut}
 use Rattle.command_end.specs.declared.status.Status.{Status}
 use Rattle.command_end.specs.declared.status.Status.TheVariants as statuses
-use Rattle.command_fund.specs.declared.funding.Left.{Left}
+use Rattle.command_inputs.specs.declared.funding.Left.{Left}
 
 -- what a save of a plan leaves of its job, with its digest, and of the others
 abbrev pub IsSavedAnew : Type 0 → PlanState → (job digest : Option (List ℕ)) → KeeperView → KeeperView → Type 0
@@ -24,7 +24,7 @@ IsNotLeft told job sink sink' keeper keeper' status =
     ⊎ ((status ≡ statuses.Memory) × (told → GotLine (fault_line (codes "memory")) sink sink'))
 
 -- It was kept, or there is no job, and the report was put, or a part of it; or it wasn't, and the jobs are as before.
-abbrev pub HasLeft : Type 0 → Type 0 → (job digest : Option (List ℕ)) → Left → SinkView → SinkView → KeeperView → KeeperView → Status → Type 0
+abbrev pub HasLeft : Type 0 → Type 0 → (job digest : Option (List ℕ)) → Left (Unit {0}) → SinkView → SinkView → KeeperView → KeeperView → Status → Type 0
 HasLeft told told_jobs job digest left sink sink' keeper keeper' status =
     (IsPut told left.report.items statuses.Unfinished sink sink' status × IsSavedAnew told_jobs left.plan job digest keeper keeper')
     ⊎ (IsNotLeft told job sink sink' keeper keeper' status × (told_jobs → keeper'.jobs ≡ keeper.jobs))

@@ -1,13 +1,4 @@
-pub mod Cause
-pub mod Digest
-pub mod Due
-pub mod Inputs
 pub mod Jobs
 pub mod Leaving
-pub mod Meant
-pub mod Names
-pub mod PlanEnds
-pub mod Replacing
 pub mod Statuses
 pub mod Stops
-pub mod Words

@@ -6,22 +6,19 @@ ghost use Rattle.fund_files.specs.declared.refusal.File.{File};
 ghost use Rattle.kept_job.specs.SavingRules.{CanBeKept};
 ghost use Rattle.command_end.specs.Names.{plain_sources};
 ghost use Rattle.command_end.specs.Printed.{TellsWhole, TookAll};
-ghost use Rattle.command_fund.specs.Digest.{HasDigest};
-ghost use Rattle.command_fund.specs.Inputs.{AsksInOrder, NoneBehind};
-ghost use Rattle.command_fund.specs.Jobs.{KeepsJobs};
+ghost use Rattle.command_inputs.specs.Digest.{HasDigest};
+ghost use Rattle.command_inputs.specs.Inputs.{AsksInOrder, NoneBehind};
+ghost use Rattle.command_inputs.specs.Jobs.{KeepsJobs};
 ghost use Rattle.command_fund.specs.Leaving.{HasLeft};
-ghost use Rattle.command_fund.specs.Names.{plain_job, plain_payment};
-ghost use Rattle.command_fund.specs.PlanEnds.{IsEnded};
-ghost use Rattle.command_fund.specs.Statuses.{Ends, IsBeforeTheLog};
-ghost use Rattle.command_fund.specs.Stops.{StopsFor};
+ghost use Rattle.command_inputs.specs.Names.{plain_job, plain_payment};
+ghost use Rattle.command_inputs.specs.PlanEnds.{IsEnded};
+ghost use Rattle.command_fund.specs.Statuses.{Ends};
+ghost use Rattle.command_inputs.specs.Results.{IsBeforeTheLog};
+ghost use Rattle.command_inputs.specs.Stops.{StopsFor};
 
-use crate::answering::answer;
-use crate::funding::{Ending, Left, conclude};
-use crate::inputs::{Inputs, read_inputs_for};
 use crate::leaving::keep_anew;
-use crate::names::Payment;
-use crate::refusal::Stop;
 use command_end::{Sources, Status, finish, put_report};
+use command_inputs::{Ending, Inputs, Left, Payment, Stop, answer, conclude, read_inputs_for};
 use fund_outside::Keeper;
 use fund_shelf::{Shelf, Sink};
 use std::alloc::Global;
@@ -33,7 +30,7 @@ fn outcome<H: Shelf>(
     payment: &Payment,
     job: Option<&str>,
     shelf: &mut H,
-) -> Result<(Ending, Option<[u8; 32]>), Stop>
+) -> Result<(Ending<()>, Option<[u8; 32]>), Stop>
     ensures ends { IfOk result (λ r. IsEnded H.tells (H.view shelf.old).files (plain_sources sources.now) (plain_payment payment.now) r.0) }
     ensures digest { IfOk result (λ r. HasDigest H.tells (H.view shelf.old).files (plain_sources sources.now) (plain_payment payment.now) (plain_job job.entry) r.1) }
     ensures frame { OnlyReads H.tells (H.view shelf.old) (H.view shelf.new) }
@@ -59,7 +56,7 @@ fn leave<O: Sink, K: Keeper>(
     payment: &Payment,
     job: Option<&str>,
     digest: Option<[u8; 32]>,
-    left: &Left,
+    left: &Left<()>,
     out: &mut O,
     keeper: &mut K,
 ) -> Status

@@ -14,12 +14,12 @@ ghost use Rattle.fund_files.specs.Chain.{IsHeld, held_of, history_of};
 ghost use Rattle.fund_files.specs.declared.held.Held.{Held};
 ghost use Rattle.fund_payment.specs.Report.{report_of};
 ghost use Rattle.command_end.specs.Names.{Sources};
-ghost use Rattle.command_fund.specs.Cause.{Cause};
-ghost use Rattle.command_fund.specs.Due.{Refused, Unfinished, NoSelection, Funded, bump_fault_in, due_of, log_text_at, none_report_at, open_report_at, plan_of};
-ghost use Rattle.command_fund.specs.Inputs.{AreInputs};
-ghost use Rattle.command_fund.specs.Meant.{IsEndedPlan, IsMeant};
-ghost use Rattle.command_fund.specs.Names.{Payment};
-ghost use Rattle.command_fund.specs.Replacing.{PaysTheBurden, ReplacesIf};
+ghost use Rattle.command_inputs.specs.Cause.{Cause};
+ghost use Rattle.command_inputs.specs.Due.{Refused, Unfinished, NoSelection, Funded, bump_fault_in, due_of, log_text_at, none_report_at, open_report_at, plan_of};
+ghost use Rattle.command_inputs.specs.Inputs.{AreInputs};
+ghost use Rattle.command_inputs.specs.Meant.{IsEndedPlan, IsMeant};
+ghost use Rattle.command_inputs.specs.Names.{Payment};
+ghost use Rattle.command_inputs.specs.Replacing.{PaysTheBurden, ReplacesIf};
 
 /// The law of what the files of a payment come to: a cause for a refusal which they mean is the one that they come to; and
 /// where they hold a wallet, blocks and a request of which the plan keeps its rules, they come to what that plan comes to

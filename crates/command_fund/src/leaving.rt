@@ -3,10 +3,10 @@
 ghost use Rattle.std.specs.Prelude.{◌≡◌, ◌≢◌, ◌≤◌, IfErr, OnErr, OnOk};
 ghost use Rattle.kept_job.specs.SavingRules.{CanBeKept};
 ghost use Rattle.command_fund.specs.Leaving.{IsSavedAnew};
-ghost use Rattle.command_fund.specs.Names.{plain_job};
+ghost use Rattle.command_inputs.specs.Names.{plain_job};
 ghost use Rattle.command_fund.specs.Stops.{StopsKeeping};
 
-use crate::refusal::Stop;
+use command_inputs::Stop;
 use fund_outside::Keeper;
 use fund_plan::Plan;
 use kept_job::{Behind, keep};

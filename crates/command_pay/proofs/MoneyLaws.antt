@@ -40,7 +40,7 @@ use Rattle.fund_steps.proofs.PresetLaws.{presets_listed}
 use Rattle.fund_steps.specs.Amounts.{value_of}
 use Rattle.fund_steps.specs.Listed.{AreListed, listed_in, presets_by}
 use Rattle.fund_steps.specs.Plan.{PlainBump, PlainPlan}
-use Rattle.command_fund.specs.Due.{bump_of, plan_of}
+use Rattle.command_inputs.specs.Due.{bump_of, plan_of}
 use Rattle.pay_words.specs.declared.asked.Asked.{Asked}
 use Rattle.command_pay.specs.AsAsked.{IsAsAsked}
 use Rattle.command_pay.specs.Money.{IsMoneyOf, IsPaidBy, IsScriptOf, IsSpentBy}

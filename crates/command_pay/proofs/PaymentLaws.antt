@@ -16,8 +16,8 @@ use Rattle.fund_report.proofs.ToldLaws.{one_report}
 use Rattle.fund_steps.specs.Plan.{PlainPlan}
 use Rattle.command_end.specs.declared.status.Status.{Status}
 use Rattle.command_end.specs.declared.status.Status.TheVariants as statuses
-use Rattle.command_fund.specs.Due.{plan_of}
-use Rattle.command_fund.specs.Statuses.{IsFunded}
+use Rattle.command_inputs.specs.Due.{plan_of}
+use Rattle.command_inputs.specs.Results.{IsFunded}
 use Rattle.checked_runs.proofs.CommandLaws.{paid_reads}
 use Rattle.pay_words.specs.declared.asked.Asked.{Asked}
 use Rattle.command_pay.specs.Held.{count_among, file_among, log_name, request_name}

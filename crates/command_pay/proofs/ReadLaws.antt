@@ -9,7 +9,7 @@ use Rattle.command_end.specs.declared.status.Status.TheVariants as statuses
 use Rattle.pay_words.specs.declared.asked.Asked.{Asked}
 use Rattle.command_pay.specs.AsAsked.{IsOther}
 use Rattle.command_pay.specs.Held.{count_among, log_name, request_name}
-use Rattle.command_fund.specs.Inputs.{IsUnread}
+use Rattle.command_inputs.specs.Inputs.{IsUnread}
 use Rattle.command_pay.specs.Run.{IsRun, beside, held_names, sources_of}
 use Rattle.command_pay.proofs.PaymentLaws.{other_count}
 use Rattle.command_pay.proofs.RunLaws.{none_rose}

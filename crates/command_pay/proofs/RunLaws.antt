@@ -11,7 +11,7 @@ use Rattle.request_text.specs.RequestText.{request_of}
 use Rattle.command_end.specs.Names.{Sources}
 use Rattle.command_end.specs.declared.status.Status.{Status}
 use Rattle.command_end.specs.declared.status.Status.TheVariants as statuses
-use Rattle.command_fund.specs.Names.{Payment}
+use Rattle.command_inputs.specs.Names.{Payment}
 use Rattle.command_fund.specs.Statuses.{EndsFunded}
 use Rattle.fund_top.specs.Asked.{AsksFor}
 use Rattle.fund_top.specs.Due.{ComesTo, IsRefusal, IsTold, Outcome}

@@ -16,7 +16,7 @@ use Rattle.psbt_codec.specs.Psbt.{IsPsbt}
 use Rattle.request_making.specs.Asked.{asked_of}
 use Rattle.request_text.specs.PlainRequest.{PlainRequest}
 use Rattle.wallet_text.specs.PlainWallet.{PlainWallet}
-use Rattle.command_fund.specs.Due.{log_text_at, plan_of}
+use Rattle.command_inputs.specs.Due.{log_text_at, plan_of}
 use Rattle.pay_words.specs.declared.asked.Asked.{Asked}
 use Rattle.command_pay.specs.Held.{log_name, request_name}
 

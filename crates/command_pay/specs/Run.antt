@@ -13,8 +13,8 @@ use Rattle.command_end.specs.Names.{Sources}
 use Rattle.command_end.specs.Printed.{TellsWhole, TookAll}
 use Rattle.command_end.specs.declared.status.Status.{Status}
 use Rattle.command_end.specs.declared.status.Status.TheVariants as statuses
-use Rattle.command_fund.specs.Names.{Payment}
-use Rattle.command_fund.specs.Statuses.{IsBeforeTheLog}
+use Rattle.command_inputs.specs.Names.{Payment}
+use Rattle.command_inputs.specs.Results.{IsBeforeTheLog}
 use Rattle.fund_top.specs.Asked.{AsksFor}
 use Rattle.fund_top.specs.Due.{ComesTo, IsRefusal, Outcome}
 use Rattle.fund_top.specs.Statuses.{Ends, KeepsOthers, NoneFailed, NoneUnkept, NoneUnread, status_of}

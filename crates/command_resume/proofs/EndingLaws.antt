@@ -23,11 +23,11 @@ use Rattle.kept_job.proofs.ClaimLaws.{log_ended_on}
 use Rattle.kept_job.proofs.ResumedLaws.{claims_none, claims_open, claims_payment, claims_read}
 use Rattle.kept_job.specs.Gone.{IsUsedUpOn}
 use Rattle.command_end.specs.Names.{Sources}
-use Rattle.command_fund.specs.Due.{Funded, NoSelection, Unfinished, none_report, open_report, plan_of}
-use Rattle.command_fund.specs.Inputs.{AreInputs}
-use Rattle.command_fund.specs.Names.{Payment}
-use Rattle.command_fund.specs.PlanEnds.{IsOpenReport}
-use Rattle.command_fund.specs.Replacing.{ReplacesIf}
+use Rattle.command_inputs.specs.Due.{Funded, NoSelection, Unfinished, none_report, open_report, plan_of}
+use Rattle.command_inputs.specs.Inputs.{AreInputs}
+use Rattle.command_inputs.specs.Names.{Payment}
+use Rattle.command_inputs.specs.PlanEnds.{IsOpenReport}
+use Rattle.command_inputs.specs.Replacing.{ReplacesIf}
 use Rattle.command_resume.specs.Resumed.{HasGone, IsFunded, IsNotFunded, IsUnfinished}
 use Rattle.command_resume.proofs.UninterruptedLaws.{uninterrupted}
 

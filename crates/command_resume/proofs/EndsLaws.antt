@@ -17,15 +17,15 @@ use Rattle.kept_job.specs.Gone.{HasGoneOn}
 use Rattle.command_end.specs.Names.{Sources}
 use Rattle.command_end.specs.declared.status.Status.{Status}
 use Rattle.command_end.specs.declared.status.Status.TheVariants as statuses
-use Rattle.command_fund.specs.Cause.{Cause, cause_of, status_of_cause}
-use Rattle.command_fund.specs.Digest.{digest_in}
-use Rattle.command_fund.specs.Due as payments
-use Rattle.command_fund.specs.Due.{plan_of}
-use Rattle.command_fund.specs.Inputs.{AreInputs, IsUnread}
-use Rattle.command_fund.specs.Meant.{IsDue}
-use Rattle.command_fund.specs.Names.{Payment}
-use Rattle.command_fund.specs.Statuses as payment_ends
-use Rattle.command_fund.specs.Statuses.{IsLogLost}
+use Rattle.command_inputs.specs.Cause.{Cause, cause_of, status_of_cause}
+use Rattle.command_inputs.specs.Digest.{digest_in}
+use Rattle.command_inputs.specs.Due as payments
+use Rattle.command_inputs.specs.Due.{plan_of}
+use Rattle.command_inputs.specs.Inputs.{AreInputs, IsUnread}
+use Rattle.command_inputs.specs.Meant.{IsDue}
+use Rattle.command_inputs.specs.Names.{Payment}
+use Rattle.command_inputs.specs.Results as payment_ends
+use Rattle.command_inputs.specs.Results.{IsLogLost}
 use Rattle.command_resume.proofs.OneLaws.{gone_due, gone_not_kept, one_cause, one_fault, ready_not_refused}
 use Rattle.command_resume.proofs.UninterruptedLaws.{told_gone}
 use Rattle.command_resume.specs.Due.{AreReady, ComesTo, Gone, IsGone, NotKept, Outcome, Refused, by_answer_on, status_of}

@@ -13,16 +13,17 @@ use Rattle.command_end.specs.Names.{Sources}
 use Rattle.command_end.specs.Printed.{IsEnd, IsPut, IsUnwritten, IsWithoutMemory}
 use Rattle.command_end.specs.declared.status.Status.{Status}
 use Rattle.command_end.specs.declared.status.Status.TheVariants as statuses
-use Rattle.command_fund.specs.Due.{plan_of}
-use Rattle.command_fund.specs.Jobs.{KeepsJobs}
-use Rattle.command_fund.specs.Names.{Payment}
+use Rattle.command_inputs.specs.Due.{plan_of}
+use Rattle.command_inputs.specs.Jobs.{KeepsJobs}
+use Rattle.command_inputs.specs.Names.{Payment}
 use Rattle.command_resume.proofs.UninterruptedLaws.{told_gone}
 use Rattle.command_resume.specs.Due.{AreReady}
 use Rattle.command_resume.specs.Endings.{IsLeftBy}
 use Rattle.command_resume.specs.Leaving.{HasLeft, IsNotLeft, IsSavedOn}
 use Rattle.command_resume.specs.Resumed.{IsLeftOn}
 use Rattle.command_resume.specs.Statuses.{Ends, EndsUnwritten, EndsWithoutMemory, IsReport}
-use Rattle.command_resume.specs.declared.resuming.Left.{Left}
+use Rattle.command_inputs.specs.declared.funding.Left.{Left}
+use Rattle.command_resume.specs.declared.resuming.LoadedJob.{LoadedJob}
 
 -- ---- a log and a report
 
@@ -53,12 +54,12 @@ module _ (told_files told told_jobs : Type 0) (s : Sources) (p : Payment) (job r
 
 -- ---- a run that goes on
 
-module _ (told_files told told_jobs : Type 0) (s : Sources) (p : Payment) (job : List ℕ) (left : Left) (shelf shelf' : ShelfView) (sink sink' : SinkView) (keeper middle keeper' : KeeperView) (result : Status)
+module _ (told_files told told_jobs : Type 0) (s : Sources) (p : Payment) (job : List ℕ) (left : Left LoadedJob) (shelf shelf' : ShelfView) (sink sink' : SinkView) (keeper middle keeper' : KeeperView) (result : Status)
     (same : told_files → shelf'.files ≡ shelf.files) (as_kept : told_jobs → middle.jobs ≡ keeper.jobs) (rises : keeper.faults ≤ middle.faults) (h : IsLeftBy told_files told_jobs shelf.files s p (keeper.jobs job) left) where
   -- what was saved behind the job as it was read was saved behind it as it was before
   saved_from : told_jobs → IsSavedOn job left middle keeper' → IsSavedOn job left keeper keeper'
   saved_from t saved = record {
-    saved = subst (λ (o : Option KeptJob). IsSavedBehind left.digest left.plan left.behind.parts left.behind.length o (keeper'.jobs job)) (ap (λ (jobs : List ℕ → Option KeptJob). jobs job) (as_kept t)) saved.saved;
+    saved = subst (λ (o : Option KeptJob). IsSavedBehind left.job.digest left.plan left.job.behind.parts left.job.behind.length o (keeper'.jobs job)) (ap (λ (jobs : List ℕ → Option KeptJob). jobs job) (as_kept t)) saved.saved;
     others = subst (λ (jobs : List ℕ → Option KeptJob). SameForOthers job jobs keeper'.jobs) (as_kept t) saved.others;
   }
 
@@ -68,9 +69,9 @@ module _ (told_files told told_jobs : Type 0) (s : Sources) (p : Payment) (job :
       let u = h.unfinished in
       let behind : IsSavedBehind u.gone.digest u.state u.gone.gone.saved.parts (length u.gone.gone.bytes) (keeper.jobs job) (keeper'.jobs job) =
       subst (λ (n : ℕ). IsSavedBehind u.gone.digest u.state u.gone.gone.saved.parts n (keeper.jobs job) (keeper'.jobs job)) (h.length_is t)
-      (subst (λ (n : ℕ). IsSavedBehind u.gone.digest u.state n left.behind.length (keeper.jobs job) (keeper'.jobs job)) h.parts_are
-      (subst (λ (d : List ℕ). IsSavedBehind d u.state left.behind.parts left.behind.length (keeper.jobs job) (keeper'.jobs job)) h.digest_is
-      (subst (λ (x : PlanState). IsSavedBehind left.digest x left.behind.parts left.behind.length (keeper.jobs job) (keeper'.jobs job)) h.plan_is saved.saved))) in
+      (subst (λ (n : ℕ). IsSavedBehind u.gone.digest u.state n left.job.behind.length (keeper.jobs job) (keeper'.jobs job)) h.parts_are
+      (subst (λ (d : List ℕ). IsSavedBehind d u.state left.job.behind.parts left.job.behind.length (keeper.jobs job) (keeper'.jobs job)) h.digest_is
+      (subst (λ (x : PlanState). IsSavedBehind left.job.digest x left.job.behind.parts left.job.behind.length (keeper.jobs job) (keeper'.jobs job)) h.plan_is saved.saved))) in
       record {
         others = saved.others;
         saved = behind;

@@ -9,11 +9,11 @@ use Rattle.fund_files.specs.Chain.{held_of}
 use Rattle.fund_files.specs.declared.held.Held.{Held}
 use Rattle.kept_job.specs.Kept.{IsKeptAt}
 use Rattle.command_end.specs.Names.{Sources}
-use Rattle.command_fund.specs.Digest.{digest_in}
-use Rattle.command_fund.specs.Due as payments
-use Rattle.command_fund.specs.Due.{plan_of, planned_after}
-use Rattle.command_fund.specs.Inputs.{AreInputs}
-use Rattle.command_fund.specs.Names.{Payment}
+use Rattle.command_inputs.specs.Digest.{digest_in}
+use Rattle.command_inputs.specs.Due as payments
+use Rattle.command_inputs.specs.Due.{plan_of, planned_after}
+use Rattle.command_inputs.specs.Inputs.{AreInputs}
+use Rattle.command_inputs.specs.Names.{Payment}
 use Rattle.command_resume.proofs.OneLaws.{by_reading}
 use Rattle.command_resume.proofs.UninterruptedLaws.{uninterrupted}
 use Rattle.command_resume.specs.Due.{IsGone}

@@ -14,23 +14,23 @@ use Rattle.kept_job.specs.declared.fault.KeptFault.TheVariants as faults
 use Rattle.request_text.specs.PlainRequest.{PlainRequest}
 use Rattle.search_run.specs.Step.{AreSteps}
 use Rattle.command_end.specs.Names.{Sources}
-use Rattle.command_fund.proofs.PlanLaws.{stops_on}
-use Rattle.command_fund.specs.Digest.{digest_in}
-use Rattle.command_fund.specs.Due.{plan_of}
-use Rattle.command_fund.specs.Inputs.{AreAsked}
-use Rattle.command_fund.specs.Names.{Payment}
-use Rattle.command_fund.specs.PlanEnds.{StopsPlan}
-use Rattle.command_fund.specs.Stops as fund_stops
-use Rattle.command_fund.specs.declared.refusal.Stop as funds
+use Rattle.command_inputs.proofs.PlanLaws.{stops_on}
+use Rattle.command_inputs.specs.Digest.{digest_in}
+use Rattle.command_inputs.specs.Due.{plan_of}
+use Rattle.command_inputs.specs.Inputs.{AreAsked}
+use Rattle.command_inputs.specs.Names.{Payment}
+use Rattle.command_inputs.specs.PlanEnds.{StopsPlan}
+use Rattle.command_inputs.specs.Stops as fund_stops
+use Rattle.command_inputs.specs.declared.refusal.Stop as funds
 use Rattle.command_resume.proofs.LeavingLaws.{ended_on, untold}
 use Rattle.command_resume.specs.Due.{AreReady, IsNotKept}
 use Rattle.command_resume.specs.Endings.{IsEnded}
 use Rattle.command_resume.specs.Ready.{HasEnded, IsPlanned, IsReady}
-use Rattle.command_resume.specs.Runs.{IsConcluded, IsRunOn}
+use Rattle.command_resume.specs.Runs.{IsConcluded, IsRunOn, Run}
 use Rattle.command_resume.specs.Stops.{StopsKept}
-use Rattle.command_resume.specs.declared.resuming.Ending.{Ending}
+use Rattle.command_inputs.specs.declared.funding.Ending.{Ending}
+use Rattle.command_resume.specs.declared.resuming.LoadedJob.{LoadedJob}
 use Rattle.command_resume.specs.declared.resuming.Ready.{Ready}
-use Rattle.command_resume.specs.declared.resuming.Run.{Run}
 
 module _ (told_files : Type 0) (s : Sources) (p : Payment) (k : Held) (r : PlainRequest) (old : ShelfView) (asked : AreAsked told_files old.files s p k r) where
   -- ---- why it stops
@@ -84,7 +84,7 @@ module _ (told_files : Type 0) (s : Sources) (p : Payment) (k : Held) (r : Plain
           (subst (λ (m : ℕ). HasResumed told_jobs (plan_of k r) digest (keeper.jobs job) m run.plan run.resumed) tries
           (subst (λ (x : PlainPlan). HasResumed told_jobs x digest (keeper.jobs job) n run.plan run.resumed) is went))
 
-      pub run_ends : (e : Ending) → IsConcluded k r run e → IsEnded told_files told_jobs old.files s p (keeper.jobs job) e
+      pub run_ends : (e : Ending LoadedJob) → IsConcluded k r run e → IsEnded told_files told_jobs old.files s p (keeper.jobs job) e
       run_ends e c =
           ended_on told_files told_jobs old.files s p (keeper.jobs job) k.wallet asked.held.blocks r run asked.inputs (subst IsPlan own rules) (subst (λ (x : PlainPlan). AreSteps (steps_of x)) own are)
           (λ t. same ∙ named t) (subst (λ (x : Held). HasResumed told_jobs (plan_of x r) run.digest (keeper.jobs job) r.tries run.plan run.resumed) asked.held.is there)
@@ -116,12 +116,12 @@ module _ (told_jobs : Type 0) (x : Ready) (h : IsPlanned x) (o : Option KeptJob)
     fits = subst (λ (p : PlainPlan). HasSelection p.request run.resumed.outcome) h.is fits;
   }
 
-  pub has_ended : (e : Ending) → IsConcluded x.held x.request run e → HasEnded told_jobs x o e
+  pub has_ended : (e : Ending LoadedJob) → IsConcluded x.held x.request run e → HasEnded told_jobs x o e
   has_ended e c = record { run = run; same = same; resumed = asked_for; pays = pays; ends = c }
 
 module _ (told_files : Type 0) (s : Sources) (p : Payment) (old : ShelfView) (x : Ready) (h : IsReady told_files old.files s p x) (told_jobs : Type 0) (job : List ℕ) (keeper keeper' : KeeperView) where
   pub stopped_on : (fault : KeptFault) → (fault ≡ faults.Failed → Rose keeper.faults keeper'.faults) → (told_jobs → IsNotResumed x.plan.plan x.digest (keeper.jobs job) x.request.tries fault) → StopsKept told_files told_jobs s p job old keeper keeper' fault
   stopped_on = kept_stopped told_files s p x.held x.request old h.asked told_jobs job keeper keeper' x.plan.plan h.planned.is h.planned.rules h.planned.steps x.digest h.named x.request.tries refl
 
-  pub is_ended : (e : Ending) → HasEnded told_jobs x (keeper.jobs job) e → IsEnded told_files told_jobs old.files s p (keeper.jobs job) e
+  pub is_ended : (e : Ending LoadedJob) → HasEnded told_jobs x (keeper.jobs job) e → IsEnded told_files told_jobs old.files s p (keeper.jobs job) e
   is_ended e g = run_ends told_files s p x.held x.request old h.asked told_jobs job keeper keeper' x.plan.plan h.planned.is h.planned.rules h.planned.steps x.digest h.named x.request.tries refl g.run g.same g.resumed g.pays e g.ends

@@ -9,8 +9,8 @@ use Rattle.fund_files.specs.Chain.{held_of}
 use Rattle.fund_files.specs.Outcome.{asked_of, chain_of}
 use Rattle.fund_files.specs.declared.held.Held.{Held}
 use Rattle.command_end.specs.Names.{Sources}
-use Rattle.command_fund.specs.Inputs.{AreInputs}
-use Rattle.command_fund.specs.Names.{Payment}
+use Rattle.command_inputs.specs.Inputs.{AreInputs}
+use Rattle.command_inputs.specs.Names.{Payment}
 
 same_held : (a b : Held) (x : Result Held FileCause) → x ≡ Ok a → x ≡ Ok b → a ≡ b
 same_held a b x e f = cc

@@ -1,5 +1,5 @@
 -- How a request ends whose plan went on from a job.
-use Rattle.std.proofs.Common.{◌≡◌, ◌∙◌, ℕ, ◌≤◌, ◌+◌, List, ◌∷◌, Option, None, sym, subst, arith, All}
+use Rattle.std.proofs.Common.{◌≡◌, ◌∙◌, ℕ, ◌≤◌, ◌+◌, List, ◌∷◌, Option, None, sym, ap, subst, arith, All}
 use Rattle.block_feed.specs.Block.{ChainBlock}
 use Rattle.closing_log.specs.declared.log.Stage.{Stage}
 use Rattle.coin_book.specs.Faults.{fault_of as book_fault}
@@ -27,21 +27,21 @@ use Rattle.kept_job.specs.Resuming.{HasResumed}
 use Rattle.kept_job.specs.SavingRules.{CanBeKept}
 use Rattle.kept_job.specs.declared.resuming.Resumed.{Resumed}
 use Rattle.command_end.specs.Names.{Sources}
-use Rattle.command_fund.specs.Digest.{digest_in}
-use Rattle.command_fund.specs.Due.{bump_fault_in, open_report, plan_of}
-use Rattle.command_fund.specs.Inputs.{AreInputs}
-use Rattle.command_fund.specs.Names.{Payment}
-use Rattle.command_fund.specs.PlanEnds.{IsOpenAt, IsOpenReport}
-use Rattle.command_fund.specs.Replacing.{ReplacesIf}
-use Rattle.command_fund.proofs.ReplaceLaws.{replaces_named}
-use Rattle.command_fund.proofs.TermsLaws.{spent_made}
+use Rattle.command_inputs.specs.Digest.{digest_in}
+use Rattle.command_inputs.specs.Due.{bump_fault_in, open_report, plan_of}
+use Rattle.command_inputs.specs.Inputs.{AreInputs}
+use Rattle.command_inputs.specs.Names.{Payment}
+use Rattle.command_inputs.specs.PlanEnds.{CanEnd, IsEndOf, IsOpenAt, IsOpenReport}
+use Rattle.command_inputs.specs.Replacing.{ReplacesIf}
+use Rattle.command_inputs.proofs.ReplaceLaws.{replaces_named}
+use Rattle.command_inputs.proofs.TermsLaws.{spent_made}
 use Rattle.command_resume.specs.Endings.{CanBeLeft, IsEnded}
 use Rattle.command_resume.specs.Resumed.{HasGone}
-use Rattle.command_resume.specs.Runs.{IsConcluded, IsRunOn, IsStillOpen}
-use Rattle.command_resume.specs.declared.resuming.Ending.{Ending}
-use Rattle.command_resume.specs.declared.resuming.Ending.TheVariants as endings
-use Rattle.command_resume.specs.declared.resuming.Left.{Left}
-use Rattle.command_resume.specs.declared.resuming.Run.{Run}
+use Rattle.command_resume.specs.Runs.{IsConcluded, IsRunOn, IsStillOpen, Run}
+use Rattle.command_inputs.specs.declared.funding.Ending.{Ending}
+use Rattle.command_resume.specs.declared.resuming.LoadedJob.{LoadedJob}
+use Rattle.command_inputs.specs.declared.funding.Ending.TheVariants as endings
+use Rattle.command_inputs.specs.declared.funding.Left.{Left}
 use Rattle.command_resume.proofs.EndingLaws.{open_on, paid_on, unpaid_on}
 
 -- ---- the plan
@@ -115,23 +115,23 @@ untold told_jobs k r now o st x h = record {
 -- ---- what is left of it
 
 -- it can be kept behind the parts that were loaded
-can_leave : (k : Held) (r : PlainRequest) (run : Run) (l : Left) → IsRunOn k r run → run.resumed.outcome ≡ answers.Unfinished → l.plan ≡ run.plan → l.behind.parts ≡ run.resumed.parts → CanBeLeft l
+can_leave : (k : Held) (r : PlainRequest) (run : Run) (l : Left LoadedJob) → IsRunOn k r run → run.resumed.outcome ≡ answers.Unfinished → l.plan ≡ run.plan → l.job.behind.parts ≡ run.resumed.parts → CanBeLeft l
 can_leave k r run l h is plan parts =
     let g = gone_as ⊥ k r run.digest h.job run.plan run.resumed.outcome answers.Unfinished is h.resumed.gone in
-    let count : l.behind.parts ≡ h.resumed.gone.saved.parts = parts ∙ h.resumed.parts_are in
+    let count : l.job.behind.parts ≡ h.resumed.gone.saved.parts = parts ∙ h.resumed.parts_are in
     let some : 1 ≤ r.tries = h.rules.request.tries.0 in
     let most = h.resumed.can.parts in
     let due = h.resumed.gone.can.due.tries in
     record {
       few = omega (arith, count, most, due);
       can =
-          subst (λ (x : PlanState). CanBeKept x (l.behind.parts + 1)) (sym plan)
+          subst (λ (x : PlanState). CanBeKept x (l.job.behind.parts + 1)) (sym plan)
           (subst (λ (n : ℕ). CanBeKept run.plan (n + 1)) (sym count)
           (can_keep_on ⊥ (plan_of k r) run.digest h.job r.tries run.plan h.steps g some h.resumed.can));
     }
 
-pub left_concluded : (k : Held) (r : PlainRequest) (run : Run) (l : Left) → IsRunOn k r run → run.resumed.outcome ≡ answers.Unfinished → l.report.items ≡ open_report run.plan.stand.past.tries run.plan.stand.left → IsOpenReport l.report.items run.plan.stand.past.tries run.plan.stand.left
-    → l.plan ≡ run.plan → l.digest ≡ run.digest → l.behind.parts ≡ run.resumed.parts → l.behind.length ≡ run.resumed.length → IsStillOpen run l
+pub left_concluded : (k : Held) (r : PlainRequest) (run : Run) (l : Left LoadedJob) → IsRunOn k r run → run.resumed.outcome ≡ answers.Unfinished → l.report.items ≡ open_report run.plan.stand.past.tries run.plan.stand.left → IsOpenReport l.report.items run.plan.stand.past.tries run.plan.stand.left
+    → l.plan ≡ run.plan → l.job.digest ≡ run.digest → l.job.behind.parts ≡ run.resumed.parts → l.job.behind.length ≡ run.resumed.length → IsStillOpen run l
 left_concluded k r run l h is report told plan digest parts bytes = record {
   is = is;
   reports = report;
@@ -143,6 +143,30 @@ left_concluded k r run l h is report told plan digest parts bytes = record {
   can = can_leave k r run l h is plan parts;
 }
 
+-- it can end
+pub can_end : (k : Held) (r : PlainRequest) (run : Run) → IsHeld k → book_fault k.book ≡ None → IsRunOn k r run → CanEnd k r run.plan run.resumed.outcome
+can_end k r run held sound h = record {
+  goes_on = is_open_on k r run h;
+  selects = λ f is. fits_on k r run f h is;
+  makers = λ f is. coins_on k r run f held sound h is;
+}
+
+-- how it ends, by what is known of its job
+pub concluded_on : (k : Held) (r : PlainRequest) (run : Run) (job : LoadedJob) (e : Ending LoadedJob) → job.digest ≡ run.digest → job.behind.parts ≡ run.resumed.parts → job.behind.length ≡ run.resumed.length → IsHeld k → book_fault k.book ≡ None → bump_fault_in k r ≡ None → IsRunOn k r run
+    → IsEndOf k r run.plan run.resumed.outcome job e → IsConcluded k r run e
+concluded_on k r run job (endings.Unfinished left) digest parts bytes held sound clear h x =
+    left_concluded k r run left h x.0 x.1.reports x.1.told x.1.plan_is (ap (λ (j : LoadedJob). j.digest) x.1.job_is ∙ digest) (ap (λ (j : LoadedJob). j.behind.parts) x.1.job_is ∙ parts) (ap (λ (j : LoadedJob). j.behind.length) x.1.job_is ∙ bytes)
+concluded_on k r run job (endings.NoSelection texts) digest parts bytes held sound clear h x = record { is = x.0; reports = x.1.reports; told = x.1.told; logs = x.1.logs }
+concluded_on k r run job (endings.Funded texts) digest parts bytes held sound clear h x = record {
+  funded = x.0;
+  is = x.1;
+  psbt = x.2.psbt;
+  shows = x.2.shows;
+  replaces = replaces_on k r run x.0 held sound clear h x.1;
+  reports = x.2.reports;
+  logs = x.2.logs;
+}
+
 -- ---- how the request of the files ends
 
 module _ (told_files told_jobs : Type 0) (files : List ℕ → List ℕ) (s : Sources) (p : Payment) (o : Option KeptJob) (w : PlainWallet) (blocks : List ChainBlock) (r : PlainRequest) (run : Run)
@@ -151,7 +175,7 @@ module _ (told_files told_jobs : Type 0) (files : List ℕ → List ℕ) (s : So
   abbrev went : (a : Answer) → run.resumed.outcome ≡ a → HasGone told_files told_jobs files s p o (held_of w blocks) r run.plan a
   went a is = record { rules = rules; steps = are; digest = run.digest; named = named; gone = gone_as told_jobs (held_of w blocks) r run.digest o run.plan run.resumed.outcome a is resumed.gone }
 
-  pub ended_on : (e : Ending) → IsConcluded (held_of w blocks) r run e → IsEnded told_files told_jobs files s p o e
+  pub ended_on : (e : Ending LoadedJob) → IsConcluded (held_of w blocks) r run e → IsEnded told_files told_jobs files s p o e
   ended_on (endings.Unfinished l) c = record {
     unfinished = open_on told_files told_jobs files s p o w blocks r run.plan inputs l.report.items (went answers.Unfinished c.is) c.reports c.told;
     plan_is = c.plan_is;

@@ -28,8 +28,8 @@ use Rattle.search_run.specs.declared.ending.End.{End}
 use Rattle.search_run.specs.declared.ending.End.TheVariants as ends
 use Rattle.fund_files.specs.declared.held.Held.{Held}
 use Rattle.fund_payment.specs.Report.{psbt_of, report_of}
-use Rattle.command_fund.specs.Due.{by_cause, by_plan_after, none_report, open_report, plan_by, plan_cause, planned, planned_after, terms_for}
-use Rattle.command_fund.specs.Due as payments
+use Rattle.command_inputs.specs.Due.{by_cause, by_plan_after, none_report, open_report, plan_by, plan_cause, planned, planned_after, terms_for}
+use Rattle.command_inputs.specs.Due as payments
 
 -- the same request with so many tries
 abbrev pub asking : PlainRequest → ℕ → PlainRequest

@@ -16,14 +16,14 @@ use Rattle.kept_job.specs.Gone.{HasGoneOn}
 use Rattle.kept_job.specs.Refused.{IsNotResumed}
 use Rattle.kept_job.specs.declared.fault.KeptFault.{KeptFault}
 use Rattle.command_end.specs.Names.{Sources}
-use Rattle.command_fund.proofs.DueLaws.{answer_due}
-use Rattle.command_fund.specs.Cause.{Cause}
-use Rattle.command_fund.specs.Digest.{digest_in}
-use Rattle.command_fund.specs.Due as payments
-use Rattle.command_fund.specs.Due.{by_answer, plan_of}
-use Rattle.command_fund.specs.Inputs.{AreInputs}
-use Rattle.command_fund.specs.Meant.{IsDue}
-use Rattle.command_fund.specs.Names.{Payment}
+use Rattle.command_inputs.proofs.DueLaws.{answer_due}
+use Rattle.command_inputs.specs.Cause.{Cause}
+use Rattle.command_inputs.specs.Digest.{digest_in}
+use Rattle.command_inputs.specs.Due as payments
+use Rattle.command_inputs.specs.Due.{by_answer, plan_of}
+use Rattle.command_inputs.specs.Inputs.{AreInputs}
+use Rattle.command_inputs.specs.Meant.{IsDue}
+use Rattle.command_inputs.specs.Names.{Payment}
 use Rattle.command_resume.proofs.InputLaws.{one_held, one_request}
 use Rattle.command_resume.specs.Due.{ComesTo, Gone, IsGone, IsNotKept, NotKept, Outcome, Refused, by_answer_on}
 

@@ -17,11 +17,11 @@ use Rattle.kept_job.specs.declared.fault.KeptFault.{KeptFault}
 use Rattle.kept_job.specs.declared.fault.KeptFault.TheVariants as faults
 use Rattle.command_end.specs.Names.{Sources}
 use Rattle.command_end.specs.declared.status.Status.TheVariants as statuses
-use Rattle.command_fund.specs.Digest.{digest_in}
-use Rattle.command_fund.specs.Due as payments
-use Rattle.command_fund.specs.Due.{plan_of}
-use Rattle.command_fund.specs.Inputs.{AreInputs}
-use Rattle.command_fund.specs.Names.{Payment}
+use Rattle.command_inputs.specs.Digest.{digest_in}
+use Rattle.command_inputs.specs.Due as payments
+use Rattle.command_inputs.specs.Due.{plan_of}
+use Rattle.command_inputs.specs.Inputs.{AreInputs}
+use Rattle.command_inputs.specs.Names.{Payment}
 use Rattle.command_resume.proofs.OneLaws.{by_reading}
 use Rattle.command_resume.specs.Due.{IsGone, IsNotKept, by_answer_on}
 use Rattle.command_resume.specs.Words.{kept_status}

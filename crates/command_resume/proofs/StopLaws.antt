@@ -17,15 +17,15 @@ use Rattle.command_end.specs.Names.{Sources}
 use Rattle.command_end.specs.Printed.{TellsWhole}
 use Rattle.command_end.specs.declared.status.Status.{Status}
 use Rattle.command_end.specs.declared.status.Status.TheVariants as statuses
-use Rattle.command_fund.proofs.Finished as fund_laws
-use Rattle.command_fund.specs.Cause.{Cause, Files, Bump, Plan, cause_of, status_of_cause, status_of_plan}
-use Rattle.command_fund.specs.Meant.{IsDue}
-use Rattle.command_fund.specs.Names.{Payment}
-use Rattle.command_fund.specs.Stops as fund_stops
-use Rattle.command_fund.specs.Words as fund_words
-use Rattle.command_fund.specs.declared.refusal.Refusal.{Refusal}
-use Rattle.command_fund.specs.declared.refusal.Stop as funds
-use Rattle.command_fund.specs.declared.refusal.Stop.TheVariants as fund_variants
+use Rattle.command_inputs.proofs.StopLaws as fund_laws
+use Rattle.command_inputs.specs.Cause.{Cause, Files, Bump, Plan, cause_of, status_of_cause, status_of_plan}
+use Rattle.command_inputs.specs.Meant.{IsDue}
+use Rattle.command_inputs.specs.Names.{Payment}
+use Rattle.command_inputs.specs.Stops as fund_stops
+use Rattle.command_inputs.specs.Words as fund_words
+use Rattle.command_inputs.specs.declared.refusal.Refusal.{Refusal}
+use Rattle.command_inputs.specs.declared.refusal.Stop as funds
+use Rattle.command_inputs.specs.declared.refusal.Stop.TheVariants as fund_variants
 use Rattle.command_resume.specs.Due.{AreReady, IsNotKept}
 use Rattle.command_resume.specs.Statuses.{Ends}
 use Rattle.command_resume.specs.Stops.{StopsFor, StopsKept}

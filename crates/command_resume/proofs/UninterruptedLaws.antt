@@ -25,10 +25,10 @@ use Rattle.kept_job.proofs.SameLaws.{goes_alike}
 use Rattle.kept_job.specs.Gone.{HasGoneOn}
 use Rattle.kept_job.specs.Kept.{IsAsAfter}
 use Rattle.command_end.specs.Names.{Sources}
-use Rattle.command_fund.specs.Digest.{digest_in}
-use Rattle.command_fund.specs.Due.{Funded, NoSelection, Unfinished, by_answer_after, by_cause, none_report, open_report, plan_cause, plan_of, planned_after}
-use Rattle.command_fund.specs.Due as payments
-use Rattle.command_fund.specs.Names.{Payment}
+use Rattle.command_inputs.specs.Digest.{digest_in}
+use Rattle.command_inputs.specs.Due.{Funded, NoSelection, Unfinished, by_answer_after, by_cause, none_report, open_report, plan_cause, plan_of, planned_after}
+use Rattle.command_inputs.specs.Due as payments
+use Rattle.command_inputs.specs.Names.{Payment}
 use Rattle.command_resume.specs.Due.{by_answer_on}
 use Rattle.command_resume.specs.Resumed.{HasGone, IsUninterrupted}
 

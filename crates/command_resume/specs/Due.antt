@@ -20,14 +20,14 @@ use Rattle.kept_job.specs.Refused.{IsNotResumed, IsOfJob}
 use Rattle.kept_job.specs.declared.fault.KeptFault.{KeptFault}
 use Rattle.command_end.specs.Names.{Sources}
 use Rattle.command_end.specs.declared.status.Status.{Status}
-use Rattle.command_fund.specs.Cause.{Cause, status_of_cause}
-use Rattle.command_fund.specs.Digest.{digest_in}
-use Rattle.command_fund.specs.Due.{Funded, NoSelection, Unfinished, none_report, open_report, plan_of}
-use Rattle.command_fund.specs.Due as payments
-use Rattle.command_fund.specs.Inputs.{AreInputs}
-use Rattle.command_fund.specs.Meant.{IsDue}
-use Rattle.command_fund.specs.Names.{Payment}
-use Rattle.command_fund.specs.Statuses as payment_ends
+use Rattle.command_inputs.specs.Cause.{Cause, status_of_cause}
+use Rattle.command_inputs.specs.Digest.{digest_in}
+use Rattle.command_inputs.specs.Due.{Funded, NoSelection, Unfinished, none_report, open_report, plan_of}
+use Rattle.command_inputs.specs.Due as payments
+use Rattle.command_inputs.specs.Inputs.{AreInputs}
+use Rattle.command_inputs.specs.Meant.{IsDue}
+use Rattle.command_inputs.specs.Names.{Payment}
+use Rattle.command_inputs.specs.Results as payment_ends
 use Rattle.command_resume.specs.Words.{kept_status}
 
 -- a cause for which the files are refused; a fault for which the job is; or what a plan comes to that goes on from it

@@ -7,11 +7,12 @@ use Rattle.command_end.specs.Lines.{GotLine, fault_line}
 use Rattle.command_end.specs.Printed.{IsPut}
 use Rattle.command_end.specs.declared.status.Status.{Status}
 use Rattle.command_end.specs.declared.status.Status.TheVariants as statuses
-use Rattle.command_resume.specs.declared.resuming.Left.{Left}
+use Rattle.command_inputs.specs.declared.funding.Left.{Left}
+use Rattle.command_resume.specs.declared.resuming.LoadedJob.{LoadedJob}
 
 -- the job is saved behind what was kept of it, and the others are as before
-pub record IsSavedOn (job : List ℕ) (left : Left) (keeper keeper' : KeeperView) : Type 0 where
-  pub saved : IsSavedBehind left.digest left.plan left.behind.parts left.behind.length (keeper.jobs job) (keeper'.jobs job)
+pub record IsSavedOn (job : List ℕ) (left : Left LoadedJob) (keeper keeper' : KeeperView) : Type 0 where
+  pub saved : IsSavedBehind left.job.digest left.plan left.job.behind.parts left.job.behind.length (keeper.jobs job) (keeper'.jobs job)
   pub others : SameForOthers job keeper.jobs keeper'.jobs
 
 -- Nothing was kept: the keeper failed, or there was not enough memory; with its line.
@@ -21,7 +22,7 @@ IsNotLeft told sink sink' keeper keeper' status =
     ⊎ ((status ≡ statuses.Memory) × (told → GotLine (fault_line (codes "memory")) sink sink'))
 
 -- It was kept, and the report was put, or a part of it; or it wasn't, and the jobs are as before.
-abbrev pub HasLeft : Type 0 → Type 0 → List ℕ → Left → SinkView → SinkView → KeeperView → KeeperView → Status → Type 0
+abbrev pub HasLeft : Type 0 → Type 0 → List ℕ → Left LoadedJob → SinkView → SinkView → KeeperView → KeeperView → Status → Type 0
 HasLeft told told_jobs job left sink sink' keeper keeper' status =
     (IsPut told left.report.items statuses.Unfinished sink sink' status × (told_jobs → IsSavedOn job left keeper keeper'))
     ⊎ (IsNotLeft told sink sink' keeper keeper' status × (told_jobs → keeper'.jobs ≡ keeper.jobs))

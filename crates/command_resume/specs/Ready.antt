@@ -7,14 +7,14 @@ use Rattle.fund_steps.specs.Plan.{IsPlan}
 use Rattle.search_run.specs.Step.{AreSteps}
 use Rattle.kept_job.specs.Resuming.{HasResumed}
 use Rattle.command_end.specs.Names.{Sources}
-use Rattle.command_fund.specs.Digest.{digest_in}
-use Rattle.command_fund.specs.Due.{plan_of}
-use Rattle.command_fund.specs.Inputs.{AreAsked}
-use Rattle.command_fund.specs.Names.{Payment}
-use Rattle.command_resume.specs.Runs.{IsConcluded}
-use Rattle.command_resume.specs.declared.resuming.Ending.{Ending}
+use Rattle.command_inputs.specs.Digest.{digest_in}
+use Rattle.command_inputs.specs.Due.{plan_of}
+use Rattle.command_inputs.specs.Inputs.{AreAsked}
+use Rattle.command_inputs.specs.Names.{Payment}
+use Rattle.command_resume.specs.Runs.{IsConcluded, Run}
+use Rattle.command_inputs.specs.declared.funding.Ending.{Ending}
+use Rattle.command_resume.specs.declared.resuming.LoadedJob.{LoadedJob}
 use Rattle.command_resume.specs.declared.resuming.Ready.{Ready}
-use Rattle.command_resume.specs.declared.resuming.Run.{Run}
 
 -- the plan is that of the request, and its steps keep their rules
 pub record IsPlanned (x : Ready) : Type 0 where
@@ -29,7 +29,7 @@ pub record IsReady (told : Type 0) (files : List ℕ → List ℕ) (s : Sources)
   pub named : told → x.digest ≡ digest_in files s p
 
 -- the plan went on from the job with the request's tries, and this is how the request ends
-pub record HasEnded (told : Type 0) (x : Ready) (o : Option KeptJob) (e : Ending) : Type 0 where
+pub record HasEnded (told : Type 0) (x : Ready) (o : Option KeptJob) (e : Ending LoadedJob) : Type 0 where
   pub run : Run
   pub same : run.digest ≡ x.digest
   pub resumed : HasResumed told x.plan.plan x.digest o x.request.tries run.plan run.resumed

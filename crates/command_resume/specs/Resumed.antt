@@ -28,12 +28,12 @@ use Rattle.kept_job.specs.Gone.{ClaimsNoneOn, ClaimsOn, HasGoneOn, IsUsedUpOn}
 use Rattle.kept_job.specs.Kept.{IsKeptAt, IsLonger}
 use Rattle.kept_job.specs.Saving.{IsSavedBehind}
 use Rattle.command_end.specs.Names.{Sources}
-use Rattle.command_fund.specs.Digest.{digest_in}
-use Rattle.command_fund.specs.Due.{Funded, NoSelection, Unfinished, none_report, open_text, plan_of, planned_after}
-use Rattle.command_fund.specs.Due as payments
-use Rattle.command_fund.specs.Inputs.{AreInputs}
-use Rattle.command_fund.specs.Names.{Payment}
-use Rattle.command_fund.specs.Replacing.{ReplacesIf}
+use Rattle.command_inputs.specs.Digest.{digest_in}
+use Rattle.command_inputs.specs.Due.{Funded, NoSelection, Unfinished, none_report, open_text, plan_of, planned_after}
+use Rattle.command_inputs.specs.Due as payments
+use Rattle.command_inputs.specs.Inputs.{AreInputs}
+use Rattle.command_inputs.specs.Names.{Payment}
+use Rattle.command_inputs.specs.Replacing.{ReplacesIf}
 
 -- ---- what is gone on with
 

@@ -5,6 +5,7 @@ use Rattle.fund_outside.specs.Kept.{KeptJob}
 use Rattle.fund_plan.specs.Answer.{ArePayments, HasSelection}
 use Rattle.fund_plan.specs.Resumed.{log_in}
 use Rattle.fund_plan.specs.Selection.{PlainFunded}
+use Rattle.fund_plan.specs.State.{PlanState}
 use Rattle.fund_plan.specs.Steps.{steps_of}
 use Rattle.fund_plan.specs.declared.outcome.Outcome.TheVariants as answers
 use Rattle.fund_report.specs.ReportText.{IsReportText}
@@ -17,14 +18,21 @@ use Rattle.fund_files.specs.declared.held.Held.{Held}
 use Rattle.fund_payment.specs.Report.{psbt_of, report_of}
 use Rattle.fund_payment.specs.Shown.{ShowsCoins}
 use Rattle.kept_job.specs.Resuming.{HasResumed}
-use Rattle.command_fund.specs.Due.{none_report, open_report, plan_of}
-use Rattle.command_fund.specs.PlanEnds.{IsOpenReport}
-use Rattle.command_fund.specs.Replacing.{ReplacesIf}
+use Rattle.kept_job.specs.declared.resuming.Resumed.{Resumed}
+use Rattle.command_inputs.specs.Due.{none_report, open_report, plan_of}
+use Rattle.command_inputs.specs.PlanEnds.{IsOpenReport}
+use Rattle.command_inputs.specs.Replacing.{ReplacesIf}
 use Rattle.command_resume.specs.Endings.{CanBeLeft}
-use Rattle.command_resume.specs.declared.resuming.Ending.{Ending}
-use Rattle.command_resume.specs.declared.resuming.Ending.TheVariants as endings
-use Rattle.command_resume.specs.declared.resuming.Left.{Left}
-use Rattle.command_resume.specs.declared.resuming.Run.{Run}
+use Rattle.command_inputs.specs.declared.funding.Ending.{Ending}
+use Rattle.command_resume.specs.declared.resuming.LoadedJob.{LoadedJob}
+use Rattle.command_inputs.specs.declared.funding.Ending.TheVariants as endings
+use Rattle.command_inputs.specs.declared.funding.Left.{Left}
+
+-- a plan that went on from the job of this digest, and what it came to
+pub record Run : Type 0 where
+  pub plan : PlanState
+  pub digest : List ℕ
+  pub resumed : Resumed
 
 -- a run of the request's plan that went on from some job with the request's tries, of which nothing is told
 pub record IsRunOn (k : Held) (r : PlainRequest) (run : Run) : Type 0 where
@@ -53,18 +61,18 @@ pub record IsUnpaid (run : Run) (report log : List ℕ) : Type 0 where
   pub logs : log ≡ logs.text_of (log_in run.plan)
 
 -- what is left of one that is unfinished: its report, its plan, its digest, and what was loaded of its log
-pub record IsStillOpen (run : Run) (left : Left) : Type 0 where
+pub record IsStillOpen (run : Run) (left : Left LoadedJob) : Type 0 where
   pub is : run.resumed.outcome ≡ answers.Unfinished
   pub reports : left.report.items ≡ open_report run.plan.stand.past.tries run.plan.stand.left
   pub told : IsOpenReport left.report.items run.plan.stand.past.tries run.plan.stand.left
   pub plan_is : left.plan ≡ run.plan
-  pub digest_is : left.digest ≡ run.digest
-  pub parts_are : left.behind.parts ≡ run.resumed.parts
-  pub length_is : left.behind.length ≡ run.resumed.length
+  pub digest_is : left.job.digest ≡ run.digest
+  pub parts_are : left.job.behind.parts ≡ run.resumed.parts
+  pub length_is : left.job.behind.length ≡ run.resumed.length
   pub can : CanBeLeft left
 
 -- how the request ends after it
-abbrev pub IsConcluded : Held → PlainRequest → Run → Ending → Type 0
+abbrev pub IsConcluded : Held → PlainRequest → Run → Ending LoadedJob → Type 0
 IsConcluded k r run (endings.Unfinished left) = IsStillOpen run left
 IsConcluded k r run (endings.NoSelection texts) = IsUnpaid run texts.report.items texts.log.items
 IsConcluded k r run (endings.Funded texts) = IsPaid k r run texts.report.items texts.log.items

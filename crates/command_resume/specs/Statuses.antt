@@ -8,9 +8,9 @@ use Rattle.command_end.specs.Lines.{GotLine, fault_line}
 use Rattle.command_end.specs.Names.{Sources}
 use Rattle.command_end.specs.declared.status.Status.{Status}
 use Rattle.command_end.specs.declared.status.Status.TheVariants as statuses
-use Rattle.command_fund.specs.Names.{Payment}
-use Rattle.command_fund.specs.Statuses as payments
-use Rattle.command_fund.specs.Statuses.{IsLogLost, IsLogged}
+use Rattle.command_inputs.specs.Names.{Payment}
+use Rattle.command_inputs.specs.Results as payments
+use Rattle.command_inputs.specs.Results.{IsLogLost, IsLogged}
 use Rattle.command_resume.specs.Due.{AreReady, IsNotKept}
 use Rattle.command_resume.specs.Resumed.{IsFunded, IsLeftOn, IsNotFunded, IsUnfinished}
 use Rattle.command_resume.specs.Words.{kept_status, kept_words}

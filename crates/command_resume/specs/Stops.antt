@@ -5,8 +5,8 @@ use Rattle.fund_outside.specs.Kept.{KeeperView}
 use Rattle.kept_job.specs.declared.fault.KeptFault.{KeptFault}
 use Rattle.kept_job.specs.declared.fault.KeptFault.TheVariants.{Failed, Memory}
 use Rattle.command_end.specs.Names.{Sources}
-use Rattle.command_fund.specs.Names.{Payment}
-use Rattle.command_fund.specs.Stops as payments
+use Rattle.command_inputs.specs.Names.{Payment}
+use Rattle.command_inputs.specs.Stops as payments
 use Rattle.command_resume.specs.Due.{AreReady, IsNotKept}
 use Rattle.command_resume.specs.declared.stop.Stop.{Stop}
 use Rattle.command_resume.specs.declared.stop.Stop.TheVariants as stops

@@ -10,8 +10,8 @@ use Rattle.command_end.specs.AnswerLines.{IsAnswered}
 use Rattle.command_end.specs.Names.{Sources}
 use Rattle.command_end.specs.declared.status.Status.{Status}
 use Rattle.command_end.specs.declared.status.Status.TheVariants as statuses
-use Rattle.command_fund.specs.Names.{Payment}
-use Rattle.command_fund.specs.Words as payments
+use Rattle.command_inputs.specs.Names.{Payment}
+use Rattle.command_inputs.specs.Words as payments
 use Rattle.command_resume.specs.declared.stop.Stop.{Stop}
 use Rattle.command_resume.specs.declared.stop.Stop.TheVariants as stops
 

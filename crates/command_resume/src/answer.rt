@@ -6,14 +6,14 @@ ghost use Rattle.fund_files.specs.declared.refusal.File.{File};
 ghost use Rattle.command_end.specs.AnswerLines.{IsAnswered};
 ghost use Rattle.command_end.specs.Lines.{GotLine, fault_line};
 ghost use Rattle.command_end.specs.Names.{plain_sources};
-ghost use Rattle.command_fund.specs.Names.{plain_payment};
-ghost use Rattle.command_fund.specs.declared.refusal.Stop.TheVariants as funding;
+ghost use Rattle.command_inputs.specs.Names.{plain_payment};
+ghost use Rattle.command_inputs.specs.declared.refusal.Stop.TheVariants as funding;
 ghost use Rattle.command_resume.specs.Words.{IsStopped, kept_status, kept_words, stop_status, stop_words};
 
 use crate::stop::Stop;
 use crate::words::{kept_parts, kept_status};
 use command_end::{Sources, Status, put_fault};
-use command_fund::{Payment, answer as answer_funding};
+use command_inputs::{Payment, answer as answer_funding};
 use fund_shelf::Sink;
 use kept_job::KeptFault;
 

@@ -4,18 +4,18 @@ ghost use Rattle.std.specs.Prelude.{◌≡◌, ◌≢◌, ◌≤◌, Some};
 ghost use Rattle.fund_shelf.specs.Causes.{CountsNeverFall, NeverFall, SameElsewhere};
 ghost use Rattle.command_end.specs.Names.{plain_sources};
 ghost use Rattle.command_end.specs.Printed.{TellsWhole, TookAll};
-ghost use Rattle.command_fund.specs.Inputs.{AsksInOrder, NoneBehind};
-ghost use Rattle.command_fund.specs.Jobs.{KeepsJobs};
-ghost use Rattle.command_fund.specs.Names.{plain_payment};
-ghost use Rattle.command_fund.specs.Statuses.{IsBeforeTheLog};
+ghost use Rattle.command_inputs.specs.Inputs.{AsksInOrder, NoneBehind};
+ghost use Rattle.command_inputs.specs.Jobs.{KeepsJobs};
+ghost use Rattle.command_inputs.specs.Names.{plain_payment};
+ghost use Rattle.command_inputs.specs.Results.{IsBeforeTheLog};
 ghost use Rattle.command_resume.specs.Endings.{CanBeLeft};
 ghost use Rattle.command_resume.specs.Leaving.{HasLeft};
 ghost use Rattle.command_resume.specs.Statuses.{Ends};
 
 use crate::answer::answer;
-use crate::resuming::{Ending, Left, go_on};
+use crate::resuming::{LoadedJob, go_on};
 use command_end::{Sources, Status, finish, put_report, refuse_keep, want_of_memory};
-use command_fund::Payment;
+use command_inputs::{Ending, Left, Payment};
 use fund_outside::{KeepFault, Keeper};
 use fund_shelf::{Shelf, Sink};
 use kept_job::keep;
@@ -25,7 +25,7 @@ use std::alloc::Global;
 fn leave<O: Sink, K: Keeper>(
     alloc: Global,
     job: &str,
-    left: &Left,
+    left: &Left<LoadedJob>,
     out: &mut O,
     keeper: &mut K,
 ) -> Status
@@ -37,7 +37,8 @@ fn leave<O: Sink, K: Keeper>(
     ensures unfailed { result ≢ Status.KeepFault → (K.view keeper.new).faults ≡ (K.view keeper.old).faults }
     ensures faults { (K.view keeper.old).faults ≤ (K.view keeper.new).faults }
 {
-    match keep(alloc, keeper, job, left.digest, &left.plan, left.behind) {
+    let loaded = &left.job;
+    match keep(alloc, keeper, job, loaded.digest, &left.plan, loaded.behind) {
         Ok(()) => put_report(&left.report, Status::Unfinished, out),
         Err(KeepFault::Failed) => refuse_keep(out),
         Err(KeepFault::Memory) => want_of_memory(out),

@@ -19,11 +19,11 @@ ghost use Rattle.kept_job.specs.Gone.{ClaimsNoneOn, ClaimsOn};
 ghost use Rattle.kept_job.specs.Kept.{IsKeptAt};
 ghost use Rattle.kept_job.specs.declared.fault.KeptFault.{KeptFault};
 ghost use Rattle.command_end.specs.Names.{Sources};
-ghost use Rattle.command_fund.specs.Digest.{digest_in};
-ghost use Rattle.command_fund.specs.Due as payments;
-ghost use Rattle.command_fund.specs.Due.{plan_of, planned, planned_after};
-ghost use Rattle.command_fund.specs.Inputs.{AreInputs};
-ghost use Rattle.command_fund.specs.Names.{Payment};
+ghost use Rattle.command_inputs.specs.Digest.{digest_in};
+ghost use Rattle.command_inputs.specs.Due as payments;
+ghost use Rattle.command_inputs.specs.Due.{plan_of, planned, planned_after};
+ghost use Rattle.command_inputs.specs.Inputs.{AreInputs};
+ghost use Rattle.command_inputs.specs.Names.{Payment};
 ghost use Rattle.command_resume.specs.Due.{ComesTo, IsGone, IsNotKept, Outcome};
 
 /// The law of stopped runs: where a job was left by an unfinished run of some files after n tries, they and the job come to

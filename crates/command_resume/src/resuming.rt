@@ -5,62 +5,35 @@ ghost use Rattle.fund_shelf.specs.Causes.{OnlyReads, Rose};
 ghost use Rattle.fund_files.specs.Chain.{IsHeld};
 ghost use Rattle.fund_files.specs.declared.refusal.File.{File};
 ghost use Rattle.command_end.specs.Names.{plain_sources};
-ghost use Rattle.command_fund.specs.Due.{bump_fault_in};
-ghost use Rattle.command_fund.specs.Inputs.{AsksInOrder, NoneBehind};
-ghost use Rattle.command_fund.specs.Names.{plain_payment};
-ghost use Rattle.command_fund.specs.Stops as payments;
+ghost use Rattle.command_inputs.specs.Due.{bump_fault_in};
+ghost use Rattle.command_inputs.specs.Inputs.{AsksInOrder, NoneBehind};
+ghost use Rattle.command_inputs.specs.Names.{plain_payment};
+ghost use Rattle.command_inputs.specs.Stops as payments;
 ghost use Rattle.kept_job.specs.Refused.{IsNotResumed};
 ghost use Rattle.command_resume.specs.Endings.{IsEnded};
 ghost use Rattle.command_resume.specs.Ready.{HasEnded, IsPlanned, IsReady};
-ghost use Rattle.command_resume.specs.Runs.{IsConcluded, IsRunOn};
 ghost use Rattle.command_resume.specs.Stops.{StopsFor};
 
 use crate::stop::Stop;
 use command_end::Sources;
-use command_fund::{
-    Inputs, Payment, Stop as FundStop, Texts, new_plan, none_texts, open_report, paid_texts,
-    read_inputs_with_digest,
+use command_inputs::{
+    Ending, Inputs, Payment, Stop as FundStop, ends, new_plan, read_inputs_with_digest,
 };
-use fund_base::Memory;
 use fund_files::Held;
 use fund_outside::Keeper;
-use fund_plan::{Outcome, Plan};
+use fund_plan::Plan;
 use fund_shelf::Shelf;
 use kept_job::{Behind, KeptFault, Resumed};
 use request_text::Request;
 use std::alloc::Global;
 
-/// A run that goes on: its report, its plan, which stands where the tries led, the digest of its job, and what is kept of its
-/// log already.
+/// What is known of the job from which a run went on.
 #[derive(Drop)]
-pub struct Left {
-    /// The bytes of the report, which says that tries are lacking.
-    pub report: Vec<u8>,
-    /// The plan.
-    pub plan: Plan,
+pub struct LoadedJob {
     /// The SHA-256 of what the job is made from.
     pub digest: [u8; 32],
     /// What is kept of its log already.
     pub behind: Behind,
-}
-
-/// How a request ends that isn't refused, nor is its job.
-#[derive(Drop)]
-pub enum Ending {
-    /// The tries are used up, and a search is open.
-    Unfinished(Left),
-    /// Nothing pays for what is asked.
-    NoSelection(Texts),
-    /// A payment, with its report.
-    Funded(Texts),
-}
-
-/// A plan that went on from the job of this digest, and what it came to.
-#[derive(Drop)]
-struct Run {
-    plan: Plan,
-    digest: [u8; 32],
-    resumed: Resumed,
 }
 
 /// The files of a command, read: what is asked, the plan of it, and the digest of its job.
@@ -70,47 +43,6 @@ struct Ready {
     request: Request,
     plan: Plan,
     digest: [u8; 32],
-}
-
-/// How the request ends after this run of its plan. The error is out of memory.
-fn ends(alloc: Global, held: &Held, request: &Request, run: Run) -> Result<Ending, Memory>
-    requires held { IsHeld held.now }
-    requires taken { bump_fault_in held.now request.now ≡ None }
-    requires run { IsRunOn held.now request.now run }
-    ensures { IfOk result (IsConcluded held.now request.now run) }
-{
-    let Run {
-        plan,
-        digest,
-        resumed,
-    } = run;
-    let Resumed {
-        outcome,
-        parts,
-        length,
-    } = resumed;
-    match outcome {
-        Outcome::Unfinished => {
-            let report = open_report(alloc, &plan)?;
-            let behind = Behind { parts, length };
-            Ok(Ending::Unfinished(Left {
-                report,
-                plan,
-                digest,
-                behind,
-            }))
-        }
-        Outcome::NoSelection => {
-            let texts = none_texts(alloc, &plan)?;
-            Ok(Ending::NoSelection(texts))
-        }
-        Outcome::Funded(funded) => {
-            // no book has a history with a fault
-            held.book.len();
-            let texts = paid_texts(alloc, held, request, &plan, &funded)?;
-            Ok(Ending::Funded(texts))
-        }
-    }
 }
 
 /// What is read of the files of a command: its request, with the plan, and the digest of its job, from the same bytes.
@@ -150,7 +82,7 @@ fn run_on<K: Keeper>(
     ready: Ready,
     keeper: &mut K,
     job: &str,
-) -> Result<Ending, KeptFault>
+) -> Result<Ending<LoadedJob>, KeptFault>
     requires held { IsHeld ready.held }
     requires taken { bump_fault_in ready.held ready.request ≡ None }
     requires plan { IsPlanned ready }
@@ -168,12 +100,18 @@ fn run_on<K: Keeper>(
         digest,
     } = ready;
     let resumed = kept_job::resume(alloc, &mut plan, keeper, job, &digest, request.tries)?;
-    let run = Run {
-        plan,
+    let Resumed {
+        outcome,
+        parts,
+        length,
+    } = resumed;
+    // no book has a history with a fault
+    held.book.len();
+    let loaded = LoadedJob {
         digest,
-        resumed,
+        behind: Behind { parts, length },
     };
-    let ending = ends(alloc, &held, &request, run)?;
+    let ending = ends(alloc, &held, &request, plan, outcome, loaded)?;
     Ok(ending)
 }
 
@@ -185,7 +123,7 @@ pub fn go_on<H: Shelf, K: Keeper>(
     job: &str,
     shelf: &mut H,
     keeper: &mut K,
-) -> Result<Ending, Stop>
+) -> Result<Ending<LoadedJob>, Stop>
     ensures ends { IfOk result (IsEnded H.tells K.tells (H.view shelf.old).files (plain_sources sources.now) (plain_payment payment.now) ((K.view keeper.old).jobs job.now)) }
     ensures frame { OnlyReads H.tells (H.view shelf.old) (H.view shelf.new) }
     ensures stop { IfErr result (StopsFor H.tells K.tells (plain_sources sources.now) (plain_payment payment.now) job.now (H.view shelf.old) (H.view shelf.new) (K.view keeper.old) (K.view keeper.new)) }

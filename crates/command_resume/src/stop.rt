@@ -1,6 +1,6 @@
 //! Why a job isn't gone on with.
 
-use command_fund::Stop as FundStop;
+use command_inputs::Stop as FundStop;
 use kept_job::KeptFault;
 
 /// Why the command stops before it writes or prints.

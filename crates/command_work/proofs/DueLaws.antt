@@ -8,11 +8,11 @@ use Rattle.wallet_text.specs.WalletRules.{AreDistinctEarlier}
 use Rattle.wallet_text.specs.WalletText.{earlier_txids, repeat_from}
 use Rattle.command_work.specs.Load.{earlier_of, request_of, wallet_of}
 use Rattle.command_end.specs.Names.{Sources}
-use Rattle.command_fund.proofs.DueLaws.{due_is, inputs_due}
-use Rattle.command_fund.specs.Cause.{Cause}
-use Rattle.command_fund.specs.Due as payments
-use Rattle.command_fund.specs.Inputs.{AreInputs}
-use Rattle.command_fund.specs.Names.{Payment}
+use Rattle.command_inputs.proofs.DueLaws.{due_is, inputs_due}
+use Rattle.command_inputs.specs.Cause.{Cause}
+use Rattle.command_inputs.specs.Due as payments
+use Rattle.command_inputs.specs.Inputs.{AreInputs}
+use Rattle.command_inputs.specs.Names.{Payment}
 use Rattle.command_work.specs.Due.{IsCollision, Outcome, Refused, by_repeat, due_of, load_of, load_plan, repeat_cause, run_of, summed}
 use Rattle.command_work.proofs.PlanLaws.{load_keeps}
 use Rattle.command_work.proofs.RepeatLaws.{distinct_where_none, none_found, repeat_first, repeat_found}

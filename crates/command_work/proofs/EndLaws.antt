@@ -8,12 +8,12 @@ use Rattle.command_end.specs.Lines.{GotLine, fault_line}
 use Rattle.command_end.specs.Printed.{IsPut, TellsWhole}
 use Rattle.command_end.specs.declared.status.Status.{Status}
 use Rattle.command_end.specs.declared.status.Status.TheVariants as statuses
-use Rattle.command_fund.proofs.Finished.{cause_untold}
-use Rattle.command_fund.specs.Cause.{cause_of, status_of_cause}
-use Rattle.command_fund.specs.Words.{refusal_words}
-use Rattle.command_fund.specs.declared.refusal.Refusal.{Refusal}
-use Rattle.command_fund.specs.declared.refusal.Stop.{Stop}
-use Rattle.command_fund.specs.declared.refusal.Stop.TheVariants as stops
+use Rattle.command_inputs.proofs.StopLaws.{cause_untold}
+use Rattle.command_inputs.specs.Cause.{cause_of, status_of_cause}
+use Rattle.command_inputs.specs.Words.{refusal_words}
+use Rattle.command_inputs.specs.declared.refusal.Refusal.{Refusal}
+use Rattle.command_inputs.specs.declared.refusal.Stop.{Stop}
+use Rattle.command_inputs.specs.declared.refusal.Stop.TheVariants as stops
 use Rattle.command_work.specs.Due.{IsCollision}
 use Rattle.command_work.specs.Statuses.{Ends, IsSummary}
 use Rattle.command_work.specs.Stops.{IsStopped, ReadsNone, StopsLoad}

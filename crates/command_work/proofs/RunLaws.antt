@@ -23,15 +23,15 @@ use Rattle.fund_files.specs.declared.stop.Stop.{Stop as FileStop}
 use Rattle.fund_files.specs.declared.stop.Stop.TheVariants as file_stops
 use Rattle.command_end.specs.declared.status.Status.{Status}
 use Rattle.command_end.specs.declared.status.Status.TheVariants as statuses
-use Rattle.command_fund.specs.Cause.{Cause, Files, Bump, Plan, cause_of}
-use Rattle.command_fund.specs.PlanEnds.{IsConcluded, IsOpen, IsPaid, IsUnpaid, MeansFault, StopsPlan}
-use Rattle.fund_steps.specs.Plan.{IsPlan}
-use Rattle.command_fund.specs.Stops.{lifted}
-use Rattle.command_fund.specs.declared.funding.Ending.{Ending}
-use Rattle.command_fund.specs.declared.refusal.Refusal.{Refusal}
-use Rattle.command_fund.specs.declared.refusal.Refusal.TheVariants as refusals
-use Rattle.command_fund.specs.declared.refusal.Stop.{Stop}
-use Rattle.command_fund.specs.declared.refusal.Stop.TheVariants as stops
+use Rattle.command_inputs.specs.Cause.{Cause, Files, Bump, Plan, cause_of}
+use Rattle.command_inputs.specs.PlanEnds.{IsConcluded, IsOpen, IsPaid, IsUnpaid, MeansFault, StopsPlan}
+use Rattle.fund_steps.specs.Plan.{IsEligible, IsPlan}
+use Rattle.command_inputs.specs.Stops.{lifted}
+use Rattle.command_inputs.specs.declared.funding.Ending.{Ending}
+use Rattle.command_inputs.specs.declared.refusal.Refusal.{Refusal}
+use Rattle.command_inputs.specs.declared.refusal.Refusal.TheVariants as refusals
+use Rattle.command_inputs.specs.declared.refusal.Stop.{Stop}
+use Rattle.command_inputs.specs.declared.refusal.Stop.TheVariants as stops
 use Rattle.command_work.specs.Due.{IsCollision, Summed, due_of, load_of, load_plan, summed}
 use Rattle.command_work.specs.Statuses.{IsFunded, IsNotFunded, IsSummary, IsUnfinished}
 use Rattle.command_work.specs.Stops.{IsRun, StopsLoad}
@@ -40,7 +40,6 @@ use Rattle.command_work.proofs.BookLaws.{load_sound}
 use Rattle.std.proofs.lemmas.List.Elements.{All-weaker}
 use Rattle.fund_steps.proofs.BumpLaws.{may_plain}
 use Rattle.fund_steps.specs.Listed.{MaySpend}
-use Rattle.fund_steps.specs.Plan.{IsEligible}
 use Rattle.command_work.proofs.DueLaws.{distinct_due}
 use Rattle.command_work.proofs.PlanLaws.{load_unrefused}
 
@@ -146,13 +145,13 @@ stops_at number count (stops.Refused refusal) some most distinct h = absurd (no_
 stops_at number count stops.Keep some most distinct h = absurd h
 stops_at number count stops.Memory some most distinct h = tt
 
-pub if_stops : (number count : ℕ) (k : Held) (r : PlainRequest) (result : Result Ending Stop) → 1 ≤ count → count ≤ 10_000 → AreDistinctEarlier (earlier_of number count) → k ≡ load_of number count → r ≡ request_of number count → IfErr result (StopsPlan k r) → IfErr result (StopsLoad number count)
+pub if_stops : (number count : ℕ) (k : Held) (r : PlainRequest) (result : Result (Ending (Unit {0})) Stop) → 1 ≤ count → count ≤ 10_000 → AreDistinctEarlier (earlier_of number count) → k ≡ load_of number count → r ≡ request_of number count → IfErr result (StopsPlan k r) → IfErr result (StopsLoad number count)
 if_stops number count k r (Ok e) some most distinct held asked h = tt
 if_stops number count k r (Err stop) some most distinct held asked h =
     stops_at number count stop some most distinct
     (subst (λ (x : PlainRequest). StopsPlan (load_of number count) x stop) asked (subst (λ (x : Held). StopsPlan x r stop) held h))
 
-pub if_ends : (number count : ℕ) (k : Held) (r : PlainRequest) (result : Result Ending Stop) → k ≡ load_of number count → r ≡ request_of number count → IfOk result (IsConcluded k r) → IfOk result (IsConcluded (load_of number count) (request_of number count))
+pub if_ends : (number count : ℕ) (k : Held) (r : PlainRequest) (result : Result (Ending (Unit {0})) Stop) → k ≡ load_of number count → r ≡ request_of number count → IfOk result (IsConcluded k r) → IfOk result (IsConcluded (load_of number count) (request_of number count))
 if_ends number count k r (Ok e) held asked h =
     subst (λ (x : PlainRequest). IsConcluded (load_of number count) x e) asked (subst (λ (x : Held). IsConcluded x r e) held h)
 if_ends number count k r (Err stop) held asked h = tt

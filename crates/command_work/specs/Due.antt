@@ -10,9 +10,9 @@ use Rattle.wallet_text.specs.declared.fault.Refusal.TheVariants as wallets
 use Rattle.command_work.specs.Load.{earlier_of, request_of, wallet_of}
 use Rattle.command_work.specs.Summary.{summary_text}
 use Rattle.command_end.specs.declared.status.Status.{Status}
-use Rattle.command_fund.specs.Cause.{Cause, Files}
-use Rattle.command_fund.specs.Due as payments
-use Rattle.command_fund.specs.Statuses as payment_ends
+use Rattle.command_inputs.specs.Cause.{Cause, Files}
+use Rattle.command_inputs.specs.Due as payments
+use Rattle.command_inputs.specs.Results as payment_ends
 
 -- ---- the run
 

@@ -20,10 +20,10 @@ use Rattle.command_work.specs.Summary.{summary_text}
 use Rattle.command_end.specs.Lines.{GotLine, fault_line}
 use Rattle.command_end.specs.declared.status.Status.{Status}
 use Rattle.command_end.specs.declared.status.Status.TheVariants as statuses
-use Rattle.command_fund.specs.Cause.{cause_of, status_of_cause}
-use Rattle.command_fund.specs.Due.{none_report_at, open_text}
-use Rattle.command_fund.specs.Words.{refusal_words}
-use Rattle.command_fund.specs.declared.refusal.Refusal.{Refusal}
+use Rattle.command_inputs.specs.Cause.{cause_of, status_of_cause}
+use Rattle.command_inputs.specs.Due.{none_report_at, open_text}
+use Rattle.command_inputs.specs.Words.{refusal_words}
+use Rattle.command_inputs.specs.declared.refusal.Refusal.{Refusal}
 use Rattle.command_work.specs.Due.{IsCollision, Outcome, Refused, Summed, due_of, load_of, load_plan}
 
 -- the status of what a workload comes to, where nothing fails

@@ -4,10 +4,10 @@ use Rattle.fund_shelf.specs.Causes.{SinkView}
 use Rattle.command_end.specs.AnswerLines.{IsAnswered, IsWanting}
 use Rattle.command_end.specs.declared.status.Status.{Status}
 use Rattle.command_end.specs.declared.status.Status.TheVariants as statuses
-use Rattle.command_fund.specs.Cause.{cause_of, status_of_cause}
-use Rattle.command_fund.specs.Words.{refusal_words}
-use Rattle.command_fund.specs.declared.refusal.Stop.{Stop}
-use Rattle.command_fund.specs.declared.refusal.Stop.TheVariants as stops
+use Rattle.command_inputs.specs.Cause.{cause_of, status_of_cause}
+use Rattle.command_inputs.specs.Words.{refusal_words}
+use Rattle.command_inputs.specs.declared.refusal.Stop.{Stop}
+use Rattle.command_inputs.specs.declared.refusal.Stop.TheVariants as stops
 use Rattle.command_work.specs.Due.{IsCollision}
 use Rattle.command_work.specs.Statuses.{IsSummary}
 use Rattle.command_work.specs.declared.running.Run.{Run}

@@ -9,7 +9,7 @@ ghost use Rattle.command_work.specs.Stops.{IsStopped, ReadsNone, stop_status, st
 
 use crate::running::run_load;
 use command_end::{Status, put_report, want_of_memory};
-use command_fund::{Stop, refuse};
+use command_inputs::{Stop, refuse};
 use fund_shelf::Sink;
 use std::alloc::Global;
 

@@ -11,12 +11,12 @@ ghost use Rattle.command_work.specs.Load.{earlier_of, request_of, wallet_of};
 ghost use Rattle.command_work.specs.Summary.{summary_text};
 ghost use Rattle.fund_payment.specs.Report.{report_of};
 ghost use Rattle.command_end.specs.declared.status.Status.TheVariants as statuses;
-ghost use Rattle.command_fund.specs.Cause.{Cause};
+ghost use Rattle.command_inputs.specs.Cause.{Cause};
 ghost use Rattle.command_end.specs.Names.{Sources};
-ghost use Rattle.command_fund.specs.Due as payments;
-ghost use Rattle.command_fund.specs.Due.{none_report_at, open_report_at};
-ghost use Rattle.command_fund.specs.Inputs.{AreInputs};
-ghost use Rattle.command_fund.specs.Names.{Payment};
+ghost use Rattle.command_inputs.specs.Due as payments;
+ghost use Rattle.command_inputs.specs.Due.{none_report_at, open_report_at};
+ghost use Rattle.command_inputs.specs.Inputs.{AreInputs};
+ghost use Rattle.command_inputs.specs.Names.{Payment};
 ghost use Rattle.command_work.specs.Due.{IsCollision, Refused, Summed, due_of, load_of, load_plan, summed};
 
 /// The law of what a workload of 1 to 10,000 coins comes to. Where two of its transactions have one txid, it comes to a

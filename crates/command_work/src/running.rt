@@ -4,14 +4,14 @@ ghost use Rattle.std.specs.Prelude.{◌≡◌, ◌≢◌, ◌≤◌, IfErr, IfOk
 ghost use Rattle.wallet_text.specs.WalletRules.{AreDistinctEarlier, IsWallet};
 ghost use Rattle.command_work.specs.Load.{earlier_of, request_of, wallet_of};
 ghost use Rattle.command_work.specs.Summary.{summary_text};
-ghost use Rattle.command_fund.specs.PlanEnds.{IsConcluded};
+ghost use Rattle.command_inputs.specs.PlanEnds.{IsConcluded};
 ghost use Rattle.command_work.specs.Due.{load_of};
 ghost use Rattle.command_work.specs.Stops.{IsRun, StopsLoad};
 
 use crate::load::Workload;
 use crate::summary::summarize;
 use command_end::Status;
-use command_fund::{Ending, Refusal, Stop, conclude};
+use command_inputs::{Ending, Refusal, Stop, conclude};
 use fund_base::Memory;
 use fund_files::{FileRefusal, hold};
 use std::alloc::Global;
@@ -56,7 +56,7 @@ fn load(alloc: Global, number: u64, count: u32) -> Result<Workload, Stop>
 
 /// How the payment ends that the workload's request asks for. A book holds the coins of each workload, and a plan is made
 /// of its request: so nothing is refused but the workload.
-fn conclude_load(alloc: Global, number: u64, count: u32) -> Result<Ending, Stop>
+fn conclude_load(alloc: Global, number: u64, count: u32) -> Result<Ending<()>, Stop>
     requires some { 1 ≤ count }
     requires most { count ≤ 10_000 }
     ensures ends { IfOk result (IsConcluded (load_of number count) (request_of number count)) }
@@ -84,7 +84,7 @@ fn with_status(
 }
 
 /// The summary and the status of a run that ended so. The error is out of memory.
-fn summed(alloc: Global, number: u64, count: u32, ending: &Ending) -> Result<Run, Memory>
+fn summed(alloc: Global, number: u64, count: u32, ending: &Ending<()>) -> Result<Run, Memory>
     requires distinct { AreDistinctEarlier (earlier_of number count) }
     requires ends { IsConcluded (load_of number count) (request_of number count) ending.now }
     ensures { IfOk result (IsRun number count) }

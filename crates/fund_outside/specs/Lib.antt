@@ -1,3 +1,4 @@
+pub mod JobName
 pub mod Jobs
 pub mod Kept
 pub mod MemKeeper

@@ -8,7 +8,7 @@ use Rattle.command_end.specs.declared.status.Status.TheVariants as statuses
 use Rattle.command_check.specs.Statuses as checks
 use Rattle.command_coins.specs.Statuses as listings
 use Rattle.command_desk.specs.Statuses as desks
-use Rattle.command_fund.specs.Names.{Payment}
+use Rattle.command_inputs.specs.Names.{Payment}
 use Rattle.command_fund.specs.Statuses as payments
 use Rattle.command_resume.specs.Statuses as resumes
 use Rattle.command_work.specs.Statuses as loads

@@ -18,11 +18,11 @@ use Rattle.fund_files.specs.declared.held.Held.{Held}
 use Rattle.command_desk.specs.Due as desks
 use Rattle.command_coins.proofs.ListingLaws as listings
 use Rattle.command_coins.specs.Due.{listing_in}
-use Rattle.command_fund.proofs.DueLaws as payments
-use Rattle.command_fund.specs.Cause.{Cause, Files, Bump, Plan}
-use Rattle.command_fund.specs.Due.{by_answer, plan_of}
-use Rattle.command_fund.specs.Inputs.{AreInputs}
-use Rattle.command_fund.specs.Names.{Payment}
+use Rattle.command_inputs.proofs.DueLaws as payments
+use Rattle.command_inputs.specs.Cause.{Cause, Files, Bump, Plan}
+use Rattle.command_inputs.specs.Due.{by_answer, plan_of}
+use Rattle.command_inputs.specs.Inputs.{AreInputs}
+use Rattle.command_inputs.specs.Names.{Payment}
 use Rattle.wallet_text.specs.WalletRules.{AreDistinctEarlier}
 use Rattle.command_work.specs.Load.{earlier_of, request_of}
 use Rattle.command_resume.proofs.OneLaws as jobs_of

@@ -14,10 +14,11 @@ use Rattle.command_desk.proofs.DueLaws as desk_laws
 use Rattle.command_desk.specs.Due as desk_files
 use Rattle.command_coins.specs.Due as listing_files
 use Rattle.command_coins.specs.Statuses as listings
-use Rattle.command_fund.specs.Cause.{Cause, Files, cause_of, status_of_cause}
-use Rattle.command_fund.specs.Due as payment_files
-use Rattle.command_fund.specs.Names.{Payment}
+use Rattle.command_inputs.specs.Cause.{Cause, Files, cause_of, status_of_cause}
+use Rattle.command_inputs.specs.Due as payment_files
+use Rattle.command_inputs.specs.Names.{Payment}
 use Rattle.command_fund.specs.Statuses as payments
+use Rattle.command_inputs.specs.Results as payment_results
 use Rattle.command_fund.proofs.Finished.{log_lost, report_due}
 use Rattle.command_resume.specs.Due as resume_files
 use Rattle.command_resume.proofs.EndsLaws.{gone_not, resume_complete, resume_refused}
@@ -105,7 +106,7 @@ payment_complete told_files told told_jobs s p job shelf shelf' sink sink' keepe
 payment_complete told_files told told_jobs s p job shelf shelf' sink sink' keeper keeper' statuses.CheckRefused h t none = absurd h
 
 -- the status of what a job comes to
-same_payment : (due : payment_files.Outcome) → payments.status_of due ≡ status_of (payment_outcome due)
+same_payment : (due : payment_files.Outcome) → payment_results.status_of due ≡ status_of (payment_outcome due)
 same_payment (payment_files.Refused cause) = refl
 same_payment (payment_files.Unfinished report) = refl
 same_payment (payment_files.NoSelection report log) = refl

@@ -12,12 +12,12 @@ use Rattle.wallet_text.specs.PlainWallet.{PlainWallet}
 use Rattle.command_end.specs.Names.{Sources}
 use Rattle.command_end.specs.declared.status.Status.{Status}
 use Rattle.command_end.specs.declared.status.Status.TheVariants as statuses
-use Rattle.command_fund.specs.Cause.{cause_of}
-use Rattle.command_fund.specs.Digest.{digest_in}
-use Rattle.command_fund.specs.Due.{plan_of, planned_after}
-use Rattle.command_fund.specs.Due as dues
-use Rattle.command_fund.specs.Inputs.{AreInputs}
-use Rattle.command_fund.specs.Names.{Payment}
+use Rattle.command_inputs.specs.Cause.{cause_of}
+use Rattle.command_inputs.specs.Digest.{digest_in}
+use Rattle.command_inputs.specs.Due.{plan_of, planned_after}
+use Rattle.command_inputs.specs.Due as dues
+use Rattle.command_inputs.specs.Inputs.{AreInputs}
+use Rattle.command_inputs.specs.Names.{Payment}
 use Rattle.command_resume.proofs.OneLaws.{by_reading, ready_not_refused}
 use Rattle.command_resume.proofs.RefusedLaws.{kept_limit, kept_not_saved}
 use Rattle.command_resume.specs.Statuses as resumes

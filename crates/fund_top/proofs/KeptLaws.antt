@@ -10,10 +10,10 @@ use Rattle.kept_job.specs.declared.fault.KeptFault.{KeptFault}
 use Rattle.command_end.specs.Names.{Sources}
 use Rattle.command_end.specs.declared.status.Status.{Status}
 use Rattle.command_end.specs.declared.status.Status.TheVariants as statuses
-use Rattle.command_fund.specs.Cause.{cause_of}
-use Rattle.command_fund.specs.Inputs.{IsUnread}
-use Rattle.command_fund.specs.Names.{Payment}
-use Rattle.command_fund.specs.Statuses as payments
+use Rattle.command_inputs.specs.Cause.{cause_of}
+use Rattle.command_inputs.specs.Inputs.{IsUnread}
+use Rattle.command_inputs.specs.Names.{Payment}
+use Rattle.command_inputs.specs.Results as payments
 use Rattle.command_resume.proofs.EndsLaws.{gone_there}
 use Rattle.command_resume.proofs.OneLaws.{gone_not_kept, one_fault, ready_not_refused}
 use Rattle.command_resume.specs.Due.{IsNotKept}

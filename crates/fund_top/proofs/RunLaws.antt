@@ -7,9 +7,9 @@ use Rattle.command_desk.specs.Statuses as desks
 use Rattle.command_end.specs.Lines.{GotLine, fault_line}
 use Rattle.command_end.specs.declared.status.Status.{Status}
 use Rattle.command_end.specs.declared.status.Status.TheVariants as statuses
-use Rattle.command_fund.specs.Jobs.{KeepsJobs}
+use Rattle.command_inputs.specs.Jobs.{KeepsJobs}
 use Rattle.command_fund.specs.Statuses as payments
-use Rattle.command_fund.specs.Statuses.{IsBeforeTheLog}
+use Rattle.command_inputs.specs.Results.{IsBeforeTheLog}
 use Rattle.command_resume.specs.Statuses as resumes
 use Rattle.command_work.specs.Statuses as loads
 use Rattle.fund_top.specs.Asked.{AsksFor}

@@ -9,11 +9,11 @@ use Rattle.fund_outside.specs.Kept.{KeeperView}
 use Rattle.command_check.specs.Evidence.{evidence_name}
 use Rattle.command_check.specs.Statuses as checks
 use Rattle.command_coins.specs.Statuses as listings
-use Rattle.command_fund.specs.Inputs as inputs
-use Rattle.command_fund.specs.Inputs.{name_of}
+use Rattle.command_inputs.specs.Inputs as inputs
+use Rattle.command_inputs.specs.Inputs.{name_of}
 use Rattle.command_fund.specs.Statuses as payments
 use Rattle.command_end.specs.Names.{Sources}
-use Rattle.command_fund.specs.Names.{Payment}
+use Rattle.command_inputs.specs.Names.{Payment}
 use Rattle.command_end.specs.declared.status.Status.TheVariants as statuses
 use Rattle.desk_machine.specs.State.{PlainDesk}
 use Rattle.command_desk.specs.Script.{lines_of}

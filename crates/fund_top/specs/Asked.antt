@@ -6,15 +6,16 @@ use Rattle.fund_files.specs.FileStops.{IsWalletCause}
 use Rattle.fund_steps.specs.Plan.{PlainPlan}
 use Rattle.command_check.specs.Asked as checks
 use Rattle.command_check.specs.Evidence.{HasLoggedReport, HavePlan}
-use Rattle.command_fund.specs.Inputs.{AsksInOrder, NoneBehind}
+use Rattle.command_inputs.specs.Inputs.{AsksInOrder, NoneBehind}
 use Rattle.command_desk.specs.Script.{lines_of}
 use Rattle.command_desk.specs.Asked as desks
 use Rattle.fund_top.specs.Words.{Command, Coins, Fund, Resume, Check, Work, Desk}
 
 -- The files that its words name are asked for, one after the other, each as often as its reading takes, and no other name is.
--- The log of a payment isn't: it is written. A job asks for no file once more: its digest is that of the bytes that were read.
--- Behind a file that is refused none is asked for. A check asks for its log only beside a report that has one, and for neither report nor log where the payment is refused. A desk asks for its script,
--- and then for the files that the lines of it name.
+-- The log of a payment isn't: it is written. A job asks for no file once more: its digest is that of the bytes that were
+-- read. Behind a file that is refused none is asked for. A check asks for its log only beside a report that has one, and for
+-- neither report nor log where the payment is refused. A desk asks for its script, and then for the files that the lines of it
+-- name.
 abbrev pub AsksFor : Command → ShelfView → ShelfView → Type 0
 AsksFor (Coins s) shelf shelf' =
     Asks (s.wallet ∷ s.blocks ∷ []) shelf.asked shelf'.asked

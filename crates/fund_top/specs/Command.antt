@@ -1,6 +1,6 @@
 -- A command as its names.
 use Rattle.command_end.specs.Names.{plain_sources}
-use Rattle.command_fund.specs.Names.{plain_job, plain_payment}
+use Rattle.command_inputs.specs.Names.{plain_job, plain_payment}
 use Rattle.fund_top.specs.Words as words
 use Rattle.fund_top.specs.declared.words.Command.{Command}
 use Rattle.fund_top.specs.declared.words.Command.TheVariants.{Coins, Fund, Resume, Check, Work, Desk}

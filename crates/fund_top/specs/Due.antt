@@ -10,9 +10,9 @@ use Rattle.command_check.specs.Due as checks
 use Rattle.command_check.specs.declared.stop.Evidence.{Evidence}
 use Rattle.command_coins.specs.Due as listings
 use Rattle.command_desk.specs.Due as desks
-use Rattle.command_fund.specs.Cause.{Cause, Files, Bump, Plan}
-use Rattle.command_fund.specs.Due as payments
-use Rattle.command_fund.specs.Meant as payment_causes
+use Rattle.command_inputs.specs.Cause.{Cause, Files, Bump, Plan}
+use Rattle.command_inputs.specs.Due as payments
+use Rattle.command_inputs.specs.Meant as payment_causes
 use Rattle.command_resume.specs.Due as resumes
 use Rattle.command_work.specs.Due as loads
 use Rattle.command_end.specs.declared.status.Status.{Status}

@@ -6,10 +6,10 @@ use Rattle.fund_outside.specs.Kept.{KeeperView}
 use Rattle.command_end.specs.Names.{Sources}
 use Rattle.command_check.specs.Statuses.{IsVouched}
 use Rattle.command_coins.specs.Statuses.{IsListed}
-use Rattle.command_fund.specs.Due.{plan_of}
+use Rattle.command_inputs.specs.Due.{plan_of}
 use Rattle.command_fund.specs.Jobs.{IsLeft}
-use Rattle.command_fund.specs.Names.{Payment}
-use Rattle.command_fund.specs.Statuses.{IsFunded, IsNotFunded, IsUnfinished}
+use Rattle.command_inputs.specs.Names.{Payment}
+use Rattle.command_inputs.specs.Results.{IsFunded, IsNotFunded, IsUnfinished}
 use Rattle.command_end.specs.declared.status.Status.{Status}
 use Rattle.command_end.specs.declared.status.Status.TheVariants as statuses
 use Rattle.command_resume.specs.Resumed as resumed

@@ -7,8 +7,9 @@ use Rattle.command_end.specs.declared.status.Status.TheVariants as statuses
 use Rattle.command_check.specs.Statuses.{EndsAccepted}
 use Rattle.command_coins.specs.Statuses.{EndsListed}
 use Rattle.command_desk.specs.Statuses.{EndsRunning}
-use Rattle.command_fund.specs.Jobs.{KeepsJobs}
-use Rattle.command_fund.specs.Statuses.{EndsFunded, IsBeforeTheLog}
+use Rattle.command_inputs.specs.Jobs.{KeepsJobs}
+use Rattle.command_fund.specs.Statuses.{EndsFunded}
+use Rattle.command_inputs.specs.Results.{IsBeforeTheLog}
 use Rattle.command_resume.specs.Statuses.{EndsFunded as EndsResumed}
 use Rattle.command_work.specs.Statuses.{EndsSummed}
 use Rattle.fund_top.specs.Asked.{AsksFor}
@@ -91,8 +92,8 @@ pub record LeavesOthers (v : Outside) (words : Option Command) (status : Status)
 
 -- What is read.
 pub record ReadsInOrder (v : Outside) (words : Option Command) : Type 0 where
-  -- Only the files that the words name are read, in their order, each once, with a job and without; the log of a payment never, and
-  -- behind a file that is refused none.
+  -- Only the files that the words name are read, in their order, and none again behind another, with a job and without; the log
+  -- of a payment never, and behind a file that is refused none.
   pub asked : v.tells_files → IfSome words (λ c. AsksFor c v.shelf v.shelf')
   -- A workload is summed up without files: none is asked for or touched.
   pub apart : WhereWorking words (λ number count. v.shelf' ≡ v.shelf)

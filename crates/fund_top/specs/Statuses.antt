@@ -20,14 +20,15 @@ use Rattle.command_coins.specs.Statuses as listings
 use Rattle.command_desk.specs.Due as desk_dues
 use Rattle.command_desk.specs.Endings as desk_endings
 use Rattle.command_desk.specs.Statuses as desks
-use Rattle.command_fund.specs.Cause.{status_of_cause}
-use Rattle.command_fund.specs.Digest.{digest_in}
-use Rattle.command_fund.specs.Due.{plan_of, planned_after}
-use Rattle.command_fund.specs.Due as dues
-use Rattle.command_fund.specs.Inputs as inputs
-use Rattle.command_fund.specs.Inputs.{AreInputs}
-use Rattle.command_fund.specs.Names.{Payment}
+use Rattle.command_inputs.specs.Cause.{status_of_cause}
+use Rattle.command_inputs.specs.Digest.{digest_in}
+use Rattle.command_inputs.specs.Due.{plan_of, planned_after}
+use Rattle.command_inputs.specs.Due as dues
+use Rattle.command_inputs.specs.Inputs as inputs
+use Rattle.command_inputs.specs.Inputs.{AreInputs}
+use Rattle.command_inputs.specs.Names.{Payment}
 use Rattle.command_fund.specs.Statuses as payments
+use Rattle.command_inputs.specs.Results as payment_results
 use Rattle.command_resume.specs.Statuses as resumes
 use Rattle.command_resume.specs.Words.{kept_status}
 use Rattle.command_work.specs.Statuses as loads
@@ -149,16 +150,16 @@ EndsUnfinished told_files told told_jobs (Desk s script) shelf shelf' sink sink'
 -- a rule of the input that a file breaks, or what it asks for, with its line
 abbrev pub EndsInput : Type 0 → Type 0 → Command → ShelfView → SinkView → SinkView → Type 0
 EndsInput told_files told (Coins s) shelf sink sink' = listings.EndsRefused statuses.Input told_files told s shelf sink sink'
-EndsInput told_files told (Fund s p job) shelf sink sink' = payments.EndsRefused statuses.Input told_files told s p shelf sink sink'
-EndsInput told_files told (Resume s p job) shelf sink sink' = payments.EndsRefused statuses.Input told_files told s p shelf sink sink'
-EndsInput told_files told (Check s p report) shelf sink sink' = payments.EndsRefused statuses.Input told_files told s p shelf sink sink'
+EndsInput told_files told (Fund s p job) shelf sink sink' = payment_results.EndsRefused statuses.Input told_files told s p shelf sink sink'
+EndsInput told_files told (Resume s p job) shelf sink sink' = payment_results.EndsRefused statuses.Input told_files told s p shelf sink sink'
+EndsInput told_files told (Check s p report) shelf sink sink' = payment_results.EndsRefused statuses.Input told_files told s p shelf sink sink'
 EndsInput told_files told (Work number count) shelf sink sink' = loads.EndsRefused statuses.Input told number count sink sink'
 EndsInput told_files told (Desk s script) shelf sink sink' = desk_endings.EndsRefused statuses.Input told_files told s shelf sink sink'
 
 -- a limit: of a file, of one that is judged or that a line of a script names too or, where a job is gone on with, of the job
 abbrev pub EndsLimited : Type 0 → Type 0 → Type 0 → Command → ShelfView → ShelfView → SinkView → SinkView → KeeperView → Type 0
 EndsLimited told_files told told_jobs (Coins s) shelf shelf' sink sink' keeper = listings.EndsRefused statuses.Limit told_files told s shelf sink sink'
-EndsLimited told_files told told_jobs (Fund s p job) shelf shelf' sink sink' keeper = payments.EndsRefused statuses.Limit told_files told s p shelf sink sink'
+EndsLimited told_files told told_jobs (Fund s p job) shelf shelf' sink sink' keeper = payment_results.EndsRefused statuses.Limit told_files told s p shelf sink sink'
 EndsLimited told_files told told_jobs (Resume s p job) shelf shelf' sink sink' keeper = resumes.EndsLimited told_files told told_jobs s p job shelf sink sink' keeper
 EndsLimited told_files told told_jobs (Check s p report) shelf shelf' sink sink' keeper = checks.EndsLimited told_files told s p report shelf sink sink'
 EndsLimited told_files told told_jobs (Work number count) shelf shelf' sink sink' keeper = loads.EndsRefused statuses.Limit told number count sink sink'
@@ -185,8 +186,8 @@ EndsBroken told_files told (Desk s script) shelf sink sink' = ⊥
 -- a file of the command wasn't read, those before it being in order, and the line names it
 abbrev pub EndsUnread : Type 0 → Type 0 → Command → ShelfView → ShelfView → SinkView → SinkView → Type 0
 EndsUnread told_files told (Coins s) shelf shelf' sink sink' = listings.EndsUnread told_files told s shelf shelf' sink sink'
-EndsUnread told_files told (Fund s p job) shelf shelf' sink sink' = payments.EndsUnread told_files told s p shelf shelf' sink sink'
-EndsUnread told_files told (Resume s p job) shelf shelf' sink sink' = payments.EndsUnread told_files told s p shelf shelf' sink sink'
+EndsUnread told_files told (Fund s p job) shelf shelf' sink sink' = payment_results.EndsUnread told_files told s p shelf shelf' sink sink'
+EndsUnread told_files told (Resume s p job) shelf shelf' sink sink' = payment_results.EndsUnread told_files told s p shelf shelf' sink sink'
 EndsUnread told_files told (Check s p report) shelf shelf' sink sink' = checks.EndsUnread told_files told s p report shelf shelf' sink sink'
 EndsUnread told_files told (Work number count) shelf shelf' sink sink' = ⊥
 EndsUnread told_files told (Desk s script) shelf shelf' sink sink' = desks.Ends told_files told s script shelf shelf' sink sink' statuses.ReadFault

@@ -11,9 +11,9 @@ use Rattle.fund_steps.specs.Plan.{IsPlan, PlainPlan}
 use Rattle.fund_files.specs.Chain.{held_of, history_of}
 use Rattle.fund_payment.specs.Report.{report_of}
 use Rattle.command_end.specs.Names.{Sources}
-use Rattle.command_fund.specs.Due.{log_text_at, plan_of}
-use Rattle.command_fund.specs.Inputs.{AreInputs}
-use Rattle.command_fund.specs.Names.{Payment}
+use Rattle.command_inputs.specs.Due.{log_text_at, plan_of}
+use Rattle.command_inputs.specs.Inputs.{AreInputs}
+use Rattle.command_inputs.specs.Names.{Payment}
 use Rattle.command_work.specs.Due.{load_of, load_plan}
 use Rattle.command_work.specs.Load.{earlier_of, request_of, wallet_of}
 

@@ -1,10 +1,10 @@
 -- The words of the command line.
 use Rattle.std.specs.Prelude.{ℕ, ◌≤◌, not, ◌&&◌, ◌||◌, ◌==◌, nat_le, nat_lt, List, [], ◌∷◌, length, String, string_bytes, bytes_eq, codes, Bool, Option, Some, None, if◌then◌else◌}
-use Rattle.std.specs.List.{list_all}
 use Rattle.std.specs.declared.alloc.Global.{Global}
 use Rattle.fund_base.specs.Decimal.{number_of}
+use Rattle.fund_outside.specs.JobName.{is_job_name}
 use Rattle.command_end.specs.Names.{Sources}
-use Rattle.command_fund.specs.Names.{Payment}
+use Rattle.command_inputs.specs.Names.{Payment}
 
 -- to list payments and coins; to fund a payment, with a job to keep it as where it isn't finished; to go on with a job; to
 -- check the report of a payment; to fund one from a workload; or to run a script at a desk
@@ -30,14 +30,6 @@ names_stand s p =
 -- no name is empty
 abbrev pub are_judged : Sources → Payment → (report : List ℕ) → Bool
 are_judged s p report = are_named s && (nat_lt 0 (length p.request) && (nat_lt 0 (length report) && nat_lt 0 (length p.log)))
-
--- a digit, a letter or a hyphen of ASCII
-abbrev pub is_job_byte : ℕ → Bool
-is_job_byte b = (b == 45) || (((nat_le 48 b) && (nat_le b 57)) || (((nat_le 65 b) && (nat_le b 90)) || ((nat_le 97 b) && (nat_le b 122))))
-
--- the name of a job: 1 to 32 of these
-abbrev pub is_job : List ℕ → Bool
-is_job name = nat_lt 0 (length name) && (nat_le (length name) 32 && list_all is_job_byte name)
 
 -- a command, where its names stand
 abbrev pub where_stands : Bool → Command → Option Command
@@ -93,8 +85,8 @@ IsInRange (Desk s script) = Unit {0}
 abbrev pub job_command : Sources → Payment → (verb job : List ℕ) → Option Command
 job_command s p verb job =
     if bytes_eq verb (codes "fund")
-    then where_stands (names_stand s p && is_job job) (Fund s p (Some job))
-    else (if bytes_eq verb (codes "resume") then where_stands (names_stand s p && is_job job) (Resume s p job) else None)
+    then where_stands (names_stand s p && is_job_name job) (Fund s p (Some job))
+    else (if bytes_eq verb (codes "resume") then where_stands (names_stand s p && is_job_name job) (Resume s p job) else None)
 
 -- the command that the words are: coins WALLET BLOCKS, work NUMBER COUNT, desk WALLET BLOCKS SCRIPT, fund WALLET BLOCKS
 -- REQUEST LOG, with or without a JOB, resume WALLET BLOCKS REQUEST LOG JOB, or check WALLET BLOCKS REQUEST REPORT LOG

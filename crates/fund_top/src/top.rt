@@ -2,8 +2,8 @@
 
 ghost use Rattle.std.specs.Prelude.{◌≡◌, ◌≢◌, Some};
 ghost use Rattle.command_end.specs.Printed.{TellsWhole, TookAll};
-ghost use Rattle.command_fund.specs.Jobs.{KeepsJobs};
-ghost use Rattle.command_fund.specs.Statuses.{IsBeforeTheLog};
+ghost use Rattle.command_inputs.specs.Jobs.{KeepsJobs};
+ghost use Rattle.command_inputs.specs.Results.{IsBeforeTheLog};
 ghost use Rattle.fund_top.specs.Asked.{AsksFor};
 ghost use Rattle.fund_top.specs.Command.{plain};
 ghost use Rattle.fund_top.specs.Outside.{outside};
@@ -106,7 +106,7 @@ pub fn run<H: Shelf, O: Sink, K: Keeper>(
     // What stays: the files but the log, and the jobs but the one that is named.
     ensures stays { LeavesOthers (outside H.tells O.tells K.tells (H.view shelf.old) (H.view shelf.new) (O.view out.old) (O.view out.new) (K.view keeper.old) (K.view keeper.new)) (command_of words.now.items) result }
 
-    // What is read: the files that are named, in their order, each once.
+    // What is read: the files that are named, in their order, and none again behind another.
     ensures reads { ReadsInOrder (outside H.tells O.tells K.tells (H.view shelf.old) (H.view shelf.new) (O.view out.old) (O.view out.new) (K.view keeper.old) (K.view keeper.new)) (command_of words.now.items) }
 
     // Going on with a job gives the answer of a run without a stop.

@@ -1,15 +1,15 @@
 //! The words of the command line.
 
 ghost use Rattle.std.specs.Prelude.{◌≡◌, IfSome, option_map};
-ghost use Rattle.std.specs.List.{list_all};
 ghost use Rattle.command_end.specs.Names.{plain_sources};
-ghost use Rattle.command_fund.specs.Names.{plain_payment};
+ghost use Rattle.command_inputs.specs.Names.{plain_payment};
 ghost use Rattle.fund_top.specs.Command.{plain};
-ghost use Rattle.fund_top.specs.Words.{IsInRange, are_judged, are_named, check_of, command_of, desk_of, is_job, is_job_byte, job_command, listing_of, names_stand, payment_of, work_of};
+ghost use Rattle.fund_top.specs.Words.{IsInRange, are_judged, are_named, check_of, command_of, desk_of, job_command, listing_of, names_stand, payment_of, work_of};
 
 use command_end::Sources;
-use command_fund::Payment;
+use command_inputs::Payment;
 use fund_base::read_decimal;
+use fund_outside::is_job_name;
 
 /// What is to be done.
 #[derive(Clone, Copy)]
@@ -52,24 +52,6 @@ fn names_stand(sources: &Sources, payment: &Payment) -> bool
     are_named(sources) && (named && apart)
 }
 
-/// Whether each byte may stand in the name of a job: it is a digit, a letter or a hyphen of ASCII.
-fn are_job_bytes(name: &[u8]) -> bool
-    ensures { result ≡ list_all is_job_byte name.now }
-{
-    name.iter().all(|byte| {
-        *byte == 45
-            || ((48 <= *byte && *byte <= 57)
-                || ((65 <= *byte && *byte <= 90) || (97 <= *byte && *byte <= 122)))
-    })
-}
-
-/// Whether this is the name of a job: 1 to 32 digits, letters and hyphens.
-fn is_job(name: &str) -> bool
-    ensures { result ≡ is_job name.now }
-{
-    !name.is_empty() && (name.len() <= 32 && are_job_bytes(name.as_bytes()))
-}
-
 /// The command of these names and this verb, which is `fund` or `resume`, with a job.
 fn job_command<'a>(
     sources: Sources<'a>,
@@ -80,7 +62,7 @@ fn job_command<'a>(
     ensures command { option_map plain result ≡ job_command (plain_sources sources.entry) (plain_payment payment.entry) verb.now job.now }
     ensures range { IfSome result (λ c. IsInRange (plain c)) }
 {
-    let stands = names_stand(&sources, &payment) && is_job(job);
+    let stands = names_stand(&sources, &payment) && is_job_name(job.as_bytes());
     if verb == "fund" {
         if stands {
             Some(Command::Fund(sources, payment, Some(job)))

@@ -5,9 +5,9 @@ use Rattle.command_complete.specs.Words.{input_fault_words}
 use Rattle.command_complete.specs.declared.stop.Refusal as completions
 use Rattle.command_complete.specs.declared.stop.Refusal.TheVariants as incomplete
 use Rattle.command_end.specs.Lines.{fault_line, file_refusal_words}
-use Rattle.command_fund.specs.Words as funding
-use Rattle.command_fund.specs.declared.refusal.Refusal as payments
-use Rattle.command_fund.specs.declared.refusal.Refusal.TheVariants as unpaid
+use Rattle.command_inputs.specs.Words as funding
+use Rattle.command_inputs.specs.declared.refusal.Refusal as payments
+use Rattle.command_inputs.specs.declared.refusal.Refusal.TheVariants as unpaid
 use Rattle.fault_lines.specs.Lines.{input_line, limit_line, line_sentence, psbt_line, psbt_rest, words_sentence}
 use Rattle.fault_lines.proofs.LineLaws.{blocks_told, bump_told, plan_told, psbt_told, request_told, wallet_told}
 use Rattle.fault_lines.specs.Sentences.{psbt_sentence}

@@ -4,8 +4,8 @@ use Rattle.command_check.specs.declared.stop.Evidence.{Evidence}
 use Rattle.command_check.specs.declared.stop.Evidence.TheVariants as proofs
 use Rattle.command_complete.specs.declared.stop.Refusal as completions
 use Rattle.command_complete.specs.declared.stop.Refusal.TheVariants as incomplete
-use Rattle.command_fund.specs.declared.refusal.Refusal as payments
-use Rattle.command_fund.specs.declared.refusal.Refusal.TheVariants as unpaid
+use Rattle.command_inputs.specs.declared.refusal.Refusal as payments
+use Rattle.command_inputs.specs.declared.refusal.Refusal.TheVariants as unpaid
 use Rattle.fault_laws.specs.Numbers.{HasRequestNumbers, HasWalletNumbers}
 use Rattle.fault_lines.specs.Sentences.{blocks_sentence, bump_sentence, missing_sentence, other_output_sentence, other_pairs_sentence, plan_sentence, psbt_sentence, request_sentence, stop_sentence, wallet_sentence}
 use Rattle.fault_lines.specs.declared.stop.Stop.TheVariants as stops

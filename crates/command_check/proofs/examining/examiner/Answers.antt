@@ -1,6 +1,6 @@
 use Rattle.std.proofs.lemmas.Result.{err_from_is_err_and}
 use Rattle.command_end.specs.Names.{plain_sources}
-use Rattle.command_fund.specs.Names.{plain_payment}
+use Rattle.command_inputs.specs.Names.{plain_payment}
 use Rattle.command_check.proofs.MadeLaws.{if_made, if_not_made}
 use Rattle.command_check.proofs.examining.examiner.Goals as goal
 

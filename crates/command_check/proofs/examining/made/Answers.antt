@@ -2,10 +2,10 @@ use Rattle.std.proofs.Common.{◌≡◌, ◌∙◌, ap, subst}
 use Rattle.std.proofs.lemmas.Result.{err_from_is_err_and}
 use Rattle.fund_steps.specs.Plan.{IsPlan, PlainPlan}
 use Rattle.wallet_text.specs.PlainWallet.{PlainWallet}
-use Rattle.command_fund.proofs.PlanLaws.{plan_stops_at, same_plan}
-use Rattle.command_fund.proofs.ReplaceLaws.{replaces_paid}
-use Rattle.command_fund.specs.Due.{plan_of}
-use Rattle.command_fund.specs.Replacing.{PaysTheBurden}
+use Rattle.command_inputs.proofs.PlanLaws.{plan_stops_at, same_plan}
+use Rattle.command_inputs.proofs.ReplaceLaws.{replaces_paid}
+use Rattle.command_inputs.specs.Due.{plan_of}
+use Rattle.command_inputs.specs.Replacing.{PaysTheBurden}
 use Rattle.command_check.proofs.examining.made.Goals as goal
 
 pub returns-in_err-examiner-clause-stop : goal.returns-in_err-examiner-clause-stop

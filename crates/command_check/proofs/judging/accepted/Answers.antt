@@ -2,8 +2,8 @@ use Rattle.std.proofs.Common.{◌∙◌}
 use Rattle.std.proofs.lemmas.Result.{err_from_is_err_and}
 use Rattle.fund_files.proofs.FrameLaws.{only_reads_on}
 use Rattle.command_end.specs.Names.{plain_sources}
-use Rattle.command_fund.proofs.InputLaws.{inputs_behind}
-use Rattle.command_fund.specs.Names.{plain_payment}
+use Rattle.command_inputs.proofs.InputLaws.{inputs_behind}
+use Rattle.command_inputs.specs.Names.{plain_payment}
 use Rattle.command_check.proofs.AskedLaws.{both_asked, payment_asked, payment_no_log, report_asked}
 use Rattle.command_check.proofs.StopLaws.{evidence_stops, if_judging_stops, if_vouched, no_plan, not_logged}
 use Rattle.command_check.proofs.judging.accepted.Goals as goal

@@ -4,7 +4,7 @@ use Rattle.command_complete.proofs.AskingLaws.{chain_tells}
 use Rattle.command_complete.proofs.answer.answer.Goals as goal
 
 pub returns-in-Chain-clause-read : goal.returns-in-Chain-clause-read
-returns-in-Chain-clause-read g c = rw c.in-Chain.is (chain_tells c.in-Chain.stop (c.answer.result ≡ statuses.ReadFault) c.answer.ensures.read)
+returns-in-Chain-clause-read g c = rw c.in-Chain.is (chain_tells c.in-Chain.stop (c.refuse_chain.result ≡ statuses.ReadFault) c.refuse_chain.ensures.read)
 
 pub returns-in-Read-clause-line : goal.returns-in-Read-clause-line
 returns-in-Read-clause-line g c = rw c.in-Read.is c.refuse_read.ensures.line

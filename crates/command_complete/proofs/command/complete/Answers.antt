@@ -1,23 +1,60 @@
+use Rattle.command_end.proofs.ChainLaws.{printed_read}
+use Rattle.command_complete.proofs.AskingLaws.{stop_asks}
+use Rattle.command_complete.proofs.EndsLaws.{printed_ends, stop_ends, stop_untold}
+use Rattle.command_end.proofs.WholeLaws.{put_whole}
 use Rattle.command_end.specs.Names.{plain_sources}
 use Rattle.command_complete.proofs.EndsLaws.{ends_complete, ends_refused}
 use Rattle.command_complete.proofs.command.complete.Goals as goal
 
-pub returns-clause-refused : goal.returns-clause-refused
-returns-clause-refused g c = λ t none o due not.
-    ends_refused _ g.O.Sink.tells (plain_sources c.args.sources.now) c.args.psbt.now (g.H.Shelf.view c.args.shelf.now) (g.H.Shelf.view c.printed.new.shelf) (g.O.Sink.view c.args.out.now) (g.O.Sink.view c.printed.new.out) t o due none not c.printed.result c.printed.ensures.ends
+pub returns-in-Ok-clause-ends : goal.returns-in-Ok-clause-ends
+returns-in-Ok-clause-ends g c =
+    printed_ends _ _ (plain_sources c.args.sources.now) c.args.psbt.now (g.H.Shelf.view c.args.shelf.now) (g.H.Shelf.view c.completed.new.shelf) (g.O.Sink.view c.args.out.now) (g.O.Sink.view c.put_report.new.out) c.in-Ok.text.items c.put_report.result c.in-Ok.ensures.made
+    (rw c.deref.ensures.value at c.put_report.ensures.ends)
 
-pub returns-clause-complete : goal.returns-clause-complete
-returns-clause-complete g c = λ t none o due.
-    ends_complete _ g.O.Sink.tells (plain_sources c.args.sources.now) c.args.psbt.now (g.H.Shelf.view c.args.shelf.now) (g.H.Shelf.view c.printed.new.shelf) (g.O.Sink.view c.args.out.now) (g.O.Sink.view c.printed.new.out) t o due none c.printed.result c.printed.ensures.ends
+pub returns-in-Err-clause-ends : goal.returns-in-Err-clause-ends
+returns-in-Err-clause-ends g c =
+    stop_ends _ _ (plain_sources c.args.sources.now) c.args.psbt.now (g.H.Shelf.view c.args.shelf.now) (g.H.Shelf.view c.completed.new.shelf) (g.O.Sink.view c.args.out.now) (g.O.Sink.view c.answer.new.out) c.in-Err.stop c.answer.result c.in-Err.ensures.stop c.answer.ensures.answered
 
-pub returns-clause-all_read : goal.returns-clause-all_read
-returns-clause-all_read g c = c.printed.ensures.all_read
+pub returns-in-Ok-clause-all_read : goal.returns-in-Ok-clause-all_read
+returns-in-Ok-clause-all_read g c = λ other. c.in-Ok.ensures.unfailed
 
-pub returns-clause-unread_last : goal.returns-clause-unread_last
-returns-clause-unread_last g c = c.printed.ensures.unread_last
+pub returns-in-Err-clause-all_read : goal.returns-in-Err-clause-all_read
+returns-in-Err-clause-all_read g c = λ other. c.in-Err.ensures.unfailed (λ tells. other (c.answer.ensures.read tells))
 
-pub returns-clause-refused_alone : goal.returns-clause-refused_alone
-returns-clause-refused_alone g c = c.printed.ensures.refused_alone
+pub returns-in-Ok-clause-unread_last : goal.returns-in-Ok-clause-unread_last
+returns-in-Ok-clause-unread_last g c = λ t is.
+    absurd (printed_read _ c.in-Ok.text.items (g.O.Sink.view c.args.out.now) (g.O.Sink.view c.put_report.new.out) c.put_report.result (rw c.deref.ensures.value at c.put_report.ensures.ends) is)
 
-pub returns-clause-all_put : goal.returns-clause-all_put
-returns-clause-all_put g c = c.printed.ensures.all_put
+pub returns-in-Err-clause-unread_last : goal.returns-in-Err-clause-unread_last
+returns-in-Err-clause-unread_last g c = λ t is.
+    stop_asks _ _ (plain_sources c.args.sources.now) c.args.psbt.now c.in-Err.stop (g.H.Shelf.view c.args.shelf.now) (g.H.Shelf.view c.completed.new.shelf) (g.O.Sink.view c.args.out.now) (g.O.Sink.view c.answer.new.out) c.answer.result c.in-Err.ensures.stop c.answer.ensures.answered
+    (c.in-Err.ensures.up_to t) is
+
+pub returns-in-Ok-clause-refused_alone : goal.returns-in-Ok-clause-refused_alone
+returns-in-Ok-clause-refused_alone g c = c.in-Ok.ensures.refused_alone
+
+pub returns-in-Err-clause-refused_alone : goal.returns-in-Err-clause-refused_alone
+returns-in-Err-clause-refused_alone g c = c.in-Err.ensures.refused_alone
+
+pub returns-in-Ok-clause-all_put : goal.returns-in-Ok-clause-all_put
+returns-in-Ok-clause-all_put g c = put_whole (g.O.Sink.view c.args.out.now) (g.O.Sink.view c.put_report.new.out) c.put_report.result c.put_report.ensures.all_put
+
+pub returns-in-Err-clause-all_put : goal.returns-in-Err-clause-all_put
+returns-in-Err-clause-all_put g c = λ whole.
+    absurd (stop_untold _ (plain_sources c.args.sources.now) c.args.psbt.now c.in-Err.stop (g.O.Sink.view c.args.out.now) (g.O.Sink.view c.answer.new.out) c.answer.result c.answer.ensures.answered whole)
+
+pub returns-in-Ok-clause-refused : goal.returns-in-Ok-clause-refused
+returns-in-Ok-clause-refused g c = λ t none o due not.
+    ends_refused _ g.O.Sink.tells (plain_sources c.args.sources.now) c.args.psbt.now (g.H.Shelf.view c.args.shelf.now) (g.H.Shelf.view c.completed.new.shelf) (g.O.Sink.view c.args.out.now) (g.O.Sink.view c.put_report.new.out) t o due none not c.put_report.result (returns-in-Ok-clause-ends g c)
+
+pub returns-in-Err-clause-refused : goal.returns-in-Err-clause-refused
+returns-in-Err-clause-refused g c = λ t none o due not.
+    ends_refused _ g.O.Sink.tells (plain_sources c.args.sources.now) c.args.psbt.now (g.H.Shelf.view c.args.shelf.now) (g.H.Shelf.view c.completed.new.shelf) (g.O.Sink.view c.args.out.now) (g.O.Sink.view c.answer.new.out) t o due none not c.answer.result (returns-in-Err-clause-ends g c)
+
+pub returns-in-Ok-clause-complete : goal.returns-in-Ok-clause-complete
+returns-in-Ok-clause-complete g c = λ t none o due.
+    ends_complete _ g.O.Sink.tells (plain_sources c.args.sources.now) c.args.psbt.now (g.H.Shelf.view c.args.shelf.now) (g.H.Shelf.view c.completed.new.shelf) (g.O.Sink.view c.args.out.now) (g.O.Sink.view c.put_report.new.out) t o due none c.put_report.result (returns-in-Ok-clause-ends g c)
+
+pub returns-in-Err-clause-complete : goal.returns-in-Err-clause-complete
+returns-in-Err-clause-complete g c = λ t none o due.
+    ends_complete _ g.O.Sink.tells (plain_sources c.args.sources.now) c.args.psbt.now (g.H.Shelf.view c.args.shelf.now) (g.H.Shelf.view c.completed.new.shelf) (g.O.Sink.view c.args.out.now) (g.O.Sink.view c.answer.new.out) t o due none c.answer.result (returns-in-Err-clause-ends g c)

@@ -2,10 +2,12 @@ use Rattle.std.proofs.Common.{◌∙◌, inl, inr, refl}
 use Rattle.command_end.proofs.WholeLaws.{put_whole}
 use Rattle.command_end.specs.Names.{plain_sources}
 use Rattle.command_end.specs.declared.status.Status.TheVariants as statuses
-use Rattle.command_fund.specs.Names.{plain_job, plain_payment}
-use Rattle.command_fund.proofs.Finished.{finish_ends, leave_ends, stop_ends, stop_untold}
-use Rattle.command_fund.proofs.InputLaws.{inputs_behind}
-use Rattle.command_fund.proofs.LeavingLaws.{asked_on, same_jobs}
+use Rattle.command_inputs.specs.Names.{plain_job, plain_payment}
+use Rattle.command_fund.proofs.Finished.{finish_ends, leave_ends, stop_ends}
+use Rattle.command_inputs.proofs.StopLaws.{stop_untold}
+use Rattle.command_inputs.proofs.InputLaws.{inputs_behind}
+use Rattle.command_inputs.proofs.AskingLaws.{asked_on}
+use Rattle.command_inputs.proofs.JobLaws.{same_jobs}
 use Rattle.command_fund.proofs.command.fund.Goals as goal
 
 pub returns-in-Unfinished-clause-ends : goal.returns-in-Unfinished-clause-ends

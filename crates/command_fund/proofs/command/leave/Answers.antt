@@ -1,10 +1,11 @@
 use Rattle.std.proofs.Common.{◌≡◌, Result, Err, inl, inr}
 use Rattle.command_end.proofs.WholeLaws.{put_whole}
 use Rattle.command_end.specs.Names.{plain_sources}
-use Rattle.command_fund.specs.Names.{plain_job, plain_payment}
-use Rattle.command_fund.proofs.Finished.{stop_untold}
-use Rattle.command_fund.proofs.LeavingLaws.{anew_jobs, not_left, same_jobs}
-use Rattle.command_fund.specs.declared.refusal.Stop.{Stop}
+use Rattle.command_inputs.specs.Names.{plain_job, plain_payment}
+use Rattle.command_inputs.proofs.StopLaws.{stop_untold}
+use Rattle.command_fund.proofs.LeavingLaws.{anew_jobs, not_left}
+use Rattle.command_inputs.proofs.JobLaws.{same_jobs}
+use Rattle.command_inputs.specs.declared.refusal.Stop.{Stop}
 use Rattle.command_fund.proofs.command.leave.Goals as goal
 
 same_stop : (a b : Stop) → ◌≡◌ {A = Result Unit Stop} (Err a) (Err b) → a ≡ b

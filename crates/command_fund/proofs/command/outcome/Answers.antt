@@ -1,8 +1,8 @@
 use Rattle.std.proofs.Common.{Ok, Err}
 use Rattle.std.proofs.lemmas.Result.{err_from_is_err_and}
 use Rattle.command_end.specs.Names.{plain_sources}
-use Rattle.command_fund.specs.Names.{plain_payment}
-use Rattle.command_fund.proofs.PlanLaws.{if_ends, if_stops}
+use Rattle.command_inputs.specs.Names.{plain_payment}
+use Rattle.command_inputs.proofs.PlanLaws.{if_ends, if_stops}
 use Rattle.command_fund.proofs.command.outcome.Goals as goal
 
 pub returns-clause-ends : goal.returns-clause-ends

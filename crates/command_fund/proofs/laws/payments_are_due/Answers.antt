@@ -1,7 +1,7 @@
 use Rattle.fund_plan.specs.declared.outcome.Outcome.TheVariants as answers
 use Rattle.fund_files.specs.Chain.{held_of}
-use Rattle.command_fund.specs.Due.{plan_of}
-use Rattle.command_fund.proofs.DueLaws.{answer_due, only_answer, refusal_due}
+use Rattle.command_inputs.specs.Due.{plan_of}
+use Rattle.command_inputs.proofs.DueLaws.{answer_due, only_answer, refusal_due}
 use Rattle.command_fund.proofs.laws.payments_are_due.Goals as goal
 
 pub returns-clause-refused : goal.returns-clause-refused

@@ -1,4 +1,4 @@
-use Rattle.command_fund.proofs.ReplaceLaws.{replaces_named, replaces_paid}
+use Rattle.command_inputs.proofs.ReplaceLaws.{replaces_named, replaces_paid}
 use Rattle.command_fund.proofs.laws.payments_replace.Goals as goal
 
 pub returns-clause-payments : goal.returns-clause-payments

@@ -1,7 +1,7 @@
 use Rattle.std.proofs.Common.{inl, inr, refl}
 use Rattle.command_end.proofs.WholeLaws.{not_whole, put_whole}
 use Rattle.command_end.specs.declared.status.Status.TheVariants as statuses
-use Rattle.command_fund.proofs.LeavingLaws.{put_jobs, same_jobs}
+use Rattle.command_inputs.proofs.JobLaws.{put_jobs, same_jobs}
 use Rattle.command_resume.proofs.command.leave.Goals as goal
 
 pub keep-requires : goal.keep-requires

@@ -2,16 +2,18 @@ use Rattle.std.proofs.Common.{◌≡◌, ◌∙◌, Result, Err, inl, inr, refl}
 use Rattle.command_end.proofs.WholeLaws.{put_whole}
 use Rattle.command_end.specs.Names.{plain_sources}
 use Rattle.command_end.specs.declared.status.Status.TheVariants as statuses
-use Rattle.command_fund.specs.Names.{plain_payment}
-use Rattle.command_fund.proofs.InputLaws.{inputs_behind}
-use Rattle.command_fund.proofs.LeavingLaws.{asked_on, same_jobs}
+use Rattle.command_inputs.specs.Names.{plain_payment}
+use Rattle.command_inputs.proofs.InputLaws.{inputs_behind}
+use Rattle.command_inputs.proofs.AskingLaws.{asked_on}
+use Rattle.command_inputs.proofs.JobLaws.{same_jobs}
 use Rattle.command_resume.proofs.Finished.{finish_ends, jobs_on, leave_ends}
 use Rattle.command_resume.proofs.StopLaws.{stop_ends, stop_untold}
-use Rattle.command_resume.specs.declared.resuming.Ending.{Ending}
+use Rattle.command_inputs.specs.declared.funding.Ending.{Ending}
+use Rattle.command_resume.specs.declared.resuming.LoadedJob.{LoadedJob}
 use Rattle.command_resume.specs.declared.stop.Stop.{Stop}
 use Rattle.command_resume.proofs.command.resume.Goals as goal
 
-same_stop : (a b : Stop) → ◌≡◌ {A = Result Ending Stop} (Err a) (Err b) → a ≡ b
+same_stop : (a b : Stop) → ◌≡◌ {A = Result (Ending LoadedJob) Stop} (Err a) (Err b) → a ≡ b
 same_stop a b e = cc
 
 pub returns-in-Ok-Unfinished-clause-ends : goal.returns-in-Ok-Unfinished-clause-ends

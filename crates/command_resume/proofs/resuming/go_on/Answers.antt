@@ -2,13 +2,14 @@ use Rattle.std.proofs.Common.{◌≡◌, Result, Err, ap}
 use Rattle.std.proofs.lemmas.Result.{err_from_is_err_and}
 use Rattle.kept_job.specs.declared.fault.KeptFault.{KeptFault}
 use Rattle.command_end.specs.Names.{plain_sources}
-use Rattle.command_fund.specs.Names.{plain_payment}
+use Rattle.command_inputs.specs.Names.{plain_payment}
 use Rattle.command_resume.proofs.GoingLaws.{is_ended, stopped_on}
-use Rattle.command_resume.specs.declared.resuming.Ending.{Ending}
+use Rattle.command_inputs.specs.declared.funding.Ending.{Ending}
+use Rattle.command_resume.specs.declared.resuming.LoadedJob.{LoadedJob}
 use Rattle.command_resume.specs.declared.stop.Stop.TheVariants as stops
 use Rattle.command_resume.proofs.resuming.go_on.Goals as goal
 
-same_fault : (a b : KeptFault) → ◌≡◌ {A = Result Ending KeptFault} (Err a) (Err b) → a ≡ b
+same_fault : (a b : KeptFault) → ◌≡◌ {A = Result (Ending LoadedJob) KeptFault} (Err a) (Err b) → a ≡ b
 same_fault a b e = cc
 
 pub returns-in_err-ready-clause-stop : goal.returns-in_err-ready-clause-stop

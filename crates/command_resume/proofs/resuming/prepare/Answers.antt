@@ -1,8 +1,8 @@
 use Rattle.std.proofs.Common.{◌≡◌, Result, Ok, Err, ap}
 use Rattle.std.proofs.lemmas.Result.{err_from_is_err_and}
 use Rattle.command_end.specs.Names.{plain_sources}
-use Rattle.command_fund.specs.Names.{plain_payment}
-use Rattle.command_fund.specs.declared.refusal.Stop.{Stop as FundStop}
+use Rattle.command_inputs.specs.Names.{plain_payment}
+use Rattle.command_inputs.specs.declared.refusal.Stop.{Stop as FundStop}
 use Rattle.command_resume.proofs.GoingLaws.{plan_stopped}
 use Rattle.command_resume.proofs.resuming.prepare.Goals as goal
 

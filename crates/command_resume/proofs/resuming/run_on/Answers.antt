@@ -4,10 +4,13 @@ use Rattle.request_text.specs.PlainRequest.{PlainRequest}
 use Rattle.kept_job.specs.declared.fault.KeptFault.{KeptFault}
 use Rattle.kept_job.specs.declared.resuming.Resumed.{Resumed}
 use Rattle.command_resume.proofs.GoingLaws.{has_ended, refused_on, run_on}
-use Rattle.command_resume.specs.declared.resuming.Ending.{Ending}
+use Rattle.command_inputs.specs.declared.funding.Ending.{Ending}
+use Rattle.command_resume.specs.declared.resuming.LoadedJob.{LoadedJob}
+use Rattle.command_resume.proofs.LeavingLaws.{can_end, concluded_on}
+use Rattle.command_resume.specs.Runs.{Run}
 use Rattle.command_resume.proofs.resuming.run_on.Goals as goal
 
-same_fault : (a b : KeptFault) → ◌≡◌ {A = Result Ending KeptFault} (Err a) (Err b) → a ≡ b
+same_fault : (a b : KeptFault) → ◌≡◌ {A = Result (Ending LoadedJob) KeptFault} (Err a) (Err b) → a ≡ b
 same_fault a b e = cc
 
 same_error : (a b : KeptFault) → ◌≡◌ {A = Result Resumed KeptFault} (Err a) (Err b) → a ≡ b
@@ -40,14 +43,17 @@ ends-requires g c =
     let e = c.in_ok-resumed.ensures in
     record {
       held = c.requires.held;
-      taken = c.requires.taken;
-      run =
-          run_on _ c.args.ready c.requires.plan _ c.request.inside.tries (ap (λ (r : PlainRequest). r.tries) c.request.view_is)
-          (record { plan = c.resume.new.plan; digest = c.args.ready.digest; resumed = c.in_ok-resumed.resumed }) refl e.gone e.pays e.fits;
+      can =
+          can_end c.args.ready.held c.args.ready.request (record { plan = c.resume.new.plan; digest = c.args.ready.digest; resumed = c.in_ok-resumed.resumed }) c.requires.held c.len.ensures.sound
+          (run_on _ c.args.ready c.requires.plan _ c.request.inside.tries (ap (λ (r : PlainRequest). r.tries) c.request.view_is)
+          (record { plan = c.resume.new.plan; digest = c.args.ready.digest; resumed = c.in_ok-resumed.resumed }) refl e.gone e.pays e.fits);
     }
 
 pub returns-clause-ends : goal.returns-clause-ends
 returns-clause-ends g c =
     let e = c.in_ok-resumed.ensures in
-    has_ended _ c.args.ready c.requires.plan _ c.request.inside.tries (ap (λ (r : PlainRequest). r.tries) c.request.view_is)
-    (record { plan = c.resume.new.plan; digest = c.args.ready.digest; resumed = c.in_ok-resumed.resumed }) refl e.gone e.pays c.in_ok-ending.ending c.in_ok-ending.ensures
+    let run : Run = record { plan = c.resume.new.plan; digest = c.args.ready.digest; resumed = c.in_ok-resumed.resumed } in
+    let tries = ap (λ (r : PlainRequest). r.tries) c.request.view_is in
+    has_ended _ c.args.ready c.requires.plan _ c.request.inside.tries tries run refl e.gone e.pays c.in_ok-ending.ending
+    (concluded_on c.args.ready.held c.args.ready.request run _ c.in_ok-ending.ending refl refl refl c.requires.held c.len.ensures.sound c.requires.taken
+    (run_on _ c.args.ready c.requires.plan _ c.request.inside.tries tries run refl e.gone e.pays e.fits) c.in_ok-ending.ensures)

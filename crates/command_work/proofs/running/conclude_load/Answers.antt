@@ -3,7 +3,7 @@ use Rattle.std.proofs.lemmas.Result.{err_from_is_err_and}
 use Rattle.wallet_text.specs.PlainWallet.{PlainWallet}
 use Rattle.request_text.specs.PlainRequest.{PlainRequest}
 use Rattle.fund_files.specs.Chain.{held_of}
-use Rattle.command_fund.specs.Due.{bump_fault_in, terms_for}
+use Rattle.command_inputs.specs.Due.{bump_fault_in, terms_for}
 use Rattle.command_work.proofs.RunLaws.{hold_stops, if_ends, if_stops}
 use Rattle.command_work.proofs.running.conclude_load.Goals as goal
 

@@ -1,5 +1,5 @@
 use Rattle.command_end.specs.Names.{plain_sources}
-use Rattle.command_fund.specs.Names.{plain_job, plain_payment}
+use Rattle.command_inputs.specs.Names.{plain_job, plain_payment}
 use Rattle.fund_top.proofs.CommandEnds.{check_ends, desk_ends, listing_ends, load_ends, payment_ends, resume_ends}
 use Rattle.fund_top.proofs.top.act.Goals as goal
 

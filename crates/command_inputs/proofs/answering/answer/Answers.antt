@@ -1,0 +1,19 @@
+use Rattle.command_inputs.proofs.answering.answer.Goals as goal
+
+pub returns-in-Read-clause-line : goal.returns-in-Read-clause-line
+returns-in-Read-clause-line g c = rw c.in-Read.is (rw c.name_of.ensures at c.refuse_read.ensures.line)
+
+pub returns-in-Read-clause-answered : goal.returns-in-Read-clause-answered
+returns-in-Read-clause-answered g c = rw c.in-Read.is (rw c.name_of.ensures at c.refuse_read.ensures.answered)
+
+pub returns-in-Keep-clause-line : goal.returns-in-Keep-clause-line
+returns-in-Keep-clause-line g c = rw c.in-Keep.is c.refuse_keep.ensures.line
+
+pub returns-in-Memory-clause-line : goal.returns-in-Memory-clause-line
+returns-in-Memory-clause-line g c = rw c.in-Memory.is c.want_of_memory.ensures.line
+
+pub returns-in-Memory-clause-answered : goal.returns-in-Memory-clause-answered
+returns-in-Memory-clause-answered g c = rw c.in-Memory.is (c.want_of_memory.ensures.is, c.want_of_memory.ensures.line)
+
+pub returns-in-Keep-clause-answered : goal.returns-in-Keep-clause-answered
+returns-in-Keep-clause-answered g c = rw c.in-Keep.is (c.refuse_keep.ensures.is, c.refuse_keep.ensures.line)

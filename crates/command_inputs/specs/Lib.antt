@@ -1,0 +1,12 @@
+pub mod Cause
+pub mod Digest
+pub mod Due
+pub mod Inputs
+pub mod Jobs
+pub mod Meant
+pub mod Names
+pub mod PlanEnds
+pub mod Replacing
+pub mod Results
+pub mod Stops
+pub mod Words
