@@ -1,8 +1,15 @@
-//! What the columns of rows stand for that stored runs read: problems with their items, places, and bytes.
+//! What stored runs are made of: what the columns of their rows stand for, and the answers that are printed of them.
 #![tactic(auto)]
 
+mod answer;
 mod bytes;
+mod columns;
 mod problems;
 
+pub use answer::Answer;
 pub use bytes::{escaped, unescaped};
-pub use problems::{places_in, places_text, problem_in};
+pub use columns::{
+    best_in, bytes_in, column, digest_in, hash_in, number_in, number_within, numbers_in, point_in,
+    script_in, short_in, words_behind,
+};
+pub use problems::{places_in, places_of, places_text, problem_in};

@@ -1,7 +1,7 @@
 //! Problems with their items, and places. Numbers are decimal; the items of a problem are words `VALUE/WEIGHT/COST`, in
 //! satoshi, weight units and satoshi.
 
-use fund_base::Memory;
+use fund_base::{Memory, Places};
 use pick_problem::{Item, Kind, Problem, are_items};
 use std::alloc::Global;
 use std::rc::Rc;
@@ -96,4 +96,12 @@ pub fn places_text(alloc: Global, places: &[u32]) -> Result<String, Memory> {
         text.push('-')?;
     }
     Ok(text)
+}
+
+/// Places that may be there, as a slice.
+pub fn places_of(places: &Option<Places>) -> Option<&[u32]> {
+    match places {
+        Some(places) => Some(places.as_slice()),
+        None => None,
+    }
 }

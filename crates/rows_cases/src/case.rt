@@ -1,13 +1,14 @@
 //! The files and jobs of a case, and what is done with them.
 
 use crate::calls::{ended, ended_surely, keep, made_whole, make, paid};
-use crate::columns::{column, numbers_of, short_number_of, with_pieces, words_of};
+use crate::columns::with_pieces;
 use crate::people::show_paid;
 use crate::shown::{show, show_column, show_count, show_number};
 use command_end::Sources;
 use fund_base::Memory;
 use fund_outside::{Keeper, MemKeeper};
 use fund_shelf::{MemShelf, MemSink, SureSink};
+use row_columns::{column, numbers_in, short_in, words_behind};
 use sha2::{Digest, Sha256};
 use std::alloc::Global;
 use std::mem;
@@ -23,16 +24,16 @@ pub(crate) struct Case {
 
 /// No files, of which the reads and writes of two columns fail.
 fn shelf_of(alloc: Global, reads: &str, writes: &str) -> Result<MemShelf, Memory> {
-    let reads = numbers_of(alloc, reads)?;
-    let writes = numbers_of(alloc, writes)?;
+    let reads = numbers_in(alloc, reads)?;
+    let writes = numbers_in(alloc, writes)?;
     Ok(MemShelf::new(alloc, Vec::new(alloc), reads, writes))
 }
 
 /// No jobs, of which the loads, parts and saves of three columns fail.
 fn keeper_of(alloc: Global, columns: &[&str]) -> Result<MemKeeper, Memory> {
-    let loads = numbers_of(alloc, column(columns, 4))?;
-    let parts = numbers_of(alloc, column(columns, 5))?;
-    let saves = numbers_of(alloc, column(columns, 6))?;
+    let loads = numbers_in(alloc, column(columns, 4))?;
+    let parts = numbers_in(alloc, column(columns, 5))?;
+    let saves = numbers_in(alloc, column(columns, 6))?;
     Ok(MemKeeper::new(alloc, loads, parts, saves))
 }
 
@@ -104,7 +105,7 @@ fn show_status(rt: &HostRuntime, label: &str, code: u8) -> Result<(), Memory> {
 /// Does a command without files and jobs, in memory that never fails, and prints how it ended.
 pub(crate) fn surely(rt: &HostRuntime, columns: &[&str]) -> Result<(), Memory> {
     let alloc = rt.alloc();
-    let words = words_of(alloc, columns)?;
+    let words = words_behind(alloc, columns)?;
     let mut sink = SureSink::new(alloc);
     let code = ended_surely(alloc, &words, &mut sink);
     show_status(rt, column(columns, 0), code)?;
@@ -115,7 +116,7 @@ pub(crate) fn surely(rt: &HostRuntime, columns: &[&str]) -> Result<(), Memory> {
 impl Case {
     /// A case without files and jobs.
     pub(crate) fn new(alloc: Global, columns: &[&str]) -> Result<Case, Memory> {
-        let puts = numbers_of(alloc, column(columns, 3))?;
+        let puts = numbers_in(alloc, column(columns, 3))?;
         let shelf = shelf_of(alloc, column(columns, 1), column(columns, 2))?;
         let new_files = shelf_of(alloc, "", "")?;
         let keeper = keeper_of(alloc, columns)?;
@@ -150,7 +151,7 @@ impl Case {
     /// Does a command, and prints how it ended; and what it printed.
     fn done(&mut self, rt: &HostRuntime, columns: &[&str]) -> Result<MemSink, Memory> {
         let alloc = rt.alloc();
-        let words = words_of(alloc, columns)?;
+        let words = words_behind(alloc, columns)?;
         let mut sink = self.sink(alloc)?;
         let code = ended(alloc, &words, &mut self.shelf, &mut sink, &mut self.keeper);
         show_status(rt, column(columns, 0), code)?;
@@ -188,7 +189,7 @@ impl Case {
     /// Pays what words ask for, and prints how it ended.
     pub(crate) fn pay(&mut self, rt: &HostRuntime, columns: &[&str]) -> Result<(), Memory> {
         let alloc = rt.alloc();
-        let words = words_of(alloc, columns)?;
+        let words = words_behind(alloc, columns)?;
         self.new_files = shelf_of(alloc, "", column(columns, 0))?;
         let files = mem::replace(&mut self.shelf, shelf_of(alloc, "", "")?);
         let (ended, files) = paid(alloc, &words, files, &mut self.new_files);
@@ -214,7 +215,7 @@ impl Case {
     pub(crate) fn save(&mut self, alloc: Global, columns: &[&str]) -> Result<(), Memory> {
         let saved = with_pieces(alloc, b"", column(columns, 2), "1")?;
         let part = with_pieces(alloc, b"", column(columns, 3), column(columns, 4))?;
-        let number = short_number_of(column(columns, 1));
+        let number = short_in(column(columns, 1));
         keep(&mut self.keeper, column(columns, 0), number, &part, &saved);
         Ok(())
     }

@@ -18,6 +18,9 @@
 //!   a text, beside what they ask for.
 //! - `explain LINE` prints the sentence of a fault line; `high FEE MOST` what is said of a fee that is too great; `unwritten NAME`,
 //!   `unwritten NAME log` what is said of a new file that was not written, in the second where the log was.
+//! - `wallet NUMBER COUNT` prints the wallet and the request of a workload: some of its coins, its first transaction, and the
+//!   SHA-256 of all its transactions one after another. `summary NUMBER COUNT REPORT` prints the summary of a run that came to a
+//!   report, which is a text.
 #![tactic(auto)]
 
 mod calls;
@@ -25,10 +28,11 @@ mod case;
 mod columns;
 mod people;
 mod shown;
+mod works;
 
 use case::{Case, surely};
-use columns::column;
 use fund_base::Memory;
+use row_columns::column;
 use shown::{show, show_column};
 use std::io;
 use std::io::{BufRead, BufReader, ErrorKind};
@@ -48,6 +52,7 @@ fn plain_row(rt: &HostRuntime, verb: &str, columns: &[&str]) -> Result<(), Memor
         "table" => return people::table(rt, columns),
         "high" => return people::high(rt, columns),
         "unwritten" => return people::unwritten(rt, columns),
+        "wallet" | "summary" => return works::work(rt, verb, columns),
         "explain" => people::explain(rt, columns),
         _ => show(rt, b"no such row\n"),
     }

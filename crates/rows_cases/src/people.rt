@@ -1,6 +1,5 @@
 //! What is shown to people: payments, what words ask for, and sentences.
 
-use crate::columns::{column, number_of, words_of};
 use crate::shown::{show, show_column, show_count, show_line, show_number};
 use command_pay::{
     Ending, NewFile, fee_ceiling, high_fee_text, is_fee_taken, table_text, unwritten_text,
@@ -9,7 +8,7 @@ use fault_lines::line_sentence;
 use fund_base::Memory;
 use fund_report::{FundedReport, Report, read_report, write_report};
 use pay_words::{Asked, WordFault, flag_about, flag_word, read_pay, word_place, word_sentence};
-use row_columns::unescaped;
+use row_columns::{column, number_in, unescaped, words_behind};
 
 /// Prints the report of a payment, and its log.
 fn show_payment(rt: &HostRuntime, report: FundedReport, log: &[u8]) -> Result<(), Memory> {
@@ -81,7 +80,7 @@ fn show_fault(rt: &HostRuntime, fault: &WordFault) {
 
 /// What words ask for, with a drawn seed of zeros. Where they ask for no payment, that is printed.
 fn asked_of(rt: &HostRuntime, columns: &[&str]) -> Result<Option<Asked>, Memory> {
-    let words = words_of(rt.alloc(), columns)?;
+    let words = words_behind(rt.alloc(), columns)?;
     match read_pay(rt.alloc(), words.as_slice(), [0; 32]) {
         Ok(asked) => Ok(Some(asked)),
         Err(fault) => {
@@ -113,7 +112,7 @@ fn show_fee(rt: &HostRuntime, asked: &Asked, fee: u64) {
 /// Prints the greatest fee that is taken with these words, and whether this one is.
 pub(crate) fn fee(rt: &HostRuntime, columns: &[&str]) -> Result<(), Memory> {
     if let Some(asked) = asked_of(rt, columns)? {
-        show_fee(rt, &asked, number_of(column(columns, 0), 0));
+        show_fee(rt, &asked, number_in(column(columns, 0), 0));
     }
     Ok(())
 }
@@ -151,8 +150,8 @@ pub(crate) fn explain(rt: &HostRuntime, columns: &[&str]) {
 
 /// Prints what is said of a fee that is too great.
 pub(crate) fn high(rt: &HostRuntime, columns: &[&str]) -> Result<(), Memory> {
-    let fee = number_of(column(columns, 0), 0);
-    let most = number_of(column(columns, 1), 0);
+    let fee = number_in(column(columns, 0), 0);
+    let most = number_in(column(columns, 1), 0);
     show_line(rt, high_fee_text(rt.alloc(), fee, most)?.as_str());
     Ok(())
 }

@@ -3,10 +3,9 @@
 //! - `read TEXT`: the script of an address, and its address; or why the text is none
 //! - `write SCRIPT`: the address of a script, or `none`
 
-use crate::answer::Answer;
-use crate::columns::{column, script_of};
 use command_end::address_fault_word;
 use fund_base::{Memory, Script};
+use row_columns::{Answer, column, script_in};
 use segwit_addr::{decode, encode};
 
 /// Puts the address of a script, or `none`.
@@ -36,6 +35,6 @@ pub(crate) fn row(out: &mut Answer, verb: &str, columns: &[&str]) {
     let text = column(columns, 0);
     match verb {
         "read" => read(out, text),
-        _ => put_address(out, &script_of(out.alloc, text)),
+        _ => put_address(out, &script_in(out.alloc, text)),
     }
 }

@@ -2,13 +2,14 @@
 
 ghost use Rattle.std.specs.Prelude.{◌≡◌, []};
 
-use crate::answer::Answer;
 use crate::feeds::{FILE, files_of};
+use crate::shown::put_shown;
 use block_feed::Feed;
 use coin_book::{Book, BookFault, Coin};
 use command_end::coin_text;
 use fund_base::OutPoint;
 use fund_shelf::SureShelf;
+use row_columns::Answer;
 use std::alloc::Global;
 use wallet_text::Wallet;
 
@@ -94,7 +95,7 @@ fn put_coin(out: &mut Answer, book: &Book, coin: &Coin) {
 /// Puts what spends an outpoint, a line each.
 fn put_spends(out: &mut Answer, book: &Book, point: &OutPoint) {
     for spend in book.spends(point) {
-        out.shown("spent by ", spend.txid.bytes());
+        put_shown(out, "spent by ", spend.txid.bytes());
         out.number(" ", spend.height as u64);
         out.number(" ", spend.place);
         out.word("\n");
@@ -111,28 +112,42 @@ fn put_coins(out: &mut Answer, book: &Book) {
     }
 }
 
-/// The book of a wallet, to which its blocks are added before or after what waits; or its fault.
-fn book_of(
-    alloc: Global,
-    wallet: &Wallet,
-    blocks: Vec<u8>,
-    blocks_first: bool,
-) -> Result<Book, BookFault> {
-    let Ok(files) = files_of(alloc, blocks) else {
-        return Err(BookFault::Memory);
-    };
-    let mut shelf = SureShelf::new(alloc, files);
-    let mut book = Book::new(alloc, wallet)?;
-    add_all(alloc, &mut shelf, wallet, blocks_first, &mut book)?;
-    Ok(book)
+/// Puts the fault of a book by its name and its coin.
+fn put_fault(out: &mut Answer, fault: BookFault) {
+    match fault {
+        BookFault::RepeatCoin(point) => {
+            let coin = coin_text(out.alloc, &point);
+            out.words("RepeatCoin ", coin);
+        }
+        BookFault::Full => out.word("Full"),
+        BookFault::Memory => out.lack(),
+    }
 }
 
-/// Puts the coins of the book of a wallet, or its fault by its name and its coin.
+/// Puts the coins of a book to which all is added, or its fault.
+fn put_filled(
+    out: &mut Answer,
+    shelf: &mut SureShelf,
+    wallet: &Wallet,
+    blocks_first: bool,
+    book: &mut Book,
+)
+    requires { book.old.pending ≡ [] }
+{
+    match add_all(out.alloc, shelf, wallet, blocks_first, book) {
+        Ok(()) => put_coins(out, book),
+        Err(fault) => put_fault(out, fault),
+    }
+}
+
+/// Puts the coins of the book of a wallet, to which its blocks are added before or after what waits.
 pub(crate) fn put_book(out: &mut Answer, wallet: &Wallet, blocks: Vec<u8>, blocks_first: bool) {
-    match book_of(out.alloc, wallet, blocks, blocks_first) {
-        Ok(book) => put_coins(out, &book),
-        Err(BookFault::RepeatCoin(point)) => out.words("RepeatCoin ", coin_text(out.alloc, &point)),
-        Err(BookFault::Full) => out.word("Full"),
-        Err(BookFault::Memory) => out.lack(),
+    let Ok(files) = files_of(out.alloc, blocks) else {
+        return out.lack();
+    };
+    let mut shelf = SureShelf::new(out.alloc, files);
+    match Book::new(out.alloc, wallet) {
+        Ok(mut book) => put_filled(out, &mut shelf, wallet, blocks_first, &mut book),
+        Err(fault) => put_fault(out, fault),
     }
 }

@@ -3,14 +3,15 @@
 ghost use Rattle.std.specs.Prelude.{◌<◌, IsSome};
 ghost use Rattle.fund_files.specs.Chain.{IsHeld};
 
-use crate::answer::Answer;
 use crate::candidates::put_candidates;
+use crate::shown::{put_fault, put_shown};
 use command_end::bump_fault_parts;
 use fee_bump::{BumpFault, BumpTerms, bump_terms};
 use fund_files::{Held, hold};
 use payment_facts::confirmed_without;
 use payment_states::all_states;
 use request_text::Request;
+use row_columns::Answer;
 use wallet_text::Wallet;
 
 /// Puts the terms.
@@ -19,7 +20,7 @@ fn put_terms(out: &mut Answer, terms: &BumpTerms) {
     out.number("\nold-fee ", terms.old_fee);
     out.number("\nold-vsize ", terms.old_vsize);
     for txid in &terms.replaced {
-        out.shown("\nreplaced ", txid.bytes());
+        put_shown(out, "\nreplaced ", txid.bytes());
     }
     put_candidates(out, "\npreset ", &terms.presets, false);
     put_candidates(out, "\ncandidate ", &terms.candidates, false);
@@ -51,15 +52,24 @@ fn put_held(out: &mut Answer, held: &Held, tip: u32, request: &Request) -> Resul
     put_all(out, held, tip, &terms)
 }
 
+/// Puts what the request's payment comes to, or why there is no replacement.
+fn put_ended(out: &mut Answer, held: &Held, tip: u32, request: &Request)
+    requires held { IsHeld held.now }
+    requires tip { tip < 4294967295 }
+    requires bump { IsSome request.now.bump }
+{
+    if let Err(fault) = put_held(out, held, tip, request) {
+        put_fault(out, "fault ", &bump_fault_parts(&fault));
+    }
+}
+
 /// Puts what the request's payment comes to.
 pub(crate) fn put_bump(out: &mut Answer, wallet: Wallet, tip: u32, request: &Request) {
-    let Ok(held) = hold(out.alloc, wallet) else {
-        return out.word("no book");
-    };
     if tip == u32::MAX || request.bump.is_none() {
         return out.word("no tip or nothing to replace");
     }
-    if let Err(fault) = put_held(out, &held, tip, request) {
-        out.fault("fault ", &bump_fault_parts(&fault));
+    match hold(out.alloc, wallet) {
+        Ok(held) => put_ended(out, &held, tip, request),
+        Err(_) => out.word("no book"),
     }
 }

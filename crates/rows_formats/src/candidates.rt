@@ -1,8 +1,9 @@
 //! Coins with their depths and how they stand.
 
-use crate::answer::Answer;
+use crate::shown::put_shown;
 use coin_candidates::Candidate;
 use fund_base::Txid;
+use row_columns::Answer;
 
 /// Puts a txid as it is shown, or its first four digits.
 pub(crate) fn put_txid(out: &mut Answer, word: &str, txid: &Txid, is_short: bool) {
@@ -10,7 +11,7 @@ pub(crate) fn put_txid(out: &mut Answer, word: &str, txid: &Txid, is_short: bool
     if is_short {
         out.digits(word, &[bytes[31], bytes[30]]);
     } else {
-        out.shown(word, bytes);
+        put_shown(out, word, bytes);
     }
 }
 

@@ -1,8 +1,9 @@
 //! Every fault of transactions, block files and addresses, a line each.
 
-use crate::answer::Answer;
+use crate::shown::put_fault;
 use block_feed::FeedFault;
 use command_end::{address_fault_word, feed_fault_parts, tx_fault_part};
+use row_columns::Answer;
 use segwit_addr::AddrFault;
 use tx_codec::TxFault;
 
@@ -18,7 +19,7 @@ pub(crate) fn transactions(out: &mut Answer) {
         TxFault::Trailing(60),
         TxFault::Memory,
     ] {
-        out.fault("", &[tx_fault_part(fault)]);
+        put_fault(out, "", &[tx_fault_part(fault)]);
         out.word("\n");
     }
 }
@@ -37,7 +38,7 @@ pub(crate) fn blocks(out: &mut Answer) {
         FeedFault::Limit,
         FeedFault::Memory,
     ] {
-        out.fault("", &feed_fault_parts(&fault));
+        put_fault(out, "", &feed_fault_parts(&fault));
         out.word("\n");
     }
 }

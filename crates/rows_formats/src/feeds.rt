@@ -10,13 +10,13 @@
 //! - `digest`: the digest that a feed has of the file at its end
 //! - `blank`: what the first call gives of a file of zero bytes alone
 
-use crate::answer::Answer;
-use crate::columns::{bytes_of, column, hash_of, number_of, short_number};
 use crate::pieces::Pieces;
+use crate::shown::{put_fault, put_shown};
 use block_feed::{Block, Feed, FeedFault};
 use command_end::feed_fault_parts;
 use fund_base::Memory;
 use fund_shelf::MemShelf;
+use row_columns::{Answer, bytes_in, column, hash_in, number_within, short_in};
 use std::alloc::Global;
 use tx_codec::{txid, weight};
 
@@ -49,7 +49,7 @@ impl Source {
 fn sizes(alloc: Global, column: &str) -> Result<Vec<usize>, Memory> {
     let mut sizes = Vec::new(alloc);
     for size in column.split(',') {
-        sizes.push(short_number(size) as usize)?;
+        sizes.push(short_in(size) as usize)?;
     }
     Ok(sizes)
 }
@@ -63,7 +63,7 @@ pub(crate) fn files_of(alloc: Global, bytes: Vec<u8>) -> Result<Vec<(String, Vec
 
 /// A feed of the columns' file, of which the read of this number fails.
 fn source_of(alloc: Global, columns: &[&str], fails: u64) -> Result<Source, Memory> {
-    let files = files_of(alloc, bytes_of(alloc, column(columns, 4)))?;
+    let files = files_of(alloc, bytes_in(alloc, column(columns, 4)))?;
     let fails = Vec::from_slice(alloc, &[fails])?;
     let shelf = Pieces {
         shelf: MemShelf::new(alloc, files, fails, Vec::new(alloc)),
@@ -71,10 +71,7 @@ fn source_of(alloc: Global, columns: &[&str], fails: u64) -> Result<Source, Memo
         turn: 0,
         zeros: 0,
     };
-    let feed = Feed::new(
-        hash_of(column(columns, 0)),
-        short_number(column(columns, 1)),
-    );
+    let feed = Feed::new(hash_in(column(columns, 0)), short_in(column(columns, 1)));
     Ok(Source {
         feed,
         shelf,
@@ -85,9 +82,9 @@ fn source_of(alloc: Global, columns: &[&str], fails: u64) -> Result<Source, Memo
 /// Puts a block with its height, its hash and the txids of its transactions.
 fn put_block(out: &mut Answer, block: &Block) {
     out.number("block ", block.height as u64);
-    out.shown(" ", &block.hash);
+    put_shown(out, " ", &block.hash);
     for txid in block.txids() {
-        out.shown(" ", txid.bytes());
+        put_shown(out, " ", txid.bytes());
     }
 }
 
@@ -99,7 +96,7 @@ fn put_next(out: &mut Answer, source: &mut Source) -> bool {
             return true;
         }
         Ok(None) => out.word("none"),
-        Err(fault) => out.fault("fault ", &feed_fault_parts(&fault)),
+        Err(fault) => put_fault(out, "fault ", &feed_fault_parts(&fault)),
     }
     false
 }
@@ -153,7 +150,7 @@ fn fails(out: &mut Answer, columns: &[&str]) -> Result<(), Memory> {
 fn put_weights(out: &mut Answer, block: &Block) {
     out.number("block ", block.height as u64);
     for tx in &block.txs {
-        out.shown(" ", txid(tx).bytes());
+        put_shown(out, " ", txid(tx).bytes());
         out.number(" ", weight(tx));
     }
 }
@@ -178,8 +175,8 @@ fn read_on(alloc: Global, source: &mut Source) {
 
 /// Puts the digest that the feed has of its file at the end; none after a fault.
 fn digest(out: &mut Answer, source: &mut Source, columns: &[&str]) {
-    let hash = hash_of(column(columns, 0));
-    source.feed = Feed::with_digest(hash, short_number(column(columns, 1)));
+    let hash = hash_in(column(columns, 0));
+    source.feed = Feed::with_digest(hash, short_in(column(columns, 1)));
     read_on(out.alloc, source);
     match source.feed.digest() {
         Some(digest) => out.digits("", &digest),
@@ -194,7 +191,7 @@ fn put_verb(out: &mut Answer, source: &mut Source, verb: &str, columns: &[&str])
         "weights" => weights(out, source),
         "digest" => digest(out, source, columns),
         "blank" => {
-            source.shelf.zeros = number_of(column(columns, 2), u64::MAX);
+            source.shelf.zeros = number_within(column(columns, 2), u64::MAX);
             put_next(out, source);
         }
         _ => out.word("no such verb"),
@@ -208,7 +205,7 @@ fn answer(out: &mut Answer, verb: &str, columns: &[&str]) -> Result<(), Memory> 
     }
     let fails = match column(columns, 3) {
         "-" => u64::MAX,
-        number => number_of(number, u64::MAX),
+        number => number_within(number, u64::MAX),
     };
     let mut source = source_of(out.alloc, columns, fails)?;
     put_verb(out, &mut source, verb, columns);

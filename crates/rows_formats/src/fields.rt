@@ -5,13 +5,12 @@
 //! - `coin`: the coin that is the member a of the text
 //! - `list`: each entry of the list that the text is, as `true` or `false` and as bytes
 
-use crate::answer::Answer;
-use crate::columns::column;
 use command_end::coin_text;
 use fund_base::OutPoint;
 use json_fields::{
     FieldFault, coin_of, entries_of, flag_of, hex_of, member_of, number_of, object_of, parse,
 };
+use row_columns::{Answer, column};
 use serde_json::Value;
 
 /// Puts the fault of this name, and the name that it tells.

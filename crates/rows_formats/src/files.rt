@@ -8,12 +8,11 @@
 //! - `book LABEL WALLET BLOCKS`: the coins of the book of a wallet and its blocks, and what spends them, with the blocks added
 //!   first; `waiting` with the same columns: with the pending transactions first
 
-use crate::answer::Answer;
-use crate::columns::{bytes_of, column, short_number};
 use crate::requests::{put_request, put_wallet};
 use crate::{books, bumps, states};
 use fund_base::Memory;
 use request_text::{Request, read_request};
+use row_columns::{Answer, bytes_in, column, short_in};
 use wallet_text::{Wallet, read_wallet};
 
 /// Puts a copy of a request.
@@ -33,25 +32,31 @@ fn request(out: &mut Answer, text: &str) {
 
 fn bump(out: &mut Answer, wallet: Wallet, columns: &[&str]) {
     match read_request(out.alloc, column(columns, 3).as_bytes()) {
-        Ok(request) => bumps::put_bump(out, wallet, short_number(column(columns, 2)), &request),
+        Ok(request) => bumps::put_bump(out, wallet, short_in(column(columns, 2)), &request),
         Err(_) => out.word("no request"),
     }
 }
 
 fn book(out: &mut Answer, wallet: &Wallet, columns: &[&str], blocks_first: bool) {
-    let blocks = bytes_of(out.alloc, column(columns, 2));
+    let blocks = bytes_in(out.alloc, column(columns, 2));
     books::put_book(out, wallet, blocks, blocks_first);
+}
+
+/// Puts what a verb asks of a wallet that stays.
+fn look(out: &mut Answer, verb: &str, wallet: &Wallet, columns: &[&str]) {
+    match verb {
+        "wallet" => put_wallet(out, wallet),
+        "book" => book(out, wallet, columns, true),
+        _ => book(out, wallet, columns, false),
+    }
 }
 
 /// Puts what a verb asks of a wallet.
 fn put_verb(out: &mut Answer, verb: &str, wallet: Wallet, columns: &[&str]) {
     match verb {
-        "wallet" => put_wallet(out, &wallet),
-        "states" => states::put_states(out, wallet, short_number(column(columns, 2))),
+        "states" => states::put_states(out, wallet, short_in(column(columns, 2))),
         "bump" => bump(out, wallet, columns),
-        "book" => book(out, &wallet, columns, true),
-        "waiting" => book(out, &wallet, columns, false),
-        _ => out.word("no such verb"),
+        _ => look(out, verb, &wallet, columns),
     }
 }
 

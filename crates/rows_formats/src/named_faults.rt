@@ -1,9 +1,10 @@
 //! The faults of wallets and of requests, told in words. One that has a name of a file has that of the row.
 
-use crate::answer::Answer;
+use crate::shown::put_fault;
 use command_end::{request_fault_parts, wallet_fault_parts};
 use json_fields::Name;
 use request_text::RequestFault;
+use row_columns::Answer;
 use segwit_addr::AddrFault;
 use tx_codec::TxFault;
 use wallet_text::WalletFault;
@@ -33,7 +34,7 @@ fn plain_wallet_fault(kind: &str) -> WalletFault {
 
 pub(crate) fn wallet(out: &mut Answer, kind: &str, name: &str) {
     match String::from_str(out.alloc, name) {
-        Ok(name) => out.fault("", &wallet_fault_parts(&wallet_fault(kind, name))),
+        Ok(name) => put_fault(out, "", &wallet_fault_parts(&wallet_fault(kind, name))),
         Err(_) => out.lack(),
     }
 }
@@ -67,7 +68,7 @@ fn plain_request_fault(kind: &str) -> RequestFault {
 
 pub(crate) fn request(out: &mut Answer, kind: &str, name: &str) {
     match String::from_str(out.alloc, name) {
-        Ok(name) => out.fault("", &request_fault_parts(&request_fault(kind, name))),
+        Ok(name) => put_fault(out, "", &request_fault_parts(&request_fault(kind, name))),
         Err(_) => out.lack(),
     }
 }

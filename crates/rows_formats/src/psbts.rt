@@ -6,24 +6,24 @@
 //!   of the output that it spends
 //! - `armor BYTES`, `unarmor TEXT`: bytes as base64, and base64 as bytes
 
-use crate::answer::Answer;
-use crate::columns::{bytes_of, column};
+use crate::shown::put_shown;
 use crate::transactions;
 use command_end::psbt_fault_parts;
 use fund_base::Memory;
 use psbt_codec::{Psbt, PsbtFault, Spent, from_text, read_psbt, to_text, write_psbt, write_text};
+use row_columns::{Answer, bytes_in, column};
 use std::alloc::Global;
 use tx_codec::{txid, write_tx};
 
 fn put_fault(out: &mut Answer, fault: &PsbtFault) {
-    out.fault("fault ", &psbt_fault_parts(*fault));
+    crate::shown::put_fault(out, "fault ", &psbt_fault_parts(*fault));
 }
 
 /// Puts what is known of a spent output: the txid of the whole transaction, and its value and script. `-` stands for what
 /// isn't known.
 fn put_spent(out: &mut Answer, spent: &Spent) {
     match &spent.whole {
-        Some(tx) => out.shown(" ", txid(tx).bytes()),
+        Some(tx) => put_shown(out, " ", txid(tx).bytes()),
         None => out.word(" -"),
     }
     match &spent.paid {
@@ -100,7 +100,7 @@ fn armor(out: &mut Answer, bytes: &[u8]) {
 
 pub(crate) fn row(out: &mut Answer, verb: &str, columns: &[&str]) {
     let text = column(columns, 0);
-    let bytes = bytes_of(out.alloc, text);
+    let bytes = bytes_in(out.alloc, text);
     match verb {
         "read" => read(out, &bytes),
         "armored" => armored(out, text),

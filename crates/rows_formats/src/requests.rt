@@ -1,7 +1,8 @@
 //! Request files and wallet files that are read: what they hold.
 
-use crate::answer::Answer;
+use crate::shown::put_shown;
 use request_text::{Method, Request};
+use row_columns::Answer;
 use wallet_text::Wallet;
 
 /// Puts what else than a method and lists a request has.
@@ -13,7 +14,7 @@ fn put_members(out: &mut Answer, request: &Request) {
     out.flag(" replaceable ", request.replaceable);
     out.digits(" seed ", &request.seed);
     match &request.bump {
-        Some(txid) => out.shown(" bump ", txid.bytes()),
+        Some(txid) => put_shown(out, " bump ", txid.bytes()),
         None => out.word(" bump none"),
     }
 }
@@ -41,7 +42,7 @@ pub(crate) fn put_request(out: &mut Answer, request: &Request) {
 /// Puts what a wallet holds: each of its numbers, its hash, and how many entries its lists have.
 pub(crate) fn put_wallet(out: &mut Answer, wallet: &Wallet) {
     out.number("height ", wallet.height as u64);
-    out.shown(" hash ", &wallet.hash);
+    put_shown(out, " hash ", &wallet.hash);
     out.number(" change ", wallet.change.weight);
     out.number(" scripts ", wallet.scripts.len() as u64);
     out.number(" earlier ", wallet.earlier.len() as u64);

@@ -3,11 +3,11 @@
 ghost use Rattle.std.specs.Prelude.{◌<◌};
 ghost use Rattle.fund_files.specs.Chain.{IsHeld};
 
-use crate::answer::Answer;
 use crate::candidates::{put_candidates, put_txid};
 use fund_base::{Memory, Txid};
 use fund_files::{Held, hold};
 use payment_states::{State, States, all_states, candidates};
+use row_columns::Answer;
 use wallet_text::Wallet;
 
 /// Puts a state, and what it names.
@@ -47,10 +47,14 @@ fn put_held(out: &mut Answer, held: &Held, tip: u32) -> Result<(), Memory>
 
 /// Puts the states of a wallet's payments and what it may spend.
 pub(crate) fn put_states(out: &mut Answer, wallet: Wallet, tip: u32) {
-    let Ok(held) = hold(out.alloc, wallet) else {
-        return out.word("no book");
-    };
-    if tip < u32::MAX && put_held(out, &held, tip).is_err() {
-        out.lack();
+    if tip == u32::MAX {
+        return out.word("no tip");
+    }
+    match hold(out.alloc, wallet) {
+        Ok(held) => {
+            let ended = put_held(out, &held, tip);
+            out.end(ended);
+        }
+        Err(_) => out.word("no book"),
     }
 }

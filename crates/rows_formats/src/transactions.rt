@@ -6,10 +6,10 @@
 //! - `make VERSION TXID INDEX SCRIPT SEQUENCE VALUE SCRIPT LOCKTIME WITNESS..`: the transaction of one input and one output that
 //!   is made so, and the texts of its copy. Without a witness it has the legacy form.
 
-use crate::answer::Answer;
-use crate::columns::{bytes_of, column, number_of, point_of, script_of, short_number};
+use crate::shown::{put_fault, put_shown};
 use command_end::tx_fault_part;
 use fund_base::{Cursor, MAX_MONEY, Memory, Sat};
+use row_columns::{Answer, bytes_in, column, number_within, point_in, script_in, short_in};
 use std::alloc::Global;
 use tx_codec::{
     Tx, TxFault, TxIn, TxOut, Witness, read_tx, read_whole_legacy_tx, read_whole_tx, signals, txid,
@@ -18,7 +18,7 @@ use tx_codec::{
 
 /// Puts the txid, the weight and the form of a transaction.
 fn put_tx(out: &mut Answer, tx: &Tx) {
-    out.shown("ok txid ", txid(tx).bytes());
+    put_shown(out, "ok txid ", txid(tx).bytes());
     out.number(" weight ", weight(tx));
     out.flag(" segwit ", tx.segwit);
 }
@@ -27,7 +27,7 @@ fn put_tx(out: &mut Answer, tx: &Tx) {
 fn put_read(out: &mut Answer, read: &Result<Tx, TxFault>) {
     match read {
         Ok(tx) => put_tx(out, tx),
-        Err(fault) => out.fault("fault ", &[tx_fault_part(*fault)]),
+        Err(fault) => put_fault(out, "fault ", &[tx_fault_part(*fault)]),
     }
 }
 
@@ -68,19 +68,19 @@ fn three(out: &mut Answer, bytes: &[u8]) {
 fn witness(alloc: Global, columns: &[&str]) -> Result<Witness, Memory> {
     let mut items = Vec::new(alloc);
     for number in 8..columns.len() {
-        items.push(bytes_of(alloc, column(columns, number)))?;
+        items.push(bytes_in(alloc, column(columns, number)))?;
     }
     Ok(Witness::new(items))
 }
 
 /// The output of a value and a script. An amount above all money is refused as if there weren't enough memory.
 pub(crate) fn output(alloc: Global, value: &str, script: &str) -> Result<TxOut, Memory> {
-    let Some(value) = Sat::new(number_of(value, MAX_MONEY)) else {
+    let Some(value) = Sat::new(number_within(value, MAX_MONEY)) else {
         return Err(Memory);
     };
     Ok(TxOut {
         value,
-        script: script_of(alloc, script),
+        script: script_in(alloc, script),
     })
 }
 
@@ -88,18 +88,18 @@ pub(crate) fn output(alloc: Global, value: &str, script: &str) -> Result<TxOut, 
 pub(crate) fn made(alloc: Global, columns: &[&str]) -> Result<Tx, Memory> {
     let mut inputs = Vec::new(alloc);
     inputs.push(TxIn {
-        prev: point_of(column(columns, 1), column(columns, 2)),
-        script: script_of(alloc, column(columns, 3)),
-        sequence: short_number(column(columns, 4)),
+        prev: point_in(column(columns, 1), column(columns, 2)),
+        script: script_in(alloc, column(columns, 3)),
+        sequence: short_in(column(columns, 4)),
         witness: witness(alloc, columns)?,
     })?;
     let mut outputs = Vec::new(alloc);
     outputs.push(output(alloc, column(columns, 5), column(columns, 6))?)?;
     Ok(Tx {
-        version: short_number(column(columns, 0)),
+        version: short_in(column(columns, 0)),
         inputs,
         outputs,
-        locktime: short_number(column(columns, 7)),
+        locktime: short_in(column(columns, 7)),
         segwit: columns.len() > 8,
     })
 }
@@ -124,7 +124,7 @@ fn put_made(out: &mut Answer, tx: &Tx) {
 }
 
 pub(crate) fn row(out: &mut Answer, verb: &str, columns: &[&str]) {
-    let bytes = bytes_of(out.alloc, column(columns, 0));
+    let bytes = bytes_in(out.alloc, column(columns, 0));
     match verb {
         "read" => whole(out, &bytes),
         "three" => three(out, &bytes),

@@ -2,11 +2,11 @@
 //! fault of a wallet (`wallet FAULT NAME`) and of a request (`request FAULT NAME`); a hash, a coin and names (`names`); listings
 //! of payments and coins (`replaced`, `others`). The hash and the txid are those of Bitcoin's first block.
 
-use crate::answer::Answer;
-use crate::columns::column;
+use crate::shown::put_shown;
 use crate::{faults, listings, named_faults};
 use command_end::{coin_text, shown_name};
 use fund_base::{OutPoint, Txid};
+use row_columns::{Answer, column};
 
 /// The hash of Bitcoin's first block.
 pub(crate) const FIRST: [u8; 32] =
@@ -27,7 +27,7 @@ const NAMES: [&str; 6] = [
 
 /// Puts a hash, a coin, and names.
 fn names(out: &mut Answer) {
-    out.shown("", &FIRST);
+    put_shown(out, "", &FIRST);
     let coin = OutPoint {
         txid: Txid(PAYMENT),
         index: 10,

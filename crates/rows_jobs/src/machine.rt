@@ -10,53 +10,33 @@ use std::alloc::{AllocError, Global};
 use std::cell::Cell;
 use std::io;
 
-/// What changes a file, or makes it last.
-#[derive(Clone, Copy)]
-pub(crate) enum Change {
-    /// Bytes are written to the log.
-    LogWrite,
-    /// The log's length is set.
-    LogLength,
-    /// What the log holds is made to last.
-    LogSync,
-    /// Bytes are written to the database file.
-    FileWrite,
-    /// The length of the database file is set.
-    FileLength,
-    /// What the database file holds is made to last.
-    FileSync,
-}
-
-/// A machine that makes so many changes more, and then stops: it refuses each later one.
+/// A machine that makes so many changes, and then stops: it refuses each later one.
 #[derive(Drop)]
 pub(crate) struct Machine {
     left: Cell<u64>,
-    refused: Cell<Option<Change>>,
+    refused: Cell<Option<&'static str>>,
 }
 
 impl Machine {
-    /// A machine that doesn't stop.
-    pub(crate) fn new() -> Machine {
+    /// A machine that makes so many changes.
+    pub(crate) fn new(changes: u64) -> Machine {
         Machine {
-            left: Cell::new(u64::MAX),
+            left: Cell::new(changes),
             refused: Cell::new(None),
         }
     }
 
-    /// From now on so many changes are made.
-    pub(crate) fn stop_after(&self, changes: u64) {
-        self.left.set(changes);
-        self.refused.set(None);
-    }
-
-    /// The first change that was refused.
-    pub(crate) fn refused(&self) -> Option<Change> {
-        self.refused.get()
+    /// The first change that was refused, or `nothing`.
+    pub(crate) fn refused(&self) -> &'static str {
+        match self.refused.get() {
+            Some(change) => change,
+            None => "nothing",
+        }
     }
 }
 
 /// Takes one of the changes that the machine still makes, or refuses it.
-fn take(machine: &Machine, change: Change, faults: &mut u64) -> io::Result<()>
+fn take(machine: &Machine, change: &'static str, faults: &mut u64) -> io::Result<()>
     ensures faults { CountsFault result faults.old faults.new }
     ensures kind { finds_no_room result ≡ false }
 {
@@ -70,17 +50,6 @@ fn take(machine: &Machine, change: Change, faults: &mut u64) -> io::Result<()>
     }
     machine.left.set(left - 1);
     Ok(())
-}
-
-/// What a stop may leave of a file.
-#[derive(Drop)]
-pub(crate) struct Left {
-    /// All that was written.
-    pub(crate) written: Vec<u8>,
-    /// That, and the first half of the write that was refused. The same where no write of this file was.
-    pub(crate) torn: Vec<u8>,
-    /// What was made to last.
-    pub(crate) lasting: Vec<u8>,
 }
 
 /// A file of the machine, in memory.
@@ -114,26 +83,22 @@ impl<'a> MachineFile<'a> {
         })
     }
 
-    /// What a stop at this moment may leave.
-    pub(crate) fn into_left(self) -> Result<Left, AllocError> {
-        let MachineFile {
-            bytes,
-            lasting,
-            torn,
-            machine: _,
-            is_log: _,
-            is_usable: _,
-            faults: _,
-        } = self;
-        let torn = match torn {
-            Some(torn) => torn,
-            None => bytes.clone()?,
-        };
-        Ok(Left {
-            written: bytes,
-            torn,
-            lasting,
-        })
+    /// All that was written.
+    pub(crate) fn written(&self) -> &[u8] {
+        self.bytes.as_slice()
+    }
+
+    /// That, and the first half of the write that was refused. The same where no write of this file was.
+    pub(crate) fn torn(&self) -> &[u8] {
+        match &self.torn {
+            Some(torn) => torn.as_slice(),
+            None => self.bytes.as_slice(),
+        }
+    }
+
+    /// What was made to last.
+    pub(crate) fn lasting(&self) -> &[u8] {
+        self.lasting.as_slice()
     }
 }
 
@@ -256,7 +221,7 @@ impl Disk for MachineFile<'_> {
     }
 
     fn write_at(&mut self, at: usize, bytes: &[u8]) -> io::Result<()> {
-        let runs = self.machine.refused().is_none();
+        let runs = self.machine.refused.get().is_none();
         if let Err(error) = take(self.machine, write_of(self.is_log), &mut self.faults) {
             if runs {
                 self.torn = half_written(&self.bytes, at, bytes).ok();
@@ -280,26 +245,14 @@ impl Disk for MachineFile<'_> {
     }
 }
 
-fn write_of(is_log: bool) -> Change {
-    if is_log {
-        Change::LogWrite
-    } else {
-        Change::FileWrite
-    }
+fn write_of(is_log: bool) -> &'static str {
+    if is_log { "log write" } else { "file write" }
 }
 
-fn length_of(is_log: bool) -> Change {
-    if is_log {
-        Change::LogLength
-    } else {
-        Change::FileLength
-    }
+fn length_of(is_log: bool) -> &'static str {
+    if is_log { "log length" } else { "file length" }
 }
 
-fn sync_of(is_log: bool) -> Change {
-    if is_log {
-        Change::LogSync
-    } else {
-        Change::FileSync
-    }
+fn sync_of(is_log: bool) -> &'static str {
+    if is_log { "log sync" } else { "file sync" }
 }

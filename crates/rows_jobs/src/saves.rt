@@ -1,31 +1,58 @@
-//! Saves of jobs whose bytes are letters, and all that a keeper holds of some jobs as one text, by which what two keepers
-//! hold is compared.
+//! Saves of jobs, and all that a keeper holds of some jobs as one text, by which what two keepers hold is compared.
 
-use crate::trouble::Trouble;
 use fund_outside::{KeepFault, Keeper};
+use row_columns::{Answer, column, number_in, short_in};
 use std::alloc::{AllocError, Global};
 
-/// A save of a job. Its part is this letter so many times, and its saved text begins with the letter.
-#[derive(Clone, Copy)]
-pub(crate) struct Save {
-    pub(crate) job: &'static str,
-    pub(crate) first: u32,
-    pub(crate) letter: u8,
-    pub(crate) count: usize,
+/// A yes or a no.
+pub(crate) fn say(holds: bool) -> &'static str {
+    if holds { "yes" } else { "no" }
 }
 
-/// A letter so many times.
-pub(crate) fn letters(alloc: Global, letter: u8, count: usize) -> Result<Vec<u8>, AllocError> {
-    let mut text = Vec::new(alloc);
-    text.resize(count, letter)?;
-    Ok(text)
+/// Puts a line of a label and a word; none without a label.
+pub(crate) fn put_line(out: &mut Answer, label: &str, word: &str) {
+    if !label.is_empty() {
+        out.word("  ");
+        out.word(label);
+        out.word(": ");
+        out.word(word);
+        out.word("\n");
+    }
 }
 
-/// Has a keeper do a save.
-pub(crate) fn keep<K: Keeper>(alloc: Global, keeper: &mut K, save: &Save) -> Result<(), KeepFault> {
-    let part = letters(alloc, save.letter, save.count)?;
-    let saved = [save.letter, b'!'];
-    keeper.save(save.job, save.first, part.as_slice(), saved.as_slice())
+/// A text so many times.
+pub(crate) fn repeated(alloc: Global, text: &str, count: u64) -> Result<Vec<u8>, KeepFault> {
+    let mut bytes = Vec::new(alloc);
+    for _ in 0..count {
+        bytes.extend_from_slice(text.as_bytes())?;
+    }
+    Ok(bytes)
+}
+
+/// Has a keeper do the save of the words JOB, FIRST, TEXT, COUNT and SAVED: the part is a text so many times.
+pub(crate) fn keep<K: Keeper>(
+    alloc: Global,
+    keeper: &mut K,
+    words: &[&str],
+) -> Result<(), KeepFault> {
+    let part = repeated(alloc, column(words, 2), number_in(column(words, 3), 0))?;
+    let (job, first) = (column(words, 0), short_in(column(words, 1)));
+    keeper.save(job, first, &part, column(words, 4).as_bytes())
+}
+
+/// Has a keeper do saves, whose words have `/` between them, up to the first that fails.
+pub(crate) fn keep_all<K: Keeper>(
+    alloc: Global,
+    keeper: &mut K,
+    saves: &[&str],
+) -> Result<(), KeepFault> {
+    for save in saves {
+        let words: Vec<&str> = save.split('/').collect(alloc)?;
+        if let Err(fault) = keep(alloc, keeper, &words) {
+            return Err(fault);
+        }
+    }
+    Ok(())
 }
 
 /// Writes an answer: the bytes in a line, or that there were none.
@@ -41,27 +68,31 @@ fn note(text: &mut Vec<u8>, found: Option<Vec<u8>>) -> Result<(), AllocError> {
     Ok(())
 }
 
-/// Writes what a keeper holds of a job: its saved text, and its first parts.
-fn note_job<K: Keeper>(
-    keeper: &mut K,
-    text: &mut Vec<u8>,
-    job: &str,
-    parts: u32,
-) -> Result<(), Trouble> {
+/// Writes what a keeper holds of a job: its saved text, and its first six parts.
+fn note_job<K: Keeper>(keeper: &mut K, text: &mut Vec<u8>, job: &str) -> Result<(), KeepFault> {
     let saved = keeper.load(job)?;
     note(text, saved)?;
-    for number in 0..parts {
-        let part = keeper.part(job, number)?;
+    for number in 0..6 {
+        let part = match keeper.part(job, number) {
+            Ok(part) => part,
+            Err(fault) => return Err(fault),
+        };
         note(text, part)?;
     }
     Ok(())
 }
 
-/// What a keeper holds of the jobs `a`, `b` and `c`, with their first six parts.
-pub(crate) fn held<K: Keeper>(alloc: Global, keeper: &mut K) -> Result<Vec<u8>, Trouble> {
+/// What a keeper holds of jobs, with their first six parts.
+pub(crate) fn held<K: Keeper>(
+    alloc: Global,
+    keeper: &mut K,
+    jobs: &[&str],
+) -> Result<Vec<u8>, KeepFault> {
     let mut text = Vec::new(alloc);
-    note_job(keeper, &mut text, "a", 6)?;
-    note_job(keeper, &mut text, "b", 6)?;
-    note_job(keeper, &mut text, "c", 6)?;
+    for job in jobs {
+        if let Err(fault) = note_job(keeper, &mut text, job) {
+            return Err(fault);
+        }
+    }
     Ok(text)
 }

@@ -1,26 +1,20 @@
-//! A save that is stopped, and what is found after the stop.
+//! Rows of saves that are stopped: `stops NAME CLOSED SHORT SAVE MADE ..`, a save that is stopped at each change of the files, and
+//! those that were made before. The words of a save are `JOB/FIRST/TEXT/COUNT/SAVED`. `closed` says that the files were closed after
+//! the saves that were made, and `short` that the log is copied, and pages are written to it, after two pages each.
+//!
+//! It prints a line for each stop, and what all of them were found to leave.
 
-use crate::images::{Image, Images, files_of, images_of, no_bytes};
-use crate::judging::{Due, Found};
-use crate::keeping::{Step, keep_all, reopened, run};
-use crate::machine::{Change, Machine};
-use crate::saves::{Save, keep};
-use crate::trouble::Trouble;
-use fund_outside::SureKeeper;
-use sqlite::Options;
-use std::alloc::Global;
+use crate::findings::{Due, Findings, Found};
+use crate::machine::{Machine, MachineFile};
+use crate::saves::{held, keep_all};
+use crate::tables::{Step, Work, run};
+use fund_outside::{KeepFault, SureKeeper};
+use row_columns::{Answer, column};
+use sqlite::{Files, Options};
+use std::alloc::{AllocError, Global};
 
-/// Saves that were made, and one that is stopped.
-#[derive(Clone, Copy)]
-pub(crate) struct Case {
-    pub(crate) name: &'static str,
-    pub(crate) made: &'static [Save],
-    /// Whether the files were closed after the saves that were made.
-    pub(crate) is_closed: bool,
-    /// Whether the log is copied, and pages are written to it, after two pages each.
-    pub(crate) is_short: bool,
-    pub(crate) save: Save,
-}
+/// More changes than any of the runs makes.
+const MOST: u64 = 1000;
 
 /// How files are opened, so that few pages are kept in memory.
 fn few_pages() -> Options {
@@ -38,86 +32,148 @@ fn options_of(is_short: bool) -> Options {
     options
 }
 
-/// What is to be kept before the case's save and after it.
-pub(crate) fn due_of(alloc: Global, case: &Case) -> Result<Due, Trouble> {
-    let mut before = SureKeeper::new(alloc);
-    keep_all(alloc, &mut before, case.made)?;
-    let mut after = SureKeeper::new(alloc);
-    keep_all(alloc, &mut after, case.made)?;
-    keep(alloc, &mut after, &case.save)?;
-    Ok(Due { before, after })
-}
-
-/// The files after the saves that were made.
-pub(crate) fn start_of(alloc: Global, case: &Case) -> Result<Image, Trouble> {
-    let nothing = no_bytes(alloc);
-    if case.made.is_empty() {
-        return Ok(nothing);
-    }
-    let machine = Machine::new();
-    let files = files_of(alloc, &machine, &nothing)?;
-    let (_, files) = run(alloc, files, few_pages(), case.made, case.is_closed);
-    let Images {
-        written,
-        torn: _,
-        lasting: _,
-    } = images_of(files)?;
-    Ok(written)
-}
-
-/// What is found in files that are opened anew.
-fn judged(alloc: Global, image: &Image, due: &mut Due) -> Result<Found, Trouble> {
-    let machine = Machine::new();
-    let files = files_of(alloc, &machine, image)?;
-    reopened(alloc, files, few_pages(), due)
-}
-
-/// What is found after one stop.
-#[derive(Clone, Copy)]
-pub(crate) struct Stop {
-    pub(crate) step: Step,
-    pub(crate) refused: Option<Change>,
-    /// In all that was written.
-    pub(crate) written: Found,
-    /// In that, with half of the write that was refused.
-    pub(crate) torn: Found,
-    /// In what was made to last.
-    pub(crate) lasting: Found,
-}
-
-fn judged_all(
+/// Files of the machine that hold these bytes.
+fn files_of<'a>(
     alloc: Global,
-    step: Step,
-    refused: Option<Change>,
-    images: &Images,
-    due: &mut Due,
-) -> Result<Stop, Trouble> {
-    let written = judged(alloc, &images.written, due)?;
-    let torn = judged(alloc, &images.torn, due)?;
-    let lasting = judged(alloc, &images.lasting, due)?;
-    Ok(Stop {
-        step,
-        refused,
-        written,
-        torn,
-        lasting,
+    machine: &'a Machine,
+    log: &[u8],
+    file: &[u8],
+) -> Result<Files<MachineFile<'a>>, AllocError> {
+    let log = MachineFile::new(alloc, machine, true, log)?;
+    let db = MachineFile::new(alloc, machine, false, file)?;
+    Ok(Files { log, db })
+}
+
+/// What is to be kept before a save and after it, by those that were made before.
+fn due_of(alloc: Global, save: &[&str], made: &[&str]) -> Result<Due, KeepFault> {
+    let mut sure = SureKeeper::new(alloc);
+    keep_all(alloc, &mut sure, made)?;
+    let before = held(alloc, &mut sure, &["a"])?;
+    let other = held(alloc, &mut sure, &["b"])?;
+    keep_all(alloc, &mut sure, save)?;
+    let after = held(alloc, &mut sure, &["a"])?;
+    Ok(Due {
+        before,
+        after,
+        other,
     })
 }
 
-/// Stops a run of the case after so many changes.
-pub(crate) fn stop_of(
-    alloc: Global,
-    case: &Case,
-    start: &Image,
-    due: &mut Due,
+/// What lies in the log and in the file of a database.
+#[derive(Drop)]
+struct Image {
+    log: Vec<u8>,
+    file: Vec<u8>,
+}
+
+/// The files after the saves that were made.
+fn start_of(alloc: Global, made: &[&str], is_closed: bool) -> Result<Image, AllocError> {
+    if made.is_empty() {
+        return Ok(Image {
+            log: Vec::new(alloc),
+            file: Vec::new(alloc),
+        });
+    }
+    let machine = Machine::new(u64::MAX);
+    let files = files_of(alloc, &machine, &[], &[])?;
+    let mut work = Work {
+        due: None,
+        is_closed,
+        found: Found::nothing(),
+    };
+    let (_, files) = run(alloc, files, few_pages(), made, &mut work);
+    let log = Vec::from_slice(alloc, files.log.written())?;
+    let file = Vec::from_slice(alloc, files.db.written())?;
+    Ok(Image { log, file })
+}
+
+/// What is found in files that are opened anew.
+fn found_in(alloc: Global, log: &[u8], file: &[u8], due: &Due) -> Result<Found, AllocError> {
+    let machine = Machine::new(u64::MAX);
+    let files = files_of(alloc, &machine, log, file)?;
+    let mut work = Work {
+        due: Some(due),
+        is_closed: false,
+        found: Found::nothing(),
+    };
+    let _ = run(alloc, files, few_pages(), &[], &mut work);
+    let Work {
+        due: _,
+        is_closed: _,
+        found,
+    } = work;
+    Ok(found)
+}
+
+/// Puts what a stop leaves in files, and takes it into the findings.
+fn put_found(out: &mut Answer, findings: &mut Findings, step: &Step, word: &str, found: &Found) {
+    out.word(word);
+    out.word(found.word());
+    findings.add(step, found);
+}
+
+/// Puts what a stop leaves: in all that was written, in that with half of the write that was refused, and in what was made to last.
+fn put_stop(
+    out: &mut Answer,
+    findings: &mut Findings,
+    step: &Step,
+    files: &Files<MachineFile<'_>>,
+    due: &Due,
+) -> Result<(), KeepFault> {
+    let (log, file) = (&files.log, &files.db);
+    let written = found_in(out.alloc, log.written(), file.written(), due)?;
+    put_found(out, findings, step, ": ", &written);
+    let torn = found_in(out.alloc, log.torn(), file.torn(), due)?;
+    put_found(out, findings, step, ", ", &torn);
+    let lasting = found_in(out.alloc, log.lasting(), file.lasting(), due)?;
+    put_found(out, findings, step, ", ", &lasting);
+    out.word("\n");
+    Ok(())
+}
+
+/// Stops a run of a save after so many changes, and puts what that leaves. Says whether the run ended by itself.
+fn stop(
+    out: &mut Answer,
+    findings: &mut Findings,
     changes: u64,
-) -> Result<Stop, Trouble> {
-    let machine = Machine::new();
-    machine.stop_after(changes);
-    let files = files_of(alloc, &machine, start)?;
-    let saves = [case.save];
-    let options = options_of(case.is_short);
-    let (step, files) = run(alloc, files, options, saves.as_slice(), true);
-    let images = images_of(files)?;
-    judged_all(alloc, step, machine.refused(), &images, due)
+    start: &Image,
+    due: &Due,
+    columns: &[&str],
+) -> Result<bool, KeepFault> {
+    let machine = Machine::new(changes);
+    let files = files_of(out.alloc, &machine, &start.log, &start.file)?;
+    let options = options_of(column(columns, 2) == "short");
+    let save = columns.get(3..4).unwrap_or(&[]);
+    let mut work = Work {
+        due: None,
+        is_closed: true,
+        found: Found::nothing(),
+    };
+    let (step, files) = run(out.alloc, files, options, save, &mut work);
+    out.number("  ", changes);
+    out.word(" ");
+    out.word(step.word());
+    out.word(", ");
+    out.word(machine.refused());
+    put_stop(out, findings, &step, &files, due)?;
+    Ok(matches!(step, Step::Done))
+}
+
+/// Stops a run of the row's save at each change.
+pub(crate) fn row(out: &mut Answer, columns: &[&str]) -> Result<(), KeepFault> {
+    out.word(column(columns, 0));
+    out.word("\n");
+    let made = columns.get(4..).unwrap_or(&[]);
+    let start = start_of(out.alloc, made, column(columns, 1) == "closed")?;
+    let due = due_of(out.alloc, columns.get(3..4).unwrap_or(&[]), made)?;
+    let mut findings = Findings::new();
+    for changes in 0..MOST {
+        match stop(out, &mut findings, changes, &start, &due, columns) {
+            Ok(true) => break,
+            Ok(false) => {}
+            Err(fault) => return Err(fault),
+        }
+    }
+    findings.put(out);
+    Ok(())
 }

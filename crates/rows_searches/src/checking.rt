@@ -2,87 +2,84 @@
 
 ghost use Rattle.std.specs.Prelude.{◌≤◌};
 
-use crate::columns::{best_in, column};
-use crate::texts::{numbered, places_of, word};
 use fund_base::Memory;
 use log_checker::{Checker, LogFault};
 use pick_problem::Problem;
-use row_columns::unescaped;
+use row_columns::{Answer, best_in, column, places_of, unescaped};
 use std::alloc::Global;
 
-/// Puts a fault of a log, with its place.
-pub(crate) fn put_log_fault(out: &mut Vec<u8>, fault: LogFault) -> Result<(), Memory> {
+/// Puts a word, and a fault of a log with its place.
+pub(crate) fn put_log_fault(out: &mut Answer, word: &str, fault: LogFault) {
+    out.word(word);
     match fault {
-        LogFault::UnknownToken(place) => numbered(out, "UnknownToken ", place),
-        LogFault::ReasonFalse(place) => numbered(out, "ReasonFalse ", place),
-        LogFault::TooLong(place) => numbered(out, "TooLong ", place),
-        LogFault::Open => word(out, "Open"),
-        LogFault::AnswerNotMet => word(out, "AnswerNotMet"),
-        LogFault::BetterMet(place) => numbered(out, "BetterMet ", place),
-        LogFault::AnswerNotAdmissible => word(out, "AnswerNotAdmissible"),
-        LogFault::Memory => Err(Memory),
+        LogFault::UnknownToken(place) => out.number("UnknownToken ", place),
+        LogFault::ReasonFalse(place) => out.number("ReasonFalse ", place),
+        LogFault::TooLong(place) => out.number("TooLong ", place),
+        LogFault::Open => out.word("Open"),
+        LogFault::AnswerNotMet => out.word("AnswerNotMet"),
+        LogFault::BetterMet(place) => out.number("BetterMet ", place),
+        LogFault::AnswerNotAdmissible => out.word("AnswerNotAdmissible"),
+        LogFault::Memory => out.lack(),
     }
 }
 
-/// Puts a fault, and the call that gives it.
-fn put_refusal(out: &mut Vec<u8>, call: &str, fault: LogFault) -> Result<(), Memory> {
-    word(out, call)?;
-    put_log_fault(out, fault)
-}
-
-/// Puts what a checker says of a log whose letters are fed in pieces of this length.
-fn put_verdict(
-    alloc: Global,
-    out: &mut Vec<u8>,
-    problem: &Problem,
-    answer: Option<&[u32]>,
-    letters: &[u8],
-    length: usize,
-) -> Result<(), Memory>
+/// Feeds letters in pieces of this length.
+fn feed(checker: &mut Checker, letters: &[u8], length: usize) -> Result<(), LogFault>
     requires { 1 ≤ length }
 {
-    let mut checker = match Checker::new(alloc, problem, answer) {
-        Ok(checker) => checker,
-        Err(fault) => return put_refusal(out, "new ", fault),
-    };
     for piece in letters.chunks(length) {
         if let Err(fault) = checker.feed(piece) {
-            return put_refusal(out, "feed ", fault);
+            return Err(fault);
         }
-    }
-    match checker.end() {
-        Ok(()) => word(out, "ok"),
-        Err(fault) => put_refusal(out, "end ", fault),
-    }
-}
-
-/// Puts what is said of a log in one piece, and, where that differs, letter by letter.
-fn put_verdicts(
-    alloc: Global,
-    out: &mut Vec<u8>,
-    problem: &Problem,
-    answer: Option<&[u32]>,
-    letters: &[u8],
-) -> Result<(), Memory> {
-    let (mut whole, mut parts) = (Vec::new(alloc), Vec::new(alloc));
-    put_verdict(alloc, &mut whole, problem, answer, letters, usize::MAX)?;
-    put_verdict(alloc, &mut parts, problem, answer, letters, 1)?;
-    out.extend_from_slice(&whole)?;
-    if whole.as_slice() != parts.as_slice() {
-        word(out, ", in pieces ")?;
-        out.extend_from_slice(&parts)?;
     }
     Ok(())
 }
 
-/// Puts what is said of a log: its answer and its letters.
-pub(crate) fn check(
+/// Puts what a checker says of letters that are fed in pieces of this length; a fault behind the call that gives it.
+fn put_fed(out: &mut Answer, checker: &mut Checker, letters: &[u8], length: usize)
+    requires { 1 ≤ length }
+{
+    if let Err(fault) = feed(checker, letters, length) {
+        return put_log_fault(out, "feed ", fault);
+    }
+    match checker.end() {
+        Ok(()) => out.word("ok"),
+        Err(fault) => put_log_fault(out, "end ", fault),
+    }
+}
+
+/// What a checker says of a log whose letters are fed in pieces of this length.
+fn verdict(
     alloc: Global,
-    out: &mut Vec<u8>,
     problem: &Problem,
-    columns: &[&str],
-) -> Result<(), Memory> {
-    let answer = best_in(alloc, column(columns, 0))?;
-    let letters = unescaped(alloc, column(columns, 1).as_bytes())?;
-    put_verdicts(alloc, out, problem, places_of(&answer), &letters)
+    answer: Option<&[u32]>,
+    letters: &[u8],
+    length: usize,
+) -> Answer
+    requires { 1 ≤ length }
+{
+    let mut out = Answer::new(alloc);
+    match Checker::new(alloc, problem, answer) {
+        Ok(mut checker) => put_fed(&mut out, &mut checker, letters, length),
+        Err(fault) => put_log_fault(&mut out, "new ", fault),
+    }
+    out
+}
+
+/// Puts what is said of a log in one piece, and, where that differs, letter by letter.
+fn put_verdicts(out: &mut Answer, problem: &Problem, answer: Option<&[u32]>, letters: &[u8]) {
+    let whole = verdict(out.alloc, problem, answer, letters, usize::MAX);
+    let parts = verdict(out.alloc, problem, answer, letters, 1);
+    out.add("", &whole);
+    if whole.text() != parts.text() {
+        out.add(", in pieces ", &parts);
+    }
+}
+
+/// Puts what is said of a log: its answer and its letters. The error is out of memory.
+pub(crate) fn check(out: &mut Answer, problem: &Problem, columns: &[&str]) -> Result<(), Memory> {
+    let answer = best_in(out.alloc, column(columns, 0))?;
+    let letters = unescaped(out.alloc, column(columns, 1).as_bytes())?;
+    put_verdicts(out, problem, places_of(&answer), &letters);
+    Ok(())
 }

@@ -5,9 +5,9 @@
 ghost use Rattle.std.specs.Prelude.{◌≤◌, IfOk, IfSome, length};
 ghost use Rattle.coin_candidates.specs.Candidates.{AreCandidates};
 
-use crate::columns::column;
 use coin_candidates::Candidate;
 use fund_base::{MAX_MONEY, Memory, OutPoint, Script, Txid};
+use row_columns::{column, number_in, number_within, short_in};
 use std::alloc::Global;
 
 /// What tells coins apart in the rows.
@@ -24,19 +24,19 @@ struct Coin {
     descendants: u32,
 }
 
-/// The coin of these words.
-fn read_coin(words: &[&str]) -> Option<Coin> {
-    Some(Coin {
-        txid: column(words, 0).parse().ok()?,
-        value: column(words, 1).parse().ok()?,
-        weight: column(words, 2).parse().ok()?,
-        script: column(words, 3).parse().ok()?,
-        depth: column(words, 4).parse().ok()?,
+/// The coin of these words. A word that is no number is read as 0.
+fn coin_of(words: &[&str]) -> Coin {
+    Coin {
+        txid: number_within(column(words, 0), 255) as u8,
+        value: number_in(column(words, 1), 0),
+        weight: number_in(column(words, 2), 0),
+        script: number_within(column(words, 3), 255) as u8,
+        depth: short_in(column(words, 4)),
         mine: column(words, 5) == "mine",
         safe: column(words, 6) == "safe",
-        ancestors: column(words, 7).parse().ok()?,
-        descendants: column(words, 8).parse().ok()?,
-    })
+        ancestors: short_in(column(words, 7)),
+        descendants: short_in(column(words, 8)),
+    }
 }
 
 /// Puts as many coins as the word says after the others, and tells whether it is one that says so.
@@ -45,13 +45,22 @@ fn put_coins(alloc: Global, coins: &mut Vec<Coin>, word: &str) -> Result<bool, M
         return Ok(false);
     };
     let words: Vec<&str> = word.split('/').collect(alloc)?;
-    let (Ok(count), Some(coin)) = (count.parse::<u32>(), read_coin(&words)) else {
-        return Ok(false);
-    };
-    for _ in 0..count {
+    let coin = coin_of(&words);
+    for _ in 0..short_in(count) {
         coins.push(coin)?;
     }
     Ok(true)
+}
+
+/// The coins of a column; `-` is none. `None` where it isn't spelled so.
+fn coins_in(alloc: Global, column: &str) -> Result<Option<Vec<Coin>>, Memory> {
+    let mut coins = Vec::new(alloc);
+    for word in column.split(' ') {
+        if word != "-" && !put_coins(alloc, &mut coins, word)? {
+            return Ok(None);
+        }
+    }
+    Ok(Some(coins))
 }
 
 /// The coins as candidates. What no candidate can be is the nearest that one can.
@@ -79,18 +88,16 @@ fn listed(alloc: Global, coins: &[Coin]) -> Result<Vec<Candidate>, Memory>
     Ok(list)
 }
 
-/// The candidates of a column; `-` is none. `None` where it isn't spelled so, or has more than 100,000.
+/// The candidates of a column. `None` where it isn't spelled so, or has more than 100,000.
 pub(crate) fn candidates_in(alloc: Global, column: &str) -> Result<Option<Vec<Candidate>>, Memory>
     ensures { IfOk result (λ o. IfSome o (λ v. AreCandidates v.items)) }
 {
-    let mut coins = Vec::new(alloc);
-    for word in column.split(' ') {
-        if word != "-" && !put_coins(alloc, &mut coins, word)? {
-            return Ok(None);
-        }
-    }
+    let Some(coins) = coins_in(alloc, column)? else {
+        return Ok(None);
+    };
     if coins.len() > 100_000 {
         return Ok(None);
     }
-    Ok(Some(listed(alloc, &coins)?))
+    let list = listed(alloc, &coins)?;
+    Ok(Some(list))
 }

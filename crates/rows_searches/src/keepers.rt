@@ -6,103 +6,75 @@
 //! - `part=JOB=NUMBER`: a part of it
 //! - `save=JOB=FIRST=PART=SAVED`: saves a part behind so many first parts
 
-use crate::columns::{column, numbers_in};
-use crate::texts::{Text, put, word};
 use fund_base::Memory;
 use fund_outside::{KeepFault, Keeper, MemKeeper, SureKeeper};
-use std::alloc::Global;
+use row_columns::{Answer, column, numbers_in, short_in};
 
 /// Puts what a call answered in place of bytes.
-fn put_fault(out: &mut Vec<u8>, fault: KeepFault) -> Result<(), Memory> {
-    match fault {
-        KeepFault::Failed => word(out, "failed"),
-        KeepFault::Memory => word(out, "memory"),
-    }
+fn put_fault(out: &mut Answer, fault: KeepFault) {
+    out.word(match fault {
+        KeepFault::Failed => "failed",
+        KeepFault::Memory => "memory",
+    });
 }
 
 /// Puts bytes that were asked for.
-fn put_found(
-    out: &mut Vec<u8>,
-    columns: &[&str],
-    found: Result<Option<Vec<u8>>, KeepFault>,
-) -> Result<(), Memory> {
-    let (call, job) = (
-        Text::Word(column(columns, 0)),
-        Text::Word(column(columns, 1)),
-    );
-    put(out, &[call, Text::Word(" "), job, Text::Word(": ")])?;
+fn put_found(out: &mut Answer, columns: &[&str], found: Result<Option<Vec<u8>>, KeepFault>) {
+    out.word(column(columns, 0));
+    out.word(" ");
+    out.word(column(columns, 1));
+    out.word(": ");
     match found {
-        Ok(Some(bytes)) => put(out, &[Text::Bytes(&bytes)]),
-        Ok(None) => word(out, "none"),
+        Ok(Some(bytes)) => out.put(&bytes),
+        Ok(None) => out.word("none"),
         Err(fault) => put_fault(out, fault),
     }
 }
 
 /// Puts what a save of these words answered.
-fn put_saved(
-    out: &mut Vec<u8>,
-    columns: &[&str],
-    saved: Result<(), KeepFault>,
-) -> Result<(), Memory> {
+fn put_saved(out: &mut Answer, columns: &[&str], saved: Result<(), KeepFault>) {
     for number in 0..columns.len() {
-        put(out, &[Text::Word(column(columns, number)), Text::Word(" ")])?;
+        out.word(column(columns, number));
+        out.word(" ");
     }
     match saved {
-        Ok(()) => word(out, "done"),
+        Ok(()) => out.word("done"),
         Err(fault) => put_fault(out, fault),
     }
 }
 
-/// The number of a word that is one of parts.
-fn part_in(word: &str) -> u32 {
-    word.parse().unwrap_or(u32::MAX)
-}
-
 /// Does a call of these words, and puts what it answered.
-fn call<K: Keeper>(out: &mut Vec<u8>, keeper: &mut K, columns: &[&str]) -> Result<(), Memory> {
-    let job = column(columns, 1);
+fn call<K: Keeper>(out: &mut Answer, keeper: &mut K, columns: &[&str]) {
+    let (job, number) = (column(columns, 1), short_in(column(columns, 2)));
     match column(columns, 0) {
         "load" => put_found(out, columns, keeper.load(job)),
-        "part" => put_found(out, columns, keeper.part(job, part_in(column(columns, 2)))),
-        "save" => {
+        "part" => put_found(out, columns, keeper.part(job, number)),
+        _ => {
             let (part, saved) = (column(columns, 3).as_bytes(), column(columns, 4).as_bytes());
-            let saved = keeper.save(job, part_in(column(columns, 2)), part, saved);
-            put_saved(out, columns, saved)
+            put_saved(out, columns, keeper.save(job, number, part, saved));
         }
-        _ => word(out, "no such call"),
     }
 }
 
-/// Does calls, and puts what they answered, a line each.
-fn put_calls<K: Keeper>(
-    alloc: Global,
-    out: &mut Vec<u8>,
-    keeper: &mut K,
-    calls: &[&str],
-) -> Result<(), Memory> {
-    for number in 0..calls.len() {
-        if number > 0 {
-            word(out, "\n")?;
-        }
-        let words: Vec<&str> = calls[number].split('=').collect(alloc)?;
-        call(out, keeper, &words)?;
+/// Does the calls of the columns behind the first three, and puts what they answered, a line each. The error is out of memory.
+fn put_calls<K: Keeper>(out: &mut Answer, keeper: &mut K, columns: &[&str]) -> Result<(), Memory> {
+    for number in 3..columns.len() {
+        out.word(if number > 3 { "\n" } else { "" });
+        let words: Vec<&str> = column(columns, number).split('=').collect(out.alloc)?;
+        call(out, keeper, &words);
     }
     Ok(())
 }
 
-/// Puts what a row of kept jobs comes to.
-pub(crate) fn keeper_row(alloc: Global, out: &mut Vec<u8>, columns: &[&str]) -> Result<(), Memory> {
-    if columns.len() < 3 {
-        return word(out, "no keeper");
+/// Puts what a row of kept jobs comes to. The error is out of memory.
+pub(crate) fn keeper_row(out: &mut Answer, columns: &[&str]) -> Result<(), Memory> {
+    if column(columns, 0) == "sure" {
+        let mut keeper = SureKeeper::new(out.alloc);
+        return put_calls(out, &mut keeper, columns);
     }
-    let calls = &columns[3..];
-    if columns[0] == "sure" {
-        let mut keeper = SureKeeper::new(alloc);
-        return put_calls(alloc, out, &mut keeper, calls);
-    }
-    let loads = numbers_in(alloc, columns[0])?;
-    let parts = numbers_in(alloc, columns[1])?;
-    let saves = numbers_in(alloc, columns[2])?;
-    let mut keeper = MemKeeper::new(alloc, loads, parts, saves);
-    put_calls(alloc, out, &mut keeper, calls)
+    let loads = numbers_in(out.alloc, column(columns, 0))?;
+    let parts = numbers_in(out.alloc, column(columns, 1))?;
+    let saves = numbers_in(out.alloc, column(columns, 2))?;
+    let mut keeper = MemKeeper::new(out.alloc, loads, parts, saves);
+    put_calls(out, &mut keeper, columns)
 }

@@ -6,13 +6,11 @@
 //! - `coins`: pools and plans (`pools`)
 //! - `text`: logs, saved positions, reports and parts of their lines (`readings`)
 //! - `keeper`: jobs that are kept (`keepers`)
-//! - `work`: made-up wallets (`works`)
 //! - `plain`: what has none of these (`plain`)
 #![tactic(auto)]
 
 mod checking;
 mod coins;
-mod columns;
 mod keepers;
 mod log_texts;
 mod plain;
@@ -25,53 +23,47 @@ mod results;
 mod runs;
 mod saved_texts;
 mod steps;
-mod texts;
 mod walks;
-mod works;
 
 use fund_base::Memory;
-use fund_shelf::{StdSink, put_all};
-use std::alloc::Global;
+use row_columns::Answer;
 use std::io;
 use std::io::{BufRead, BufReader};
 
-/// Puts what a row comes to behind its first column.
-fn row(alloc: Global, out: &mut Vec<u8>, family: &str, columns: &[&str]) -> Result<(), Memory> {
+/// Puts what a row comes to behind its first column. The error is out of memory.
+fn row(out: &mut Answer, family: &str, columns: &[&str]) -> Result<(), Memory> {
     match family {
-        "run" => runs::run_row(alloc, out, columns),
-        "problem" => problems::problem_row(alloc, out, columns),
-        "coins" => pools::coins_row(alloc, out, columns),
-        "text" => readings::text_row(alloc, out, columns),
-        "keeper" => keepers::keeper_row(alloc, out, columns),
-        "work" => works::work_row(alloc, out, columns),
-        "plain" => plain::plain_row(alloc, out, columns),
-        _ => texts::word(out, "no such row"),
+        "run" => runs::run_row(out, columns),
+        "problem" => problems::problem_row(out, columns),
+        "coins" => pools::coins_row(out, columns),
+        "text" => readings::text_row(out, columns),
+        "keeper" => keepers::keeper_row(out, columns),
+        _ => plain::plain_row(out, columns),
     }
 }
 
-/// Puts what a line comes to, and a line feed.
-fn put_line(alloc: Global, out: &mut Vec<u8>, line: &str) -> Result<(), Memory> {
-    let columns: Vec<&str> = line.split('\t').collect(alloc)?;
-    if let Some((family, rest)) = columns.split_first() {
-        row(alloc, out, family, rest)?;
+/// Puts what a line comes to. The error is out of memory.
+fn put_line(out: &mut Answer, line: &str) -> Result<(), Memory> {
+    let columns: Vec<&str> = line.split('\t').collect(out.alloc)?;
+    match columns.split_first() {
+        Some((family, rest)) => row(out, family, rest),
+        None => Ok(()),
     }
-    texts::word(out, "\n")
 }
 
-/// Prints what a line comes to.
-fn show(rt: &HostRuntime, line: &str) {
-    let mut out = Vec::new(rt.alloc());
-    let mut sink = StdSink::new(rt);
-    let _ = match put_line(rt.alloc(), &mut out, line) {
-        Ok(()) => put_all(&mut sink, &out),
-        Err(Memory) => put_all(&mut sink, b"out of memory\n"),
-    };
+/// Prints what a line comes to, and a line feed.
+fn show(rt: &HostRuntime, line: &str) -> io::Result<()> {
+    let mut out = Answer::new(rt.alloc());
+    let ended = put_line(&mut out, line);
+    out.end(ended);
+    out.word("\n");
+    out.print(rt)
 }
 
 fn main(rt: HostRuntime) -> io::Result<()> {
     let alloc = rt.alloc();
     for line in BufReader::new(alloc, rt.reader())?.lines(alloc) {
-        show(&rt, line?.as_str());
+        show(&rt, line?.as_str())?;
     }
     Ok(())
 }

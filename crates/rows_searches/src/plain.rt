@@ -7,34 +7,16 @@
 //! - `ladder ZERO_CONF INCLUDE_UNSAFE`: the numbers of the rows
 //! - `wide`: what is written of a run that stands at the stage `wide`, and below it what reading that comes to
 
-use crate::columns::column;
 use crate::pools::put_ladder;
 use crate::report_texts::wide;
-use crate::texts::{Text, put, truth, word};
 use fund_base::{Memory, Places};
 use pick_problem::{Ending, Position, Progress, Reason, RestoreFault, Token, before, waste};
-use row_columns::places_in;
-use std::alloc::Global;
-
-/// Puts the wastes of a payment without change and of one with it.
-fn put_wastes(out: &mut Vec<u8>) -> Result<(), Memory> {
-    let without = waste(-680, Ending::Excess(990));
-    let with = waste(-272, Ending::Change(866));
-    put(
-        out,
-        &[
-            Text::Word("wastes "),
-            Text::Signed(without),
-            Text::Word(" "),
-            Text::Signed(with),
-        ],
-    )
-}
+use row_columns::{Answer, column, places_in};
 
 /// Puts a position, and whether what may be the matter with one is told apart.
-fn put_positions(alloc: Global, out: &mut Vec<u8>) -> Result<(), Memory> {
+fn put_positions(out: &mut Answer) {
     let at = Position {
-        chosen: Places::new(Vec::new(alloc)),
+        chosen: Places::new(Vec::new(out.alloc)),
         next: 1,
         best: None,
         tries: 1,
@@ -43,56 +25,48 @@ fn put_positions(alloc: Global, out: &mut Vec<u8>) -> Result<(), Memory> {
     let are_apart = Progress::Open != Progress::Done
         && RestoreFault::IllFormed != RestoreFault::Memory
         && RestoreFault::from(Memory) == RestoreFault::Memory;
-    put(
-        out,
-        &[
-            Text::Word("position "),
-            Text::Number(u64::from(at.next)),
-            Text::Word(" "),
-            Text::Number(at.tries),
-            Text::Word(" "),
-            Text::Word(truth(at.done)),
-            Text::Word(", faults apart "),
-            Text::Word(truth(are_apart)),
-        ],
-    )
+    out.number("position ", u64::from(at.next));
+    out.number(" ", at.tries);
+    out.flag(" ", at.done);
+    out.flag(", faults apart ", are_apart);
 }
 
 /// Puts the letters of the tokens of letters, and what those of F and of a letter of none are.
-fn put_tokens(out: &mut Vec<u8>) -> Result<(), Memory> {
-    word(out, "tokens ")?;
+fn put_tokens(out: &mut Answer) {
+    out.word("tokens ");
     for letter in b"ITSOHMWLFA" {
         match Token::of(*letter) {
-            Some(token) => out.push(token.letter())?,
-            None => out.push(b'-')?,
+            Some(token) => out.put(&[token.letter()]),
+            None => out.word("-"),
         }
     }
     match (Token::of(b'F'), Token::of(b'i')) {
-        (Some(Token::Close(Reason::Far)), None) => word(out, " far none"),
-        _ => word(out, " others"),
+        (Some(Token::Close(Reason::Far)), None) => out.word(" far none"),
+        _ => out.word(" others"),
     }
 }
 
-/// Puts whether the places of the first column come before those of the second.
-fn put_before(alloc: Global, out: &mut Vec<u8>, columns: &[&str]) -> Result<(), Memory> {
-    let first = places_in(alloc, column(columns, 1))?;
-    let second = places_in(alloc, column(columns, 2))?;
-    word(out, truth(before(&first, &second)))
+/// Puts whether the places of the first column come before those of the second. The error is out of memory.
+fn put_before(out: &mut Answer, columns: &[&str]) -> Result<(), Memory> {
+    let first = places_in(out.alloc, column(columns, 1))?;
+    let second = places_in(out.alloc, column(columns, 2))?;
+    out.flag("", before(&first, &second));
+    Ok(())
 }
 
-/// Puts what such a row comes to.
-pub(crate) fn plain_row(alloc: Global, out: &mut Vec<u8>, columns: &[&str]) -> Result<(), Memory> {
+/// Puts what such a row comes to. The error is out of memory.
+pub(crate) fn plain_row(out: &mut Answer, columns: &[&str]) -> Result<(), Memory> {
     match column(columns, 0) {
-        "wastes" => put_wastes(out),
-        "positions" => put_positions(alloc, out),
+        "wastes" => {
+            out.signed("wastes ", waste(-680, Ending::Excess(990)));
+            out.signed(" ", waste(-272, Ending::Change(866)));
+        }
+        "positions" => put_positions(out),
         "tokens" => put_tokens(out),
-        "before" => put_before(alloc, out, columns),
-        "ladder" => put_ladder(
-            out,
-            column(columns, 1) == "true",
-            column(columns, 2) == "true",
-        ),
-        "wide" => wide(alloc, out),
-        _ => word(out, "no such row"),
+        "before" => return put_before(out, columns),
+        "ladder" => put_ladder(out, column(columns, 1), column(columns, 2)),
+        "wide" => return wide(out),
+        _ => out.word("no such row"),
     }
+    Ok(())
 }

@@ -5,66 +5,58 @@ ghost use Rattle.coin_candidates.specs.Candidates.{AreCandidates};
 ghost use Rattle.fund_plan.specs.Answer.{HasSelection, IsSelection};
 ghost use Rattle.wallet_text.specs.WalletRules.{IsWatch};
 
-use crate::report_texts::put_change;
-use crate::texts::{Text, numbered, put, word};
+use crate::report_texts::put_figures;
 use coin_candidates::Candidate;
 use fund_base::{Memory, Script};
 use fund_plan::{Figures, Funded, Outcome, Plan, unsigned};
 use fund_steps::PlanFault;
 use request_text::{Request, read_request};
+use row_columns::Answer;
 use std::alloc::Global;
 use tx_codec::write_tx;
 use wallet_text::Watch;
 
 /// Puts why there is no plan.
-fn put_fault(out: &mut Vec<u8>, fault: PlanFault) -> Result<(), Memory> {
+fn put_fault(out: &mut Answer, fault: PlanFault) {
     match fault {
-        PlanFault::Total(sum) => put(out, &[Text::Word("total "), Text::Large(sum)]),
+        PlanFault::Total(sum) => out.large("total ", sum),
         PlanFault::NotEligible(point) => {
-            numbered(out, "not eligible ", u64::from(point.txid.bytes()[0]))?;
-            numbered(out, ":", u64::from(point.index))
+            out.number("not eligible ", u64::from(point.txid.bytes()[0]));
+            out.number(":", u64::from(point.index));
         }
         PlanFault::TooMany(row, groups) => {
-            numbered(out, "row ", u64::from(row))?;
-            numbered(out, ", ", groups)?;
-            word(out, " groups")
+            out.number("row ", u64::from(row));
+            out.number(", ", groups);
+            out.word(" groups");
         }
-        PlanFault::Memory => Err(Memory),
+        PlanFault::Memory => out.lack(),
     }
 }
 
-/// Puts the figures of a payment.
-fn put_figures(out: &mut Vec<u8>, figures: &Figures) -> Result<(), Memory> {
-    put(
-        out,
-        &[
-            Text::Word(", weight "),
-            Text::Number(figures.weight),
-            Text::Word(", vsize "),
-            Text::Number(figures.vsize),
-            Text::Word(", fee "),
-            Text::Number(figures.fee),
-            Text::Word(", waste "),
-            Text::Signed(figures.waste),
-        ],
-    )
-}
-
-/// Puts the change, the figures and the unsigned transaction of a payment.
+/// Puts the change, the figures and the unsigned transaction of a payment. The error is out of memory.
 fn put_paid(
-    alloc: Global,
-    out: &mut Vec<u8>,
+    out: &mut Answer,
     request: &Request,
     change: &Watch,
     funded: &Funded,
 ) -> Result<(), Memory>
     requires { IsSelection request.now funded.now }
 {
-    put_change(out, funded.change)?;
-    put_figures(out, &Figures::new(request, funded))?;
-    let tx = unsigned(alloc, request, change, funded)?;
-    let text = write_tx(alloc, &tx)?;
-    put(out, &[Text::Word(", paid by "), Text::Hex(&text)])
+    match funded.change {
+        Some(amount) => out.number("change ", amount),
+        None => out.word("change none"),
+    }
+    let figures = Figures::new(request, funded);
+    put_figures(
+        out,
+        figures.weight,
+        figures.vsize,
+        figures.fee,
+        figures.waste,
+    );
+    let tx = unsigned(out.alloc, request, change, funded)?;
+    out.written(", paid by ", write_tx(out.alloc, &tx));
+    Ok(())
 }
 
 /// What the plan comes to with so many tries.
@@ -75,10 +67,9 @@ fn outcome(plan: &mut Plan, tries: u64) -> Result<Outcome, Memory>
     Ok(outcome)
 }
 
-/// Puts what a plan of the candidates comes to.
+/// Puts what a plan of the candidates comes to. The error is out of memory.
 fn put_plan(
-    alloc: Global,
-    out: &mut Vec<u8>,
+    out: &mut Answer,
     request: &Request,
     change: &Watch,
     candidates: Vec<Candidate>,
@@ -87,15 +78,19 @@ fn put_plan(
     requires change { IsWatch change.now }
     requires candidates { AreCandidates candidates.items }
 {
-    let mut plan = match Plan::new(alloc, request, change, candidates, None) {
+    let mut plan = match Plan::new(out.alloc, request, change, candidates, None) {
         Ok(plan) => plan,
-        Err(fault) => return put_fault(out, fault),
+        Err(fault) => {
+            put_fault(out, fault);
+            return Ok(());
+        }
     };
     match outcome(&mut plan, request.tries)? {
-        Outcome::Funded(funded) => put_paid(alloc, out, request, change, &funded),
-        Outcome::NoSelection => word(out, "none"),
-        Outcome::Unfinished => word(out, "unfinished"),
+        Outcome::Funded(funded) => return put_paid(out, request, change, &funded),
+        Outcome::NoSelection => out.word("none"),
+        Outcome::Unfinished => out.word("unfinished"),
     }
+    Ok(())
 }
 
 /// A change that is paid to a witness program of 20 bytes CC, with an input of weight 272.
@@ -111,21 +106,22 @@ fn change_of(alloc: Global) -> Result<Watch, Memory>
     })
 }
 
-/// Puts what the candidates come to by the text of a request, which replaces nothing.
+/// Puts what the candidates come to by the text of a request, which replaces nothing. The error is out of memory.
 pub(crate) fn plan(
-    alloc: Global,
-    out: &mut Vec<u8>,
+    out: &mut Answer,
     request: &str,
     candidates: Vec<Candidate>,
 ) -> Result<(), Memory>
     requires { AreCandidates candidates.items }
 {
-    let Ok(request) = read_request(alloc, request.as_bytes()) else {
-        return word(out, "no request");
+    let Ok(request) = read_request(out.alloc, request.as_bytes()) else {
+        out.word("no request");
+        return Ok(());
     };
     if request.bump.is_some() {
-        return word(out, "another request");
+        out.word("another request");
+        return Ok(());
     }
-    let change = change_of(alloc)?;
-    put_plan(alloc, out, &request, &change, candidates)
+    let change = change_of(out.alloc)?;
+    put_plan(out, &request, &change, candidates)
 }

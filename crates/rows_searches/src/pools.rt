@@ -8,117 +8,93 @@
 ghost use Rattle.coin_candidates.specs.Candidates.{AreCandidates};
 
 use crate::coins::candidates_in;
-use crate::columns::{column, number_in};
 use crate::plans::plan;
-use crate::texts::{Text, numbered, put, word};
 use coin_candidates::Candidate;
 use fund_base::Memory;
-use output_groups::{Group, PoolFault, RowPool, ladder, meets, pool};
-use pick_problem::Item;
-use std::alloc::Global;
+use output_groups::{PoolFault, RowPool, ladder, meets, pool};
+use row_columns::{Answer, column, number_in};
 
 /// Puts the numbers of the rows of a ladder.
-pub(crate) fn put_ladder(
-    out: &mut Vec<u8>,
-    zero_conf: bool,
-    unsafe_too: bool,
-) -> Result<(), Memory> {
-    word(out, "rows")?;
-    for row in ladder(zero_conf, unsafe_too) {
-        numbered(out, " ", u64::from(row.number))?;
+pub(crate) fn put_ladder(out: &mut Answer, zero_conf: &str, unsafe_too: &str) {
+    out.word("rows");
+    for row in ladder(zero_conf == "true", unsafe_too == "true") {
+        out.number(" ", u64::from(row.number));
     }
-    Ok(())
 }
 
-/// Puts a group by its item, how many coins it has, and the first one's txid.
-fn put_group(out: &mut Vec<u8>, item: &Item, group: &Group) -> Result<(), Memory> {
-    let coins = group.as_slice();
-    let txid = match coins.first() {
-        Some(candidate) => candidate.coin.txid.bytes()[0],
-        None => 0,
-    };
-    put(
-        out,
-        &[
-            Text::Number(item.value),
-            Text::Word("/"),
-            Text::Number(item.weight),
-            Text::Word("/"),
-            Text::Signed(i128::from(item.cost)),
-            Text::Word(" "),
-            Text::Number(coins.len() as u64),
-            Text::Word("*"),
-            Text::Number(u64::from(txid)),
-            Text::Word("; "),
-        ],
-    )
-}
-
-/// Puts the groups of a pool, or their number alone.
-fn put_found(out: &mut Vec<u8>, pool: &RowPool, counts: bool) -> Result<(), Memory> {
-    if counts {
-        return numbered(out, "", pool.groups.len() as u64);
-    }
+/// Puts each group of a pool by its item, how many coins it has, and the first one's txid; and how many there are.
+fn put_groups(out: &mut Answer, pool: &RowPool) {
     for (item, group) in pool.items.iter().zip(pool.groups.iter()) {
-        put_group(out, item, group)?;
+        let coins = group.as_slice();
+        out.number("", item.value);
+        out.number("/", item.weight);
+        out.signed("/", i128::from(item.cost));
+        out.number(" ", coins.len() as u64);
+        let txid = match coins.first() {
+            Some(candidate) => candidate.coin.txid.bytes()[0],
+            None => 0,
+        };
+        out.number("*", u64::from(txid));
+        out.word("; ");
     }
-    numbered(out, "", pool.items.len() as u64)?;
-    numbered(out, " items, ", pool.groups.len() as u64)?;
-    word(out, " groups")
+    out.number("", pool.items.len() as u64);
+    out.number(" items, ", pool.groups.len() as u64);
+    out.word(" groups");
 }
 
 /// Puts the pool of these coins, or the number of its groups alone, at a rate which is the long-term rate too.
-fn put_pool(
-    alloc: Global,
-    out: &mut Vec<u8>,
-    coins: &[Candidate],
-    columns: &[&str],
-    counts: bool,
-) -> Result<(), Memory>
+fn put_pool(out: &mut Answer, coins: &[Candidate], columns: &[&str], counts: bool)
     requires { AreCandidates coins.now }
 {
-    let row = column(columns, 0).parse::<usize>().unwrap_or(0);
-    let rate = number_in(column(columns, 1), u64::MAX);
+    let row = number_in(column(columns, 2), 0) as usize;
+    let rate = number_in(column(columns, 3), u64::MAX);
     let rows = ladder(true, true);
     if row < 1 || row > rows.len() || rate > 100_000_000 {
-        return word(out, "no such row");
+        return out.word("no such row");
     }
-    let group = column(columns, 2) == "true";
-    match pool(alloc, coins, &rows[row - 1], rate, rate, group) {
-        Ok(found) => put_found(out, &found, counts),
-        Err(PoolFault::TooMany(groups)) => numbered(out, "TooMany ", groups),
-        Err(PoolFault::Memory) => Err(Memory),
+    let group = column(columns, 4) == "true";
+    match pool(out.alloc, coins, &rows[row - 1], rate, rate, group) {
+        Ok(found) if counts => out.number("", found.groups.len() as u64),
+        Ok(found) => put_groups(out, &found),
+        Err(PoolFault::TooMany(groups)) => out.number("TooMany ", groups),
+        Err(PoolFault::Memory) => out.lack(),
     }
 }
 
 /// Puts the numbers of the rows that take the first coin by itself.
-fn put_meets(out: &mut Vec<u8>, coins: &[Candidate]) -> Result<(), Memory> {
-    word(out, "rows")?;
+fn put_meets(out: &mut Answer, coins: &[Candidate]) {
+    out.word("rows");
     let Some(coin) = coins.first() else {
-        return Ok(());
+        return;
     };
     for row in ladder(true, true) {
         if meets(row, coin) {
-            numbered(out, " ", u64::from(row.number))?;
+            out.number(" ", u64::from(row.number));
         }
     }
-    Ok(())
 }
 
-/// Puts what a row of coins comes to.
-pub(crate) fn coins_row(alloc: Global, out: &mut Vec<u8>, columns: &[&str]) -> Result<(), Memory> {
-    if columns.len() < 2 {
-        return word(out, "no coins");
+/// Puts what a verb of pools asks of these coins.
+fn at_coins(out: &mut Answer, verb: &str, coins: &[Candidate], columns: &[&str])
+    requires { AreCandidates coins.now }
+{
+    match verb {
+        "pool" => put_pool(out, coins, columns, false),
+        "kept" => put_pool(out, coins, columns, true),
+        _ => put_meets(out, coins),
     }
-    let Some(coins) = candidates_in(alloc, columns[1])? else {
-        return word(out, "no coins");
+}
+
+/// Puts what a row of coins comes to. The error is out of memory.
+pub(crate) fn coins_row(out: &mut Answer, columns: &[&str]) -> Result<(), Memory> {
+    let verb = column(columns, 0);
+    let Some(coins) = candidates_in(out.alloc, column(columns, 1))? else {
+        out.word("no coins");
+        return Ok(());
     };
-    let rest = &columns[2..];
-    match columns[0] {
-        "pool" => put_pool(alloc, out, &coins, rest, false),
-        "kept" => put_pool(alloc, out, &coins, rest, true),
-        "meets" => put_meets(out, &coins),
-        "plan" => plan(alloc, out, column(rest, 0), coins),
-        _ => word(out, "no such row"),
+    if verb == "plan" {
+        return plan(out, column(columns, 2), coins);
     }
+    at_coins(out, verb, &coins, columns);
+    Ok(())
 }

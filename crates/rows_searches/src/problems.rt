@@ -14,8 +14,6 @@
 ghost use Rattle.std.specs.Prelude.{◌<◌, ◌≡◌, length};
 
 use crate::checking::check;
-use crate::columns::{column, digest_in};
-use crate::texts::{Text, places_of, put, truth, word};
 use crate::walks::walk_row;
 use fund_base::Memory;
 use pick_problem::{Kind, Problem, Tails, best_by_trying};
@@ -23,193 +21,146 @@ use rand_chacha::ChaCha20Rng;
 use rand_core::SeedableRng;
 use rand_core::utils::NextWord;
 use random_draw::{draw, order};
-use row_columns::{places_in, problem_in};
-use std::alloc::Global;
+use row_columns::{Answer, column, digest_in, places_in, places_of, problem_in};
 
-/// The word of a kind.
-fn kind_word(kind: Kind) -> &'static str {
-    match kind {
-        Kind::Changeless => "changeless",
-        Kind::Lean => "lean",
-    }
-}
-
-/// Puts the digest of a copy of the problem.
-fn put_digest(out: &mut Vec<u8>, problem: &Problem) -> Result<(), Memory> {
-    let digest = problem.copy()?.digest();
-    put(out, &[Text::Hex(&digest)])
-}
-
-/// Puts the score of these places of the problem, and whether they are admissible.
-fn put_selection(out: &mut Vec<u8>, problem: &Problem, places: &[u32]) -> Result<(), Memory> {
-    if !problem.are_places(places) {
-        return word(out, "no places");
-    }
-    let score = problem.score(places);
-    put(
-        out,
-        &[
-            Text::Places(places),
-            Text::Word(" score "),
-            Text::Signed(score.first),
-            Text::Word(" "),
-            Text::Large(score.second),
-            Text::Word(" admissible "),
-            Text::Word(truth(problem.admissible(places))),
-        ],
-    )
-}
-
-/// Puts the best selection of the problem, found by trying all.
-fn put_best(alloc: Global, out: &mut Vec<u8>, problem: &Problem) -> Result<(), Memory> {
+/// Puts the best selection of the problem, found by trying all, its score, and whether it is admissible. The error is out of
+/// memory.
+fn put_best(out: &mut Answer, problem: &Problem) -> Result<(), Memory> {
     if problem.items().len() > 16 {
-        return word(out, "more than 16 items");
+        out.word("more than 16 items");
+        return Ok(());
     }
-    match best_by_trying(alloc, problem)? {
-        Some(best) => put_selection(out, problem, best.as_slice()),
-        None => word(out, "none"),
-    }
-}
-
-/// Puts what these places of the problem come to, and the problem's numbers.
-fn put_sums(out: &mut Vec<u8>, problem: &Problem, places: &[u32]) -> Result<(), Memory> {
-    if !problem.are_places(places) {
-        return word(out, "no places");
-    }
-    put(
-        out,
-        &[
-            Text::Word("value "),
-            Text::Large(problem.value(places)),
-            Text::Word(" weight "),
-            Text::Number(problem.weight(places)),
-            Text::Word(" cost "),
-            Text::Signed(problem.cost(places)),
-            Text::Word(" of "),
-            Text::Word(kind_word(problem.kind())),
-            Text::Word(" "),
-            Text::Number(problem.lo()),
-            Text::Word(" "),
-            Text::Number(problem.hi()),
-            Text::Word(" "),
-            Text::Number(problem.most_weight()),
-        ],
-    )
-}
-
-/// Puts what the places of a column come to in a copy of the problem.
-fn sums(alloc: Global, out: &mut Vec<u8>, problem: &Problem, column: &str) -> Result<(), Memory> {
-    let places = places_in(alloc, column)?;
-    put_sums(out, &problem.copy()?, &places)
-}
-
-/// Puts the later value and the least weight of a place or of the one after the last.
-fn put_tail(out: &mut Vec<u8>, tails: &Tails, t: u32) -> Result<(), Memory>
-    requires { t < length tails.now }
-{
-    let value = Text::Large(tails.later_value(t));
-    let place = Text::Number(u64::from(t));
-    match tails.least_weight(t) {
-        Some(weight) => put(
-            out,
-            &[
-                place,
-                Text::Word(": "),
-                value,
-                Text::Word(" "),
-                Text::Number(weight),
-            ],
-        ),
-        None => put(out, &[place, Text::Word(": "), value, Text::Word(" none")]),
-    }
-}
-
-/// Puts what the problem has from each place on.
-fn put_tails(alloc: Global, out: &mut Vec<u8>, problem: &Problem) -> Result<(), Memory> {
-    let tails = Tails::new(alloc, problem)?;
-    let count = problem.items().len() as u32;
-    for t in 0..count {
-        put_tail(out, &tails, t)?;
-        let end = u64::from(tails.run_end(t));
-        put(out, &[Text::Word(" "), Text::Number(end), Text::Word("; ")])?;
-    }
-    put_tail(out, &tails, count)
-}
-
-/// Puts the first four words of a seed.
-fn put_words(out: &mut Vec<u8>, seed: [u8; 32]) -> Result<(), Memory> {
-    let mut words = ChaCha20Rng::from_seed(seed);
-    word(out, "words")?;
-    for _ in 0..4 {
-        let bytes = words.next_word().to_be_bytes();
-        put(out, &[Text::Word(" "), Text::Hex(&bytes)])?;
+    match best_by_trying(out.alloc, problem)? {
+        Some(best) => {
+            let places = best.as_slice();
+            let score = problem.score(places);
+            out.places("", places);
+            out.signed(" score ", score.first);
+            out.large(" ", score.second);
+            out.flag(" admissible ", problem.admissible(places));
+        }
+        None => out.word("none"),
     }
     Ok(())
 }
 
-/// Puts the order of the places and what is drawn.
-fn put_draw(
-    alloc: Global,
-    out: &mut Vec<u8>,
-    problem: &Problem,
-    seed: [u8; 32],
-) -> Result<(), Memory>
-    requires { problem.now.kind ≡ Kind.Lean }
-{
-    let order = order(alloc, problem.items().len() as u32, seed)?;
-    put(
-        out,
-        &[Text::Word(", order "), Text::Places(order.as_slice())],
-    )?;
-    let found = draw(alloc, problem, seed)?;
-    put(
-        out,
-        &[Text::Word(", found "), Text::Best(places_of(&found))],
-    )
+/// Puts what these places of the problem come to, and the problem's numbers.
+fn put_sums(out: &mut Answer, problem: &Problem, places: &[u32]) {
+    if !problem.are_places(places) {
+        return out.word("no places");
+    }
+    out.large("value ", problem.value(places));
+    out.number(" weight ", problem.weight(places));
+    out.signed(" cost ", problem.cost(places));
+    out.word(match problem.kind() {
+        Kind::Changeless => " of changeless",
+        Kind::Lean => " of lean",
+    });
+    out.number(" ", problem.lo());
+    out.number(" ", problem.hi());
+    out.number(" ", problem.most_weight());
 }
 
-/// Draws by the seed of a column.
-fn drawn(alloc: Global, out: &mut Vec<u8>, problem: &Problem, column: &str) -> Result<(), Memory> {
-    let Some(seed) = digest_in(column) else {
-        return word(out, "no seed");
-    };
-    put_words(out, seed)?;
-    match problem.kind() {
-        Kind::Lean => put_draw(alloc, out, problem, seed),
-        Kind::Changeless => word(out, "no draw"),
+/// Puts the digest of a copy of the problem, or what the places of a column come to in it. The error is out of memory.
+fn put_copy(out: &mut Answer, problem: &Problem, sums: bool, column: &str) -> Result<(), Memory> {
+    let copy = problem.copy()?;
+    if sums {
+        let places = places_in(out.alloc, column)?;
+        put_sums(out, &copy, &places);
+    } else {
+        out.digits("", &copy.digest());
+    }
+    Ok(())
+}
+
+/// Puts the later value and the least weight of a place or of the one after the last.
+fn put_tail(out: &mut Answer, tails: &Tails, t: u32)
+    requires { t < length tails.now }
+{
+    out.number("", u64::from(t));
+    out.large(": ", tails.later_value(t));
+    match tails.least_weight(t) {
+        Some(weight) => out.number(" ", weight),
+        None => out.word(" none"),
     }
 }
 
-/// Puts what a verb comes to at a problem.
+/// Puts what the problem has from each place on. The error is out of memory.
+fn put_tails(out: &mut Answer, problem: &Problem) -> Result<(), Memory> {
+    let tails = Tails::new(out.alloc, problem)?;
+    let count = problem.items().len() as u32;
+    for t in 0..count {
+        put_tail(out, &tails, t);
+        out.number(" ", u64::from(tails.run_end(t)));
+        out.word("; ");
+    }
+    put_tail(out, &tails, count);
+    Ok(())
+}
+
+/// Puts the first four words of a seed.
+fn put_words(out: &mut Answer, seed: [u8; 32]) {
+    let mut words = ChaCha20Rng::from_seed(seed);
+    out.word("words");
+    for _ in 0..4 {
+        out.digits(" ", &words.next_word().to_be_bytes());
+    }
+}
+
+/// Puts the order of the places and what is drawn. The error is out of memory.
+fn put_draw(out: &mut Answer, problem: &Problem, seed: [u8; 32]) -> Result<(), Memory>
+    requires { problem.now.kind ≡ Kind.Lean }
+{
+    let order = order(out.alloc, problem.items().len() as u32, seed)?;
+    out.places(", order ", order.as_slice());
+    let found = draw(out.alloc, problem, seed)?;
+    out.best(", found ", places_of(&found));
+    Ok(())
+}
+
+/// Draws by the seed of a column. The error is out of memory.
+fn drawn(out: &mut Answer, problem: &Problem, column: &str) -> Result<(), Memory> {
+    let Some(seed) = digest_in(column) else {
+        out.word("no seed");
+        return Ok(());
+    };
+    put_words(out, seed);
+    match problem.kind() {
+        Kind::Lean => return put_draw(out, problem, seed),
+        Kind::Changeless => out.word("no draw"),
+    }
+    Ok(())
+}
+
+/// Puts what a verb comes to at a problem. The error is out of memory.
 fn at_problem(
-    alloc: Global,
-    out: &mut Vec<u8>,
+    out: &mut Answer,
     verb: &str,
     problem: &Problem,
     columns: &[&str],
 ) -> Result<(), Memory> {
     match verb {
-        "digest" => put_digest(out, problem),
-        "best" => put_best(alloc, out, problem),
-        "sums" => sums(alloc, out, problem, column(columns, 0)),
-        "tails" => put_tails(alloc, out, problem),
-        "draw" => drawn(alloc, out, problem, column(columns, 0)),
-        "check" => check(alloc, out, problem, columns),
-        _ => walk_row(alloc, out, verb, problem, columns),
+        "digest" => put_copy(out, problem, false, ""),
+        "best" => put_best(out, problem),
+        "sums" => put_copy(out, problem, true, column(columns, 0)),
+        "tails" => put_tails(out, problem),
+        "draw" => drawn(out, problem, column(columns, 0)),
+        "check" => check(out, problem, columns),
+        _ => walk_row(out, verb, problem, columns),
     }
 }
 
-/// Puts what a row of a problem comes to.
-pub(crate) fn problem_row(
-    alloc: Global,
-    out: &mut Vec<u8>,
-    columns: &[&str],
-) -> Result<(), Memory> {
+/// Puts what a row of a problem comes to. The error is out of memory.
+pub(crate) fn problem_row(out: &mut Answer, columns: &[&str]) -> Result<(), Memory> {
     if columns.len() < 6 {
-        return word(out, "no problem");
+        out.word("no problem");
+        return Ok(());
     }
-    match problem_in(alloc, &columns[1..6])? {
-        Some(problem) => at_problem(alloc, out, columns[0], &problem, &columns[6..]),
-        None => word(out, "no problem"),
+    match problem_in(out.alloc, &columns[1..6])? {
+        Some(problem) => at_problem(out, columns[0], &problem, &columns[6..]),
+        None => {
+            out.word("no problem");
+            Ok(())
+        }
     }
 }

@@ -1,100 +1,74 @@
 //! Reports, in words and as texts.
 
 use crate::readings::put_written;
-use crate::texts::{Text, numbered, put, word};
 use closing_log::{Stage, Worded};
 use fund_base::Memory;
 use fund_report::{FundedReport, Report, ReportFault, read_report, write_report};
-use std::alloc::Global;
+use row_columns::Answer;
 
-/// Puts the change, or `none`.
-pub(crate) fn put_change(out: &mut Vec<u8>, change: Option<u64>) -> Result<(), Memory> {
-    match change {
-        Some(amount) => numbered(out, "change ", amount),
-        None => word(out, "change none"),
-    }
-}
-
-/// Puts where the coins of a payment were found.
-fn put_origin(out: &mut Vec<u8>, report: &FundedReport) -> Result<(), Memory> {
-    put(
-        out,
-        &[
-            Text::Word("funded "),
-            Text::Word(report.mark.word()),
-            Text::Word(", row "),
-            Text::Number(u64::from(report.row)),
-            Text::Word(", stage "),
-            Text::Word(report.stage.word()),
-            Text::Word(", tries "),
-            Text::Number(report.tries),
-            Text::Word(", inputs "),
-            Text::Number(report.coins.len() as u64),
-        ],
-    )
+/// Puts the weight, the size, the fee and the waste of a payment.
+pub(crate) fn put_figures(out: &mut Answer, weight: u64, vsize: u64, fee: u64, waste: i128) {
+    out.number(", weight ", weight);
+    out.number(", vsize ", vsize);
+    out.number(", fee ", fee);
+    out.signed(", waste ", waste);
 }
 
 /// Puts what is reported of a payment, its coins and its text by their numbers.
-fn put_funded(out: &mut Vec<u8>, report: &FundedReport) -> Result<(), Memory> {
-    put_origin(out, report)?;
-    put(
-        out,
-        &[
-            Text::Word(", weight "),
-            Text::Number(report.weight),
-            Text::Word(", vsize "),
-            Text::Number(report.vsize),
-            Text::Word(", fee "),
-            Text::Number(report.fee),
-            Text::Word(", waste "),
-            Text::Signed(report.waste),
-            Text::Word(", "),
-        ],
-    )?;
-    put_change(out, report.change)?;
-    numbered(out, ", text of ", report.text.len() as u64)?;
-    word(out, " bytes")
+fn put_funded(out: &mut Answer, report: &FundedReport) {
+    out.word("funded ");
+    out.word(report.mark.word());
+    out.number(", row ", u64::from(report.row));
+    out.word(", stage ");
+    out.word(report.stage.word());
+    out.number(", tries ", report.tries);
+    out.number(", inputs ", report.coins.len() as u64);
+    put_figures(out, report.weight, report.vsize, report.fee, report.waste);
+    match report.change {
+        Some(amount) => out.number(", change ", amount),
+        None => out.word(", change none"),
+    }
+    out.number(", text of ", report.text.len() as u64);
+    out.word(" bytes");
 }
 
-/// Puts what is reported.
-fn put_report(out: &mut Vec<u8>, report: &Report) -> Result<(), Memory> {
+/// Puts a report that was read from these bytes, and what is written of it. The error is out of memory.
+fn put_read(out: &mut Answer, bytes: &[u8], report: &Report) -> Result<(), Memory> {
     match report {
         Report::Funded(funded) => put_funded(out, funded),
-        Report::NoSelection { tries: _ } => word(out, "none"),
+        Report::NoSelection { tries: _ } => out.word("none"),
         Report::Unfinished {
             tries: _,
             row: _,
             stage: _,
-        } => word(out, "unfinished"),
+        } => out.word("unfinished"),
     }
+    let text = write_report(out.alloc, report)?;
+    put_written(out, bytes, &text);
+    Ok(())
 }
 
-/// Puts a report that was read from these bytes, and what is written of it.
-fn put_read(alloc: Global, out: &mut Vec<u8>, bytes: &[u8], report: &Report) -> Result<(), Memory> {
-    put_report(out, report)?;
-    let text = write_report(alloc, report)?;
-    put_written(out, bytes, &text)
-}
-
-/// Reads a report.
-pub(crate) fn report(alloc: Global, out: &mut Vec<u8>, bytes: &[u8]) -> Result<(), Memory> {
-    match read_report(alloc, bytes) {
-        Ok(report) => put_read(alloc, out, bytes, &report),
-        Err(ReportFault::Form(place)) => numbered(out, "Form ", place),
-        Err(ReportFault::Memory) => Err(Memory),
+/// Reads a report. The error is out of memory.
+pub(crate) fn report(out: &mut Answer, bytes: &[u8]) -> Result<(), Memory> {
+    match read_report(out.alloc, bytes) {
+        Ok(report) => return put_read(out, bytes, &report),
+        Err(ReportFault::Form(place)) => out.number("Form ", place),
+        Err(ReportFault::Memory) => return Err(Memory),
     }
+    Ok(())
 }
 
-/// Puts what is written of a run that stands at the wide search, and what that is read as.
-pub(crate) fn wide(alloc: Global, out: &mut Vec<u8>) -> Result<(), Memory> {
+/// Puts what is written of a run that stands at the wide search, and what that is read as. The error is out of memory.
+pub(crate) fn wide(out: &mut Answer) -> Result<(), Memory> {
     let written = write_report(
-        alloc,
+        out.alloc,
         &Report::Unfinished {
             tries: 3,
             row: 2,
             stage: Stage::Wide,
         },
     )?;
-    put(out, &[Text::Word("written "), Text::Bytes(&written)])?;
-    report(alloc, out, &written)
+    out.word("written ");
+    out.put(&written);
+    report(out, &written)
 }

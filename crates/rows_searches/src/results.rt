@@ -1,44 +1,29 @@
 //! What runs and selections come to.
 
-use crate::columns::column;
-use crate::texts::{Text, numbered, put, word};
 use closing_log::Worded;
 use fund_base::Memory;
-use row_columns::places_in;
+use row_columns::{Answer, column, places_in};
 use search_run::{End, Found, Step, choose};
 use std::alloc::Global;
 
-/// Puts a result.
-fn put_found(out: &mut Vec<u8>, found: &Found) -> Result<(), Memory> {
-    put(
-        out,
-        &[
-            Text::Word("row "),
-            Text::Number(u64::from(found.row)),
-            Text::Word(", stage "),
-            Text::Word(found.stage.word()),
-            Text::Word(", places "),
-            Text::Places(found.places.as_slice()),
-            Text::Word(", waste "),
-            Text::Signed(found.waste),
-        ],
-    )?;
-    numbered(out, ", coins ", u64::from(found.coins))
+/// Puts a word and a result.
+fn put_found(out: &mut Answer, word: &str, found: &Found) {
+    out.word(word);
+    out.number("row ", u64::from(found.row));
+    out.word(", stage ");
+    out.word(found.stage.word());
+    out.places(", places ", found.places.as_slice());
+    out.signed(", waste ", found.waste);
+    out.number(", coins ", u64::from(found.coins));
 }
 
 /// Puts what a run comes to.
-pub(crate) fn put_end(out: &mut Vec<u8>, end: &End) -> Result<(), Memory> {
+pub(crate) fn put_end(out: &mut Answer, end: &End) {
     match end {
-        End::Unfinished => word(out, "unfinished"),
-        End::Ended(None) => word(out, "ended none"),
-        End::Ended(Some(found)) => {
-            word(out, "ended ")?;
-            put_found(out, found)
-        }
-        End::Partial(found) => {
-            word(out, "partial ")?;
-            put_found(out, found)
-        }
+        End::Unfinished => out.word("unfinished"),
+        End::Ended(None) => out.word("ended none"),
+        End::Ended(Some(found)) => put_found(out, "ended ", found),
+        End::Partial(found) => put_found(out, "partial ", found),
     }
 }
 
@@ -70,35 +55,27 @@ fn results_in(alloc: Global, step: &Step, columns: &[&str]) -> Result<Option<Vec
 }
 
 /// Puts the result that is taken, and those that it beats.
-fn put_taken(out: &mut Vec<u8>, taken: &Found, results: &[Found]) -> Result<(), Memory> {
-    word(out, "taken ")?;
-    put_found(out, taken)?;
+fn put_taken(out: &mut Answer, taken: &Found, results: &[Found]) {
+    put_found(out, "taken ", taken);
     for result in results {
         if taken.beats(result) {
-            put(
-                out,
-                &[
-                    Text::Word("; beats "),
-                    Text::Places(result.places.as_slice()),
-                ],
-            )?;
+            out.places("; beats ", result.places.as_slice());
         }
     }
-    Ok(())
 }
 
-/// Puts which of these selections is taken, and which of them it beats.
-pub(crate) fn put_chosen(
-    alloc: Global,
-    out: &mut Vec<u8>,
-    step: &Step,
-    columns: &[&str],
-) -> Result<(), Memory> {
-    let Some(results) = results_in(alloc, step, columns)? else {
-        return word(out, "not admissible");
+/// Puts which of these selections is taken, and which of them it beats. The error is out of memory.
+pub(crate) fn put_chosen(out: &mut Answer, step: &Step, columns: &[&str]) -> Result<(), Memory> {
+    let Some(results) = results_in(out.alloc, step, columns)? else {
+        out.word("not admissible");
+        return Ok(());
     };
     match choose(&results) {
-        Some(taken) => put_taken(out, &taken.copy(alloc)?, &results),
-        None => word(out, "taken none"),
+        Some(taken) => {
+            let taken = taken.copy(out.alloc)?;
+            put_taken(out, &taken, &results);
+        }
+        None => out.word("taken none"),
     }
+    Ok(())
 }

@@ -13,257 +13,189 @@
 //! - `choose=PLACES=PLACES..`: which of these selections is taken as that step's result
 
 use crate::checking::put_log_fault;
-use crate::columns::{column, digest_in, number_in};
 use crate::log_texts::{put_closed, put_open};
 use crate::results::{put_chosen, put_end};
 use crate::steps::steps_in;
-use crate::texts::{Text, numbered, put, truth, word};
-use closing_log::{Worded, read_sections, write_sections};
+use closing_log::{LogText, Worded, read_sections, write_sections};
 use fund_base::Memory;
 use pick_problem::Progress;
-use row_columns::unescaped;
-use search_keep::{Walk, read_saved, write_saved};
+use row_columns::{Answer, column, digest_in, number_in, short_in, unescaped};
+use search_keep::{Saved, Walk, read_saved, write_saved};
 use search_run::{RestoreRefused, SearchRun, Step, VerifyFault, open_section, section};
-use std::alloc::Global;
 
 /// Puts where a run stands: its tries, and the row and the stage of its step.
-fn put_stand(out: &mut Vec<u8>, run: &SearchRun) -> Result<(), Memory> {
-    let over = Text::Word(truth(run.is_over()));
-    put(
-        out,
-        &[
-            Text::Word("tries "),
-            Text::Number(run.tries()),
-            Text::Word(", over "),
-            over,
-        ],
-    )?;
-    match run.step() {
-        Some(step) => {
-            numbered(out, ", row ", u64::from(step.row()))?;
-            put(
-                out,
-                &[Text::Word(", stage "), Text::Word(step.stage().word())],
-            )
-        }
-        None => Ok(()),
+fn put_stand(out: &mut Answer, run: &SearchRun) {
+    out.number("tries ", run.tries());
+    out.flag(", over ", run.is_over());
+    if let Some(step) = run.step() {
+        out.number(", row ", u64::from(step.row()));
+        out.word(", stage ");
+        out.word(step.stage().word());
     }
 }
 
-/// Goes on with so many tries.
-fn go(out: &mut Vec<u8>, run: &mut SearchRun, tries: u64) -> Result<(), Memory> {
+/// Goes on with so many tries. The error is out of memory.
+fn go(out: &mut Answer, run: &mut SearchRun, tries: u64) -> Result<(), Memory> {
     if tries > u64::MAX - run.tries() {
-        return word(out, "too many tries");
+        out.word("too many tries");
+        return Ok(());
     }
     run.go(tries)?;
-    put_stand(out, run)
+    put_stand(out, run);
+    Ok(())
 }
 
-/// Puts the text of a run's log.
-fn put_log(alloc: Global, out: &mut Vec<u8>, run: &SearchRun, partial: bool) -> Result<(), Memory> {
-    let log = run.log(partial)?;
-    let text = write_sections(alloc, &log)?;
-    put(out, &[Text::Word("log "), Text::Bytes(&text)])
-}
-
-/// Puts the text of what is saved of a run.
-fn put_saved(
-    alloc: Global,
-    out: &mut Vec<u8>,
-    run: &SearchRun,
-    columns: &[&str],
-) -> Result<(), Memory> {
+/// Puts the text of what is saved of a run. The error is out of memory.
+fn put_saved(out: &mut Answer, run: &SearchRun, columns: &[&str]) -> Result<(), Memory> {
     let Some(job) = digest_in(column(columns, 1)) else {
-        return word(out, "no job");
+        out.word("no job");
+        return Ok(());
     };
-    match run.saved(job, column(columns, 2).parse().unwrap_or(0))? {
-        Some(saved) => {
-            let text = write_saved(alloc, &saved)?;
-            put(out, &[Text::Word("saved "), Text::Bytes(&text)])
-        }
-        None => word(out, "saved none"),
+    match run.saved(job, short_in(column(columns, 2)))? {
+        Some(saved) => out.bytes("saved ", write_saved(out.alloc, &saved)),
+        None => out.word("saved none"),
     }
+    Ok(())
 }
 
-/// Puts where a run stands that goes on, or why it doesn't go on from what is kept.
-fn put_restored(
-    out: &mut Vec<u8>,
-    run: &SearchRun,
-    restored: Result<(), RestoreRefused>,
-) -> Result<(), Memory> {
-    match restored {
+/// Goes on from what was saved and a log, and puts where the run stands, or why it doesn't go on.
+fn put_restored(out: &mut Answer, run: &mut SearchRun, saved: &Saved, log: &LogText) {
+    match run.restore(saved, log) {
         Ok(()) => put_stand(out, run),
-        Err(RestoreRefused::Section(index)) => numbered(out, "refused Section ", index),
-        Err(RestoreRefused::IllFormed) => word(out, "refused IllFormed"),
-        Err(RestoreRefused::Answer(index)) => numbered(out, "refused Answer ", index),
-        Err(RestoreRefused::Memory) => Err(Memory),
+        Err(RestoreRefused::Section(index)) => out.number("refused Section ", index),
+        Err(RestoreRefused::IllFormed) => out.word("refused IllFormed"),
+        Err(RestoreRefused::Answer(index)) => out.number("refused Answer ", index),
+        Err(RestoreRefused::Memory) => out.lack(),
     }
 }
 
 /// Goes on from the texts of what was saved and of a log.
-fn restore(
-    alloc: Global,
-    out: &mut Vec<u8>,
-    run: &mut SearchRun,
-    saved: &[u8],
-    log: &[u8],
-) -> Result<(), Memory> {
-    let Ok(saved) = read_saved(alloc, saved) else {
-        return word(out, "no saved text");
+fn restore(out: &mut Answer, run: &mut SearchRun, saved: &[u8], log: &[u8]) {
+    let Ok(saved) = read_saved(out.alloc, saved) else {
+        return out.word("no saved text");
     };
-    let Ok(log) = read_sections(alloc, log) else {
-        return word(out, "no log text");
+    let Ok(log) = read_sections(out.alloc, log) else {
+        return out.word("no log text");
     };
-    let restored = run.restore(&saved, &log);
-    put_restored(out, run, restored)
+    put_restored(out, run, &saved, &log);
 }
 
-/// Goes on from the texts of two words.
-fn restored(
-    alloc: Global,
-    out: &mut Vec<u8>,
-    run: &mut SearchRun,
-    columns: &[&str],
-) -> Result<(), Memory> {
-    let saved = unescaped(alloc, column(columns, 1).as_bytes())?;
-    let log = unescaped(alloc, column(columns, 2).as_bytes())?;
-    restore(alloc, out, run, &saved, &log)
+/// Goes on from the texts of two words. The error is out of memory.
+fn restored(out: &mut Answer, run: &mut SearchRun, columns: &[&str]) -> Result<(), Memory> {
+    let saved = unescaped(out.alloc, column(columns, 1).as_bytes())?;
+    let log = unescaped(out.alloc, column(columns, 2).as_bytes())?;
+    restore(out, run, &saved, &log);
+    Ok(())
 }
 
 /// Puts whether the log of a run is accepted.
-fn put_verified(out: &mut Vec<u8>, run: &SearchRun) -> Result<(), Memory> {
+fn put_verified(out: &mut Answer, run: &SearchRun) {
     match run.verify() {
-        Ok(()) => word(out, "accepted"),
+        Ok(()) => out.word("accepted"),
         Err(VerifyFault::Log(index, fault)) => {
-            numbered(out, "refused Log ", index)?;
-            word(out, " ")?;
-            put_log_fault(out, fault)
+            out.number("refused Log ", index);
+            put_log_fault(out, " ", fault);
         }
-        Err(VerifyFault::Memory) => Err(Memory),
+        Err(VerifyFault::Memory) => out.lack(),
     }
 }
 
-/// Puts a step's row, stage, ending and place in its column.
-fn put_place(out: &mut Vec<u8>, step: &Step) -> Result<(), Memory> {
-    let place = if step.is_last() {
+/// Puts a step's row, stage, ending and place in its column, its problem's digest, and how many coins stand at each place.
+fn put_step(out: &mut Answer, step: &Step) {
+    out.number("row ", u64::from(step.row()));
+    out.word(", stage ");
+    out.word(step.stage().word());
+    out.number(", ending ", step.ending());
+    out.word(if step.is_last() {
         ", last, "
     } else {
         ", more, "
-    };
-    let kind = if step.is_drawn() { "draw" } else { "search" };
-    put(
-        out,
-        &[
-            Text::Word("row "),
-            Text::Number(u64::from(step.row())),
-            Text::Word(", stage "),
-            Text::Word(step.stage().word()),
-            Text::Word(", ending "),
-            Text::Number(step.ending()),
-            Text::Word(place),
-            Text::Word(kind),
-        ],
-    )
+    });
+    out.word(if step.is_drawn() { "draw" } else { "search" });
+    out.digits(", digest ", &step.problem().digest());
+    out.word(", sizes");
+    for size in step.sizes() {
+        out.number(" ", u64::from(*size));
+    }
 }
 
-/// Puts a step, with its problem's digest.
-fn put_step(out: &mut Vec<u8>, step: &Step) -> Result<(), Memory> {
-    put_place(out, step)?;
-    let digest = step.problem().digest();
-    put(
-        out,
-        &[
-            Text::Word(", digest "),
-            Text::Hex(&digest),
-            Text::Word(", sizes"),
-        ],
-    )?;
-    for size in step.sizes() {
-        numbered(out, " ", u64::from(*size))?;
+/// Puts the section of a new search of a step after so many tries. The error is out of memory.
+fn put_section(out: &mut Answer, step: &Step, tries: u64) -> Result<(), Memory> {
+    let mut walk = Walk::new(out.alloc, step.problem())?;
+    walk.reserve(tries)?;
+    match walk.advance(tries) {
+        Progress::Open => {
+            let open = open_section(out.alloc, step, &walk)?;
+            put_open(out, &open);
+        }
+        Progress::Done => {
+            let closed = section(out.alloc, step, &walk)?;
+            out.word("closed ");
+            put_closed(out, &closed);
+        }
     }
     Ok(())
 }
 
-/// Puts the section of a new search of a step after so many tries.
-fn put_section(alloc: Global, out: &mut Vec<u8>, step: &Step, tries: u64) -> Result<(), Memory> {
-    let mut walk = Walk::new(alloc, step.problem())?;
-    walk.reserve(tries)?;
-    match walk.advance(tries) {
-        Progress::Open => put_open(out, &open_section(alloc, step, &walk)?),
-        Progress::Done => {
-            word(out, "closed ")?;
-            put_closed(out, &section(alloc, step, &walk)?)
-        }
-    }
-}
-
-/// Puts what a call at the step of a run comes to.
-fn at_step(
-    alloc: Global,
-    out: &mut Vec<u8>,
-    run: &SearchRun,
-    columns: &[&str],
-) -> Result<(), Memory> {
+/// Puts what a call at the step of a run comes to. The error is out of memory.
+fn at_step(out: &mut Answer, run: &SearchRun, columns: &[&str]) -> Result<(), Memory> {
     let Some(step) = run.step() else {
-        return word(out, "no step");
+        out.word("no step");
+        return Ok(());
     };
     match column(columns, 0) {
         "step" => put_step(out, step),
-        "walk" => put_section(alloc, out, step, number_in(column(columns, 1), 0)),
-        "choose" => put_chosen(alloc, out, step, columns),
-        _ => word(out, "no such call"),
-    }
-}
-
-/// Puts what a call of these words comes to.
-fn call(
-    alloc: Global,
-    out: &mut Vec<u8>,
-    run: &mut SearchRun,
-    columns: &[&str],
-) -> Result<(), Memory> {
-    match column(columns, 0) {
-        "go" => go(out, run, number_in(column(columns, 1), 0)),
-        "end" => {
-            let end = run.end(column(columns, 1) == "take")?;
-            put_end(out, &end)
-        }
-        "log" => put_log(alloc, out, run, column(columns, 1) == "partial"),
-        "saved" => put_saved(alloc, out, run, columns),
-        "restore" => restored(alloc, out, run, columns),
-        "verify" => put_verified(out, run),
-        _ => at_step(alloc, out, run, columns),
-    }
-}
-
-/// Puts what calls come to, a line each.
-fn put_calls(
-    alloc: Global,
-    out: &mut Vec<u8>,
-    run: &mut SearchRun,
-    calls: &[&str],
-) -> Result<(), Memory> {
-    for number in 0..calls.len() {
-        if number > 0 {
-            word(out, "\n")?;
-        }
-        let words: Vec<&str> = calls[number].split('=').collect(alloc)?;
-        call(alloc, out, run, &words)?;
+        "walk" => return put_section(out, step, number_in(column(columns, 1), 0)),
+        _ => return put_chosen(out, step, columns),
     }
     Ok(())
 }
 
-/// Puts what a row of a run comes to.
-pub(crate) fn run_row(alloc: Global, out: &mut Vec<u8>, columns: &[&str]) -> Result<(), Memory> {
-    if columns.len() < 2 {
-        return word(out, "no steps");
+/// Puts the text of a run's log. The error is out of memory.
+fn put_log(out: &mut Answer, run: &SearchRun, partial: bool) -> Result<(), Memory> {
+    let log = run.log(partial)?;
+    out.bytes("log ", write_sections(out.alloc, &log));
+    Ok(())
+}
+
+/// Puts what a call of these words comes to. The error is out of memory.
+fn call(out: &mut Answer, run: &mut SearchRun, columns: &[&str]) -> Result<(), Memory> {
+    let word = column(columns, 1);
+    match column(columns, 0) {
+        "go" => return go(out, run, number_in(word, 0)),
+        "end" => {
+            let end = run.end(word == "take")?;
+            put_end(out, &end);
+        }
+        "log" => return put_log(out, run, word == "partial"),
+        "saved" => return put_saved(out, run, columns),
+        "restore" => return restored(out, run, columns),
+        "verify" => put_verified(out, run),
+        _ => return at_step(out, run, columns),
     }
-    let Some(seed) = digest_in(columns[0]) else {
-        return word(out, "no seed");
+    Ok(())
+}
+
+/// Puts what the calls of the columns behind the first two come to, a line each. The error is out of memory.
+fn put_calls(out: &mut Answer, run: &mut SearchRun, columns: &[&str]) -> Result<(), Memory> {
+    for number in 2..columns.len() {
+        out.word(if number > 2 { "\n" } else { "" });
+        let words: Vec<&str> = column(columns, number).split('=').collect(out.alloc)?;
+        call(out, run, &words)?;
+    }
+    Ok(())
+}
+
+/// Puts what a row of a run comes to. The error is out of memory.
+pub(crate) fn run_row(out: &mut Answer, columns: &[&str]) -> Result<(), Memory> {
+    let Some(seed) = digest_in(column(columns, 0)) else {
+        out.word("no seed");
+        return Ok(());
     };
-    let Some(steps) = steps_in(alloc, columns[1])? else {
-        return word(out, "no steps");
+    let Some(steps) = steps_in(out.alloc, column(columns, 1))? else {
+        out.word("no steps");
+        return Ok(());
     };
-    let mut run = SearchRun::new(alloc, seed, steps);
-    put_calls(alloc, out, &mut run, &columns[2..])
+    let mut run = SearchRun::new(out.alloc, seed, steps);
+    put_calls(out, &mut run, columns)
 }

@@ -1,62 +1,47 @@
 //! Saved positions, in words and as texts.
 
 use crate::readings::put_written;
-use crate::texts::{Text, numbered, places_of, put, word};
 use closing_log::Worded;
 use fund_base::Memory;
+use row_columns::{Answer, places_of};
 use search_keep::{Saved, SavedFault, read_saved, write_saved};
-use std::alloc::Global;
 
 /// Puts all that is saved.
-fn put_saved(out: &mut Vec<u8>, saved: &Saved) -> Result<(), Memory> {
-    put(
-        out,
-        &[
-            Text::Word("job "),
-            Text::Hex(&saved.job),
-            Text::Word(", tries "),
-            Text::Number(saved.tries),
-            Text::Word(", row "),
-            Text::Number(u64::from(saved.row)),
-            Text::Word(", stage "),
-            Text::Word(saved.stage.word()),
-            Text::Word(", chosen "),
-            Text::Places(saved.chosen.as_slice()),
-            Text::Word(", next "),
-            Text::Number(u64::from(saved.next)),
-            Text::Word(", best "),
-            Text::Best(places_of(&saved.best)),
-            Text::Word(", parts "),
-            Text::Number(u64::from(saved.parts)),
-        ],
-    )
+fn put_saved(out: &mut Answer, saved: &Saved) {
+    out.digits("job ", &saved.job);
+    out.number(", tries ", saved.tries);
+    out.number(", row ", u64::from(saved.row));
+    out.word(", stage ");
+    out.word(saved.stage.word());
+    out.places(", chosen ", saved.chosen.as_slice());
+    out.number(", next ", u64::from(saved.next));
+    out.best(", best ", places_of(&saved.best));
+    out.number(", parts ", u64::from(saved.parts));
 }
 
 /// Puts a fault by its name, with its place or its digests.
-pub(crate) fn put_saved_fault(out: &mut Vec<u8>, fault: SavedFault) -> Result<(), Memory> {
+pub(crate) fn put_saved_fault(out: &mut Answer, fault: SavedFault) {
     match fault {
-        SavedFault::Form(place) => numbered(out, "Form ", place),
+        SavedFault::Form(place) => out.number("Form ", place),
         SavedFault::JobElse(kept, now) => {
-            put(out, &[Text::Word("JobElse "), Text::Hex(&kept)])?;
-            put(out, &[Text::Word(" "), Text::Hex(&now)])
+            out.digits("JobElse ", &kept);
+            out.digits(" ", &now);
         }
-        SavedFault::Spent => word(out, "Spent"),
-        SavedFault::IllFormed => word(out, "IllFormed"),
-        SavedFault::Memory => Err(Memory),
+        SavedFault::Spent => out.word("Spent"),
+        SavedFault::IllFormed => out.word("IllFormed"),
+        SavedFault::Memory => out.lack(),
     }
 }
 
-/// Puts a saved position that was read from these bytes, and what is written of it.
-fn put_read(alloc: Global, out: &mut Vec<u8>, bytes: &[u8], saved: &Saved) -> Result<(), Memory> {
-    put_saved(out, saved)?;
-    let text = write_saved(alloc, saved)?;
-    put_written(out, bytes, &text)
-}
-
-/// Reads a saved position.
-pub(crate) fn saved(alloc: Global, out: &mut Vec<u8>, bytes: &[u8]) -> Result<(), Memory> {
-    match read_saved(alloc, bytes) {
-        Ok(saved) => put_read(alloc, out, bytes, &saved),
+/// Reads a saved position, and puts what is written of it. The error is out of memory.
+pub(crate) fn saved(out: &mut Answer, bytes: &[u8]) -> Result<(), Memory> {
+    match read_saved(out.alloc, bytes) {
+        Ok(saved) => {
+            put_saved(out, &saved);
+            let text = write_saved(out.alloc, &saved)?;
+            put_written(out, bytes, &text);
+        }
         Err(fault) => put_saved_fault(out, fault),
     }
+    Ok(())
 }

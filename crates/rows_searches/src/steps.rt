@@ -4,11 +4,10 @@ ghost use Rattle.std.specs.Prelude.{◌≤◌, IfOk, IfSome, IsTrue, OnOk};
 ghost use Rattle.std.specs.List.{AllByRecursion};
 ghost use Rattle.search_run.specs.Step.{AreSteps, FitsStage};
 
-use crate::columns::{column, number_in};
 use closing_log::Stage;
 use fund_base::Memory;
 use pick_problem::{Kind, Problem};
-use row_columns::problem_in;
+use row_columns::{column, number_in, number_within, problem_in};
 use search_run::Step;
 use std::alloc::Global;
 use std::rc::Rc;
@@ -42,7 +41,7 @@ fn sizes_in(alloc: Global, column: &str) -> Result<Vec<u8>, Memory> {
         return Ok(sizes);
     }
     for word in column.split(' ') {
-        sizes.push(word.parse().unwrap_or(0))?;
+        sizes.push(number_within(word, 255) as u8)?;
     }
     Ok(sizes)
 }
@@ -54,48 +53,42 @@ fn are_few(sizes: &[u8]) -> bool
     sizes.iter().all(|size| *size <= 100)
 }
 
-/// The step of these parts. `None` where there can't be one.
+/// The step of these words, a problem and the coins at each place. `None` where there can't be one.
 fn step_of(
-    row: u8,
-    stage: Stage,
+    alloc: Global,
+    words: &[&str],
     problem: Problem,
-    ending: u64,
-    sizes: Rc<Vec<u8>>,
-    last: bool,
-) -> Option<Step> {
-    let items = problem.items().len();
+    sizes: Vec<u8>,
+) -> Result<Option<Step>, Memory> {
+    let (stage, ending) = (
+        stage_in(column(words, 1)),
+        number_in(column(words, 2), u64::MAX),
+    );
     if !fits(stage, &problem) || ending > 1_000_000_000_000_000_000 {
-        return None;
+        return Ok(None);
     }
-    if sizes.len() != items || !are_few(sizes.as_slice()) {
-        return None;
+    if sizes.len() != problem.items().len() || !are_few(sizes.as_slice()) {
+        return Ok(None);
     }
-    Some(Step::new(row, stage, problem, ending, sizes, last))
+    let row = number_within(column(words, 0), 255) as u8;
+    let last = column(words, 3) == "last";
+    let sizes = Rc::new(alloc, sizes)?;
+    Ok(Some(Step::new(row, stage, problem, ending, sizes, last)))
 }
 
 /// The step of its words. `None` where there can't be one.
+fn step_by(alloc: Global, words: &[&str]) -> Result<Option<Step>, Memory> {
+    let sizes = sizes_in(alloc, column(words, 9))?;
+    match problem_in(alloc, words.get(4..9).unwrap_or(&[]))? {
+        Some(problem) => step_of(alloc, words, problem, sizes),
+        None => Ok(None),
+    }
+}
+
+/// The step of a text. `None` where there can't be one.
 fn step_in(alloc: Global, text: &str) -> Result<Option<Step>, Memory> {
     let words: Vec<&str> = text.split(';').collect(alloc)?;
-    if words.len() != 10 {
-        return Ok(None);
-    }
-    let Some(problem) = problem_in(alloc, &words[4..9])? else {
-        return Ok(None);
-    };
-    let sizes = Rc::new(alloc, sizes_in(alloc, column(&words, 9))?)?;
-    let row = column(&words, 0).parse().unwrap_or(0);
-    let (stage, ending) = (
-        stage_in(column(&words, 1)),
-        number_in(column(&words, 2), u64::MAX),
-    );
-    Ok(step_of(
-        row,
-        stage,
-        problem,
-        ending,
-        sizes,
-        column(&words, 3) == "last",
-    ))
+    step_by(alloc, &words)
 }
 
 /// Puts a step after others.

@@ -8,81 +8,53 @@
 //! - `resume SAVED JOB LETTERS TRIES`: where the search that goes on from a saved text stands after so many tries, after these
 //!   letters, JOB being the digest of the job now; or why it isn't resumed
 
-use crate::columns::{best_in, column, digest_in, number_in, numbers_in};
 use crate::saved_texts::put_saved_fault;
-use crate::texts::{Text, places_of, put, word};
 use fund_base::{Memory, Places};
 use pick_problem::{Position, Problem, Progress, RestoreFault};
-use row_columns::{places_in, unescaped};
-use search_keep::{Saved, SavedFault, Walk, read_saved, resume};
+use row_columns::{
+    Answer, best_in, column, digest_in, number_in, numbers_in, places_in, places_of, short_in,
+    unescaped,
+};
+use search_keep::{SavedFault, Walk, read_saved, resume};
 use std::alloc::Global;
 
-/// Makes so many tries, for which it takes room first.
-fn make(walk: &mut Walk, tries: u64) -> Result<Progress, Memory> {
+/// Makes so many tries, for which it takes room first. It answers the word of how far the walk has come.
+fn make(walk: &mut Walk, tries: u64) -> Result<&'static str, Memory> {
     walk.reserve(tries)?;
-    Ok(walk.advance(tries))
-}
-
-/// The word of how far a walk has come.
-fn state_word(is_done: bool) -> &'static str {
-    if is_done { "done" } else { "open" }
+    Ok(match walk.advance(tries) {
+        Progress::Open => "open",
+        Progress::Done => "done",
+    })
 }
 
 /// Puts where a walk stands.
-fn put_position(out: &mut Vec<u8>, position: &Position) -> Result<(), Memory> {
-    put(
-        out,
-        &[
-            Text::Word(", chosen "),
-            Text::Places(position.chosen.as_slice()),
-            Text::Word(", next "),
-            Text::Number(u64::from(position.next)),
-            Text::Word(", best "),
-            Text::Best(places_of(&position.best)),
-        ],
-    )
+fn put_position(out: &mut Answer, position: &Position) {
+    out.places(", chosen ", position.chosen.as_slice());
+    out.number(", next ", u64::from(position.next));
+    out.best(", best ", places_of(&position.best));
 }
 
-/// Puts the score of the best places, or `none`.
-fn put_score(out: &mut Vec<u8>, problem: &Problem, best: Option<&[u32]>) -> Result<(), Memory> {
-    match best {
+/// Puts the tries of a walk, and its letters.
+fn put_letters(out: &mut Answer, tries: u64, walk: &Walk) {
+    out.number(", tries ", tries);
+    out.word(", tokens ");
+    out.put(walk.tokens());
+}
+
+/// Puts the best of a walk and its score, the tries made, and the letters. The error is out of memory.
+fn put_end(out: &mut Answer, problem: &Problem, walk: &Walk) -> Result<(), Memory> {
+    let position = walk.position(out.alloc)?;
+    out.best(", best ", walk.best());
+    match walk.best() {
         Some(places) if problem.are_places(places) => {
             let score = problem.score(places);
-            put(
-                out,
-                &[
-                    Text::Signed(score.first),
-                    Text::Word(" "),
-                    Text::Large(score.second),
-                ],
-            )
+            out.signed(", score ", score.first);
+            out.large(" ", score.second);
         }
-        _ => word(out, "none"),
+        _ => out.word(", score none"),
     }
-}
-
-/// Puts the best of a walk and its score, the tries made, and the letters.
-fn put_end(alloc: Global, out: &mut Vec<u8>, problem: &Problem, walk: &Walk) -> Result<(), Memory> {
-    let tries = walk.position(alloc)?.tries;
-    put(
-        out,
-        &[
-            Text::Word(", best "),
-            Text::Best(walk.best()),
-            Text::Word(", score "),
-        ],
-    )?;
-    put_score(out, problem, walk.best())?;
-    let letters = Text::Bytes(walk.tokens());
-    put(
-        out,
-        &[
-            Text::Word(", tries "),
-            Text::Number(tries),
-            Text::Word(", tokens "),
-            letters,
-        ],
-    )
+    put_letters(out, position.tries, walk);
+    Ok(())
 }
 
 /// Whether a walk that is restored at a position, and makes these tries, stands where the whole one stands.
@@ -107,126 +79,105 @@ fn goes_on(
 }
 
 /// Puts where a walk stands to which so many tries are granted. It answers that position.
-fn put_piece(
-    alloc: Global,
-    out: &mut Vec<u8>,
-    walk: &Walk,
-    granted: u64,
-) -> Result<Position, Memory> {
-    let position = walk.position(alloc)?;
-    put(
-        out,
-        &[
-            Text::Word("\n"),
-            Text::Number(granted),
-            Text::Word(" "),
-            Text::Word(state_word(position.done)),
-        ],
-    )?;
-    put_position(out, &position)?;
-    let letters = walk.tokens().len() as u64;
-    put(out, &[Text::Word(", tokens "), Text::Number(letters)])?;
+fn put_piece(out: &mut Answer, walk: &Walk, granted: u64) -> Result<Position, Memory> {
+    let position = walk.position(out.alloc)?;
+    out.number("\n", granted);
+    out.word(if position.done { " done" } else { " open" });
+    put_position(out, &position);
+    out.number(", tokens ", walk.tokens().len() as u64);
     Ok(position)
 }
 
 /// Grants tries to a walk up to each of these numbers in turn, and puts where it stands then. It answers at how many of these
 /// places a walk goes on as the whole one does.
 fn put_pieces(
-    alloc: Global,
-    out: &mut Vec<u8>,
+    out: &mut Answer,
     problem: &Problem,
+    walk: &mut Walk,
     budgets: &[u64],
     all: &Walk,
-    most: u64,
 ) -> Result<u64, Memory> {
-    let mut walk = Walk::new(alloc, problem)?;
+    let most = budgets.last().copied().unwrap_or(0);
     let (mut granted, mut same) = (0, 0_u64);
     for budget in budgets {
-        make(&mut walk, budget.saturating_sub(granted))?;
+        make(walk, budget.saturating_sub(granted))?;
         granted = *budget;
-        let position = put_piece(alloc, out, &walk, granted)?;
+        let position = put_piece(out, walk, granted)?;
         let left = most.saturating_sub(granted);
-        if goes_on(alloc, problem, &position, &walk, left, all)? {
+        if goes_on(out.alloc, problem, &position, walk, left, all)? {
             same = same.saturating_add(1);
         }
     }
     Ok(same)
 }
 
-/// Puts what a walk comes to at each of some numbers of tries, which rise.
-fn walk_told(
-    alloc: Global,
-    out: &mut Vec<u8>,
+/// Puts what a walk comes to at each of some numbers of tries, which rise; another one makes them all at once. The error is out
+/// of memory.
+fn put_walks(
+    out: &mut Answer,
     problem: &Problem,
+    walk: &mut Walk,
     budgets: &[u64],
+    all: &mut Walk,
 ) -> Result<(), Memory> {
-    let most = budgets.last().copied().unwrap_or(0);
-    let mut all = Walk::new(alloc, problem)?;
-    let is_done = make(&mut all, most)? == Progress::Done;
-    word(out, state_word(is_done))?;
-    put_end(alloc, out, problem, &all)?;
-    let same = put_pieces(alloc, out, problem, budgets, &all, most)?;
-    put(out, &[Text::Word("\nrestored "), Text::Number(same)])
+    out.word(make(all, budgets.last().copied().unwrap_or(0))?);
+    put_end(out, problem, all)?;
+    let same = put_pieces(out, problem, walk, budgets, all)?;
+    out.number("\nrestored ", same);
+    Ok(())
+}
+
+/// Puts what two walks of a problem come to by the numbers of tries of a column. The error is out of memory.
+fn walk_told(out: &mut Answer, problem: &Problem, column: &str) -> Result<(), Memory> {
+    let budgets = numbers_in(out.alloc, column)?;
+    let mut all = Walk::new(out.alloc, problem)?;
+    let mut walk = Walk::new(out.alloc, problem)?;
+    put_walks(out, problem, &mut walk, &budgets, &mut all)
 }
 
 /// The position of five columns.
 fn position_in(alloc: Global, columns: &[&str]) -> Result<Position, Memory> {
     Ok(Position {
         chosen: Places::new(places_in(alloc, column(columns, 0))?),
-        next: column(columns, 1).parse().unwrap_or(u32::MAX),
+        next: short_in(column(columns, 1)),
         best: best_in(alloc, column(columns, 2))?,
         tries: number_in(column(columns, 3), u64::MAX),
         done: column(columns, 4) == "done",
     })
 }
 
-/// Puts what a walk comes to that is restored at five columns, with the letters of the sixth.
-fn restored(
-    alloc: Global,
-    out: &mut Vec<u8>,
-    problem: &Problem,
-    columns: &[&str],
-) -> Result<(), Memory> {
-    let position = position_in(alloc, columns)?;
-    match Walk::restore(alloc, problem, &position, column(columns, 5).as_bytes()) {
-        Ok(mut walk) => {
-            make(&mut walk, 1000)?;
-            let letters = Text::Bytes(walk.tokens());
-            put(
-                out,
-                &[
-                    Text::Word("restored "),
-                    Text::Best(walk.best()),
-                    Text::Word(" "),
-                    letters,
-                ],
-            )
-        }
-        Err(RestoreFault::IllFormed) => word(out, "IllFormed"),
-        Err(RestoreFault::Memory) => Err(Memory),
-    }
+/// Puts what a restored walk comes to in 1,000 tries. The error is out of memory.
+fn put_restored(out: &mut Answer, walk: &mut Walk) -> Result<(), Memory> {
+    make(walk, 1000)?;
+    out.best("restored ", walk.best());
+    out.word(" ");
+    out.put(walk.tokens());
+    Ok(())
 }
 
-/// Puts where a resumed search stands after so many tries.
-fn put_stand(alloc: Global, out: &mut Vec<u8>, walk: &mut Walk, tries: u64) -> Result<(), Memory> {
-    let is_done = make(walk, tries)? == Progress::Done;
-    let kind = match walk {
+/// Puts what a walk comes to that is restored at five columns, with the letters of the sixth. The error is out of memory.
+fn restored(out: &mut Answer, problem: &Problem, columns: &[&str]) -> Result<(), Memory> {
+    let position = position_in(out.alloc, columns)?;
+    match Walk::restore(out.alloc, problem, &position, column(columns, 5).as_bytes()) {
+        Ok(mut walk) => return put_restored(out, &mut walk),
+        Err(RestoreFault::IllFormed) => out.word("IllFormed"),
+        Err(RestoreFault::Memory) => out.lack(),
+    }
+    Ok(())
+}
+
+/// Puts where a resumed search stands after so many tries. The error is out of memory.
+fn put_stand(out: &mut Answer, walk: &mut Walk, tries: u64) -> Result<(), Memory> {
+    let state = make(walk, tries)?;
+    out.word(match walk {
         Walk::Bnb(_) => "bnb ",
         Walk::Grinder(_) => "grinder ",
-    };
-    put(out, &[Text::Word(kind), Text::Word(state_word(is_done))])?;
-    let position = walk.position(alloc)?;
-    put_position(out, &position)?;
-    let letters = Text::Bytes(walk.tokens());
-    put(
-        out,
-        &[
-            Text::Word(", tries "),
-            Text::Number(position.tries),
-            Text::Word(", tokens "),
-            letters,
-        ],
-    )
+    });
+    out.word(state);
+    let position = walk.position(out.alloc)?;
+    put_position(out, &position);
+    put_letters(out, position.tries, walk);
+    Ok(())
 }
 
 /// The search that goes on from the saved text of the first column. A job that is no digest is one of zeros.
@@ -237,31 +188,31 @@ fn resumed_in(alloc: Global, problem: &Problem, columns: &[&str]) -> Result<Walk
     resume(alloc, &saved, job, problem, column(columns, 2).as_bytes())
 }
 
-/// Puts where a search stands that goes on from a saved text, or why it doesn't.
-fn resumed(
-    alloc: Global,
-    out: &mut Vec<u8>,
-    problem: &Problem,
-    columns: &[&str],
-) -> Result<(), Memory> {
-    match resumed_in(alloc, problem, columns) {
-        Ok(mut walk) => put_stand(alloc, out, &mut walk, number_in(column(columns, 3), 0)),
-        Err(fault) => put_saved_fault(out, fault),
+/// Puts where a search stands that goes on from a saved text, or why it doesn't. The error is out of memory.
+fn resumed(out: &mut Answer, problem: &Problem, columns: &[&str]) -> Result<(), Memory> {
+    match resumed_in(out.alloc, problem, columns) {
+        Ok(mut walk) => put_stand(out, &mut walk, number_in(column(columns, 3), 0)),
+        Err(fault) => {
+            put_saved_fault(out, fault);
+            Ok(())
+        }
     }
 }
 
-/// Puts what a verb comes to at a problem.
+/// Puts what a verb comes to at a problem. The error is out of memory.
 pub(crate) fn walk_row(
-    alloc: Global,
-    out: &mut Vec<u8>,
+    out: &mut Answer,
     verb: &str,
     problem: &Problem,
     columns: &[&str],
 ) -> Result<(), Memory> {
     match verb {
-        "walk" => walk_told(alloc, out, problem, &numbers_in(alloc, column(columns, 0))?),
-        "restore" => restored(alloc, out, problem, columns),
-        "resume" => resumed(alloc, out, problem, columns),
-        _ => word(out, "no such row"),
+        "walk" => walk_told(out, problem, column(columns, 0)),
+        "restore" => restored(out, problem, columns),
+        "resume" => resumed(out, problem, columns),
+        _ => {
+            out.word("no such row");
+            Ok(())
+        }
     }
 }

@@ -2,9 +2,9 @@
 
 ghost use Rattle.std.specs.Prelude.{◌≤◌};
 
-use crate::answer::Answer;
 use fund_base::Memory;
 use fund_shelf::{Fault, FileShelf, MemShelf, ReadError, Shelf, SureShelf, read_whole};
+use row_columns::Answer;
 use std::alloc::Global;
 use std::fs;
 

@@ -6,11 +6,10 @@
 //! - `spell N`: the number as CompactSize, and how many bytes were counted; `prefix BYTES`: bytes behind their length
 //! - `order TXID INDEX TXID INDEX`: whether two outpoints are the same, and their order
 
-use crate::answer::Answer;
-use crate::columns::{bytes_of, column, number_of, point_of};
 use fund_base::{
     Cursor, CutFault, Length, Sat, compare_outpoints, read_decimal, write_compact, write_prefixed,
 };
+use row_columns::{Answer, bytes_in, column, number_within, point_in};
 use std::cmp::Ordering;
 
 /// Puts a number that was read, or the fault.
@@ -53,7 +52,7 @@ fn put_step(out: &mut Answer, cursor: &mut Cursor, step: &str) {
 }
 
 fn steps(out: &mut Answer, columns: &[&str]) {
-    let bytes = bytes_of(out.alloc, column(columns, 0));
+    let bytes = bytes_in(out.alloc, column(columns, 0));
     let mut cursor = Cursor::new(&bytes);
     for number in 1..columns.len() {
         out.word(if number > 1 { ", " } else { "" });
@@ -97,8 +96,8 @@ fn prefix(out: &mut Answer, text: &[u8]) {
 }
 
 fn order(out: &mut Answer, columns: &[&str]) {
-    let first = point_of(column(columns, 0), column(columns, 1));
-    let second = point_of(column(columns, 2), column(columns, 3));
+    let first = point_in(column(columns, 0), column(columns, 1));
+    let second = point_in(column(columns, 2), column(columns, 3));
     let (are_same, order) = compare_outpoints(&first, &second);
     out.flag("", are_same);
     out.word(match order {
@@ -109,16 +108,16 @@ fn order(out: &mut Answer, columns: &[&str]) {
 }
 
 pub(crate) fn row(out: &mut Answer, verb: &str, columns: &[&str]) {
-    let number = number_of(column(columns, 0), u64::MAX);
+    let number = number_within(column(columns, 0), u64::MAX);
     match verb {
         "cursor" => steps(out, columns),
         "decimal" => put_found(
             out,
-            read_decimal(&bytes_of(out.alloc, column(columns, 1)), number),
+            read_decimal(&bytes_in(out.alloc, column(columns, 1)), number),
         ),
         "money" => put_found(out, amount(number)),
         "spell" => spell(out, number),
-        "prefix" => prefix(out, &bytes_of(out.alloc, column(columns, 0))),
+        "prefix" => prefix(out, &bytes_in(out.alloc, column(columns, 0))),
         "order" => order(out, columns),
         _ => out.word("no such verb"),
     }

@@ -1,8 +1,7 @@
 //! Jobs in the tables of a database over two files, whatever these are.
 
-use crate::judging::{Due, Found, State, judge};
-use crate::saves::{Save, keep};
-use crate::trouble::Trouble;
+use crate::findings::{Due, Found, judge};
+use crate::saves::keep_all;
 use fund_outside::{KeepFault, Keeper};
 use keep_sqlite::JobTables;
 use sqlite::{Alter, Connection, FileStore, Files, Options};
@@ -10,7 +9,7 @@ use sqlite_disk::Disk;
 use std::alloc::Global;
 
 /// What a run was at when its files failed.
-#[derive(Clone, Copy)]
+#[derive(Drop)]
 pub(crate) enum Step {
     Open,
     Save,
@@ -20,7 +19,7 @@ pub(crate) enum Step {
 }
 
 impl Step {
-    pub(crate) fn name(self) -> &'static str {
+    pub(crate) fn word(&self) -> &'static str {
         match self {
             Step::Open => "open",
             Step::Save => "save",
@@ -48,44 +47,48 @@ fn opened<D: Disk + Drop>(
     }
 }
 
-/// Has a keeper do saves, up to the first that fails.
-pub(crate) fn keep_all<K: Keeper>(
+/// What is done over a database behind saves: a look at what is kept, where it is said what is due.
+#[derive(Drop)]
+pub(crate) struct Work<'a> {
+    pub(crate) due: Option<&'a Due>,
+    /// Whether the database is closed then.
+    pub(crate) is_closed: bool,
+    /// What was found to be kept.
+    pub(crate) found: Found,
+}
+
+/// Has a keeper do saves and a work, up to the first call that fails.
+fn do_work<K: Keeper>(
     alloc: Global,
     keeper: &mut K,
-    saves: &[Save],
+    saves: &[&str],
+    work: &mut Work,
 ) -> Result<(), KeepFault> {
-    for save in saves {
-        if let Err(fault) = keep(alloc, keeper, save) {
-            return Err(fault);
-        }
+    keep_all(alloc, keeper, saves)?;
+    if let Some(due) = work.due {
+        work.found = judge(alloc, keeper, due)?;
     }
     Ok(())
 }
 
-/// Has a keeper over a database do saves. Gives the database back where it is to be closed, and else what it stands on.
-fn kept<S: Alter + Drop>(
+/// Has a keeper over a database do saves and a work. Gives the database back where it is to be closed, and else what it stands on.
+fn worked<S: Alter + Drop>(
     alloc: Global,
     connection: Connection<S>,
-    saves: &[Save],
-    is_closed: bool,
+    saves: &[&str],
+    work: &mut Work,
 ) -> Result<Connection<S>, (Step, S)> {
     let mut keeper = JobTables::adopt(connection);
-    let are_done = keep_all(alloc, &mut keeper, saves).is_ok();
+    let is_done = do_work(alloc, &mut keeper, saves, work).is_ok();
     let connection = keeper.into_connection();
-    if !are_done {
+    if !is_done {
         return Err((Step::Save, connection.into_store()));
     }
-    if is_closed {
+    if work.is_closed {
         Ok(connection)
     } else {
         Err((Step::Done, connection.into_store()))
     }
-}
-
-/// What a keeper over a database is found to hold.
-fn judged<S: Alter + Drop>(connection: Connection<S>, due: &mut Due) -> Result<Found, Trouble> {
-    let mut keeper = JobTables::adopt(connection);
-    judge(&mut keeper, due)
 }
 
 /// The files of a database that is closed.
@@ -96,35 +99,19 @@ fn closed<D: Disk + Drop>(connection: Connection<FileStore<D>>) -> (Step, Files<
     }
 }
 
-/// Opens files, does saves, and closes them if that is asked for, until they fail.
+/// Opens files, does saves and a work, and closes them if that is asked for, until they fail.
 pub(crate) fn run<D: Disk + Drop>(
     alloc: Global,
     files: Files<D>,
     options: Options,
-    saves: &[Save],
-    is_closed: bool,
+    saves: &[&str],
+    work: &mut Work,
 ) -> (Step, Files<D>) {
     match opened(alloc, files, options) {
-        Ok(connection) => match kept(alloc, connection, saves, is_closed) {
+        Ok(connection) => match worked(alloc, connection, saves, work) {
             Ok(connection) => closed(connection),
             Err((step, store)) => (step, store.close()),
         },
         Err(files) => (Step::Open, files),
-    }
-}
-
-/// What is found in files.
-pub(crate) fn reopened<D: Disk + Drop>(
-    alloc: Global,
-    files: Files<D>,
-    options: Options,
-    due: &mut Due,
-) -> Result<Found, Trouble> {
-    match opened(alloc, files, options) {
-        Ok(connection) => judged(connection, due),
-        Err(_) => Ok(Found {
-            state: State::Neither,
-            is_other_same: false,
-        }),
     }
 }

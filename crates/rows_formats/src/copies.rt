@@ -1,12 +1,9 @@
-//! Copies of plain types (`copies`), and the outside: files in memory whose reads or writes fail (`reads`, `writes`) or never do
-//! (`sure`), a file of the system (`file`), what the system refuses (`refused`), outputs in memory (`mem-sink`, `sure-sink`), the
-//! standard output (`std-sink`), and outputs that fail (`failing-sinks`).
+//! Copies of plain types: `plain copies`.
 
-use crate::answer::Answer;
 use crate::candidates::put_candidates;
-use crate::{shelves, sinks};
 use coin_candidates::Candidate;
 use fund_base::{MAX_MONEY, Memory, OutPoint, Places, Script, Txid};
+use row_columns::Answer;
 use std::alloc::Global;
 
 /// A candidate of this index, of which each other field has another value.
@@ -52,28 +49,8 @@ fn copies(out: &mut Answer) -> Result<(), Memory> {
     Ok(())
 }
 
-/// Answers a row that may lack memory.
-fn answer(out: &mut Answer, verb: &str) -> Result<(), Memory> {
-    match verb {
-        "copies" => copies(out),
-        "reads" => shelves::reads(out),
-        "writes" => shelves::writes(out),
-        "sure" => shelves::sure(out),
-        _ => sinks::mem(out),
-    }
-}
-
-pub(crate) fn row(rt: &HostRuntime, out: &mut Answer, verb: &str) {
-    match verb {
-        "file" => shelves::file(rt, out),
-        "refused" => shelves::refused(rt, out),
-        "std-sink" => sinks::standard(rt, out),
-        "failing-sinks" => sinks::failing(out),
-        "sure-sink" => sinks::sure(out),
-        _ => {
-            if answer(out, verb).is_err() {
-                out.lack();
-            }
-        }
-    }
+/// Puts copies, and the greatest amount.
+pub(crate) fn row(out: &mut Answer) {
+    let ended = copies(out);
+    out.end(ended);
 }

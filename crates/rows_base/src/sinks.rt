@@ -2,10 +2,10 @@
 
 ghost use Rattle.std.specs.Prelude.{◌≤◌, length, IfOk};
 
-use crate::answer::Answer;
 use crate::shelves::put_end;
 use fund_base::Memory;
 use fund_shelf::{MemSink, Sink, StdSink, SureSink, put_all};
+use row_columns::Answer;
 use std::fmt::Display;
 use std::io::{self, ErrorKind, Print};
 

@@ -9,12 +9,11 @@
 
 ghost use Rattle.fee_rates.specs.Terms.{AreRates, IsLoad};
 
-use crate::answer::Answer;
-use crate::columns::{column, number_of, script_of};
 use fee_rates::{
     Load, MAX_RATE, Rates, Terms, dust, effective, fee, input_fee, is_program, output_size, vsize,
 };
 use fund_base::{MAX_MONEY, Script};
+use row_columns::{Answer, column, number_within, script_in};
 
 /// The greatest weight of an input that has a fee, in weight units.
 const MAX_INPUT: u64 = 40_000_000_000;
@@ -29,7 +28,7 @@ fn output(out: &mut Answer, script: &Script) {
 fn rates(rate: &str) -> Rates
     ensures { AreRates result }
 {
-    let rate = number_of(rate, MAX_RATE);
+    let rate = number_within(rate, MAX_RATE);
     Rates {
         rate,
         long_term: rate,
@@ -43,10 +42,10 @@ fn load(columns: &[&str]) -> Load
     ensures { IsLoad result }
 {
     Load {
-        paid: number_of(column(columns, 1), MAX_MONEY),
-        outputs: number_of(column(columns, 2), 1_000_000_000),
-        count: number_of(column(columns, 3), 1_000_000_000),
-        coins: number_of(column(columns, 4), u64::MAX),
+        paid: number_within(column(columns, 1), MAX_MONEY),
+        outputs: number_within(column(columns, 2), 1_000_000_000),
+        count: number_within(column(columns, 3), 1_000_000_000),
+        coins: number_within(column(columns, 4), u64::MAX),
         preset_effective: 0,
         preset_weight: 0,
         has_presets: false,
@@ -62,10 +61,10 @@ fn preset_load(columns: &[&str]) -> Load
     ensures { IsLoad result }
 {
     Load {
-        preset_effective: i128::from(number_of(column(columns, 5), MAX_MONEY)),
-        preset_weight: number_of(column(columns, 6), MAX_INPUT),
+        preset_effective: i128::from(number_within(column(columns, 5), MAX_MONEY)),
+        preset_weight: number_within(column(columns, 6), MAX_INPUT),
         has_presets: true,
-        burden: number_of(column(columns, 7), MAX_MONEY),
+        burden: number_within(column(columns, 7), MAX_MONEY),
         ..load(columns)
     }
 }
@@ -106,13 +105,16 @@ fn put_terms(out: &mut Answer, terms: &Terms, columns: &[&str], first: usize) {
 
 /// Puts the figure of a verb of fees.
 fn put_fee(out: &mut Answer, verb: &str, columns: &[&str]) {
-    let rate = number_of(column(columns, 0), MAX_RATE);
-    let weight = number_of(column(columns, 1), MAX_INPUT);
+    let rate = number_within(column(columns, 0), MAX_RATE);
+    let weight = number_within(column(columns, 1), MAX_INPUT);
     match verb {
-        "fee" => out.number("", fee(rate, number_of(column(columns, 1), 20_000_000_000))),
+        "fee" => out.number(
+            "",
+            fee(rate, number_within(column(columns, 1), 20_000_000_000)),
+        ),
         "input" => out.number("", input_fee(rate, weight)),
         _ => {
-            let value = number_of(column(columns, 2), MAX_MONEY);
+            let value = number_within(column(columns, 2), MAX_MONEY);
             out.signed("", i128::from(effective(value, rate, weight)));
         }
     }
@@ -121,8 +123,8 @@ fn put_fee(out: &mut Answer, verb: &str, columns: &[&str]) {
 pub(crate) fn row(out: &mut Answer, verb: &str, columns: &[&str]) {
     let first = column(columns, 0);
     match verb {
-        "output" => output(out, &script_of(out.alloc, first)),
-        "vsize" => out.number("", vsize(number_of(first, u64::MAX))),
+        "output" => output(out, &script_in(out.alloc, first)),
+        "vsize" => out.number("", vsize(number_within(first, u64::MAX))),
         "terms" => put_terms(out, &Terms::new(&rates(first), &load(columns)), columns, 5),
         "preset" => put_terms(
             out,
