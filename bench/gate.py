@@ -4,6 +4,7 @@
 Usage: bench/gate.py proof CRATE          the functions of a crate, dearest first
        bench/gate.py watch FOLDER FILE    over a run of `rt ci` in FOLDER, until it ends
        bench/gate.py table FILE           what FILE has, crate by crate
+       bench/gate.py touch FILE           what a change of each crate costs, by FILE
 
 proof checks the crate from nothing at one job, as the gate does, over libraries that are built: `rt check` in its folder
 builds them. Between two lines 'checked FUNCTION' the prover has spent what the second function took. The first of a crate
@@ -13,6 +14,7 @@ the kind, the seconds. A process ends up to a second after it was last seen, whi
 has the ground of a crate's edits too; build, of a program by two compilers; and run. What rt itself spends goes by the name rt.
 It waits for a run to begin. A run of `rt ci CRATE..` works on a copy elsewhere. So it is known by a shell in FOLDER that started it.
 table prints for each crate the seconds of each kind, and its proof as a multiple of tx_codec's. Last stand the crates above 1.6.
+touch prints for each crate how many crates are proved again when it changes, itself among them, and what all of these take.
 """
 import collections, importlib.machinery, importlib.util, os, re, shutil, subprocess, sys, time
 
@@ -173,8 +175,31 @@ def table(file):
     return 0
 
 
+def stands_on():
+    """Of each crate of crates.txt the names of what it stands on."""
+    lines = [line.split("#")[0].split(":") for line in open(f"{TOP}/crates.txt")]
+    return {line[0].split()[0]: line[1].split() for line in lines if len(line) == 2}
+
+
+def touch(file):
+    spent = collections.Counter()
+    for line in open(file):
+        _, crate, _, seconds = line.split()
+        spent[crate] += float(seconds)
+    direct = stands_on()
+    again = {crate: {crate} for crate in direct}
+    grows = True
+    while grows:
+        more = {crate: names.union(*(again[it] for it in direct if not names.isdisjoint(direct[it]))) for crate, names in again.items()}
+        grows, again = more != again, more
+    print("| Crate | Crates | Seconds |\n|---|---|---|")
+    for crate in sorted(again, key=lambda name: -sum(spent[it] for it in again[name])):
+        print(f"| {crate} | {len(again[crate])} | {sum(spent[it] for it in again[crate]):.0f} |")
+    return 0
+
+
 def main():
-    verbs = {"proof": (proof, 1), "watch": (watch, 2), "table": (table, 1)}
+    verbs = {"proof": (proof, 1), "watch": (watch, 2), "table": (table, 1), "touch": (touch, 1)}
     words = sys.argv[1:]
     if not words or words[0] not in verbs or len(words) - 1 != verbs[words[0]][1]:
         sys.exit(__doc__)
