@@ -17,6 +17,7 @@ use Rattle.request_text.specs.declared.request.Method.TheVariants.{Auto, Changel
 use Rattle.serde_json.specs.Data.{Data, null, boolean, number, string, array, object}
 use Rattle.serde_json.specs.Find.{as_str, get}
 use Rattle.entry_laws.specs.Asked.{IsDrawing}
+use Rattle.entry_laws.specs.Forms.{IsWrongWhere}
 use Rattle.entry_laws.proofs.ValueFaults.{text_exact, text_law, told_by, kind_alone}
 
 -- ---- the seed
@@ -163,11 +164,11 @@ take_fault : (d : Data) (fault : FieldFault) → (take_at d ≡ Err fault) ↔ (
 unfolding take_at
 take_fault d fault = told_by (take_at d) (codes "when_unfinished") (λ b. d ≡ string (take_word b)) (take_exact d) (λ other e. word_alone (codes "when_unfinished") take_in d other e) fault
 
-pub take_other : (d : Data) (fault : FieldFault) → (take_at d ≡ Err fault) ↔ ((fault ≡ Kind (codes "when_unfinished")) × (d ≢ string (codes "take")) × (d ≢ string (codes "stop")))
+pub take_other : IsWrongWhere (codes "when_unfinished") take_at (λ d. (d ≢ string (codes "take")) × (d ≢ string (codes "stop")))
 unfolding take_word
 take_other d fault = (
-  λ e. let r = (take_fault d fault).0 e in (r.0, r.1 true, r.1 false),
-  λ is. (take_fault d fault).1 (is.0, none is.1 is.2),
+  λ e. let r = (take_fault d fault).0 e in (r.0, (r.1 true, r.1 false)),
+  λ is. (take_fault d fault).1 (is.0, none is.1.0 is.1.1),
 )
   where
     none : d ≢ string (codes "take") → d ≢ string (codes "stop") → (b : Bool) → d ≢ string (take_word b)

@@ -1,12 +1,22 @@
 -- What is wrong with the form of a value, by what the value is and not by how it is read.
-use Rattle.std.specs.Prelude.{ℕ, ◌≡◌, ◌≢◌, ◌≤◌, ◌⊎◌, List, [], ◌∷◌, length, reverse, Some, Result}
+use Rattle.std.specs.Prelude.{ℕ, ◌≡◌, ◌≢◌, ◌≤◌, ◌⊎◌, ◌↔◌, List, [], ◌∷◌, length, reverse, Some, Result, Err}
 use Rattle.fund_base.specs.declared.outpoint.OutPoint.{OutPoint}
-use Rattle.json_fields.specs.Rules.{HasMembers, AreKnown, HasAll, IsFirstMissing, IsHexString, IsCoinText, IsFirstRefused}
+use Rattle.json_fields.specs.Rules.{HasMembers, AreKnown, HasAll, IsFirstMissing, IsLeastUnknown, IsHexString, IsCoinText, IsFirstRefused}
 use Rattle.json_fields.specs.declared.fault.FieldFault.{FieldFault}
 use Rattle.json_fields.specs.declared.fault.FieldFault.TheVariants.{Kind}
 use Rattle.serde_json.specs.Data.{Data, array, number, object, string, unsigned, Members}
 use Rattle.serde_json.specs.Find.{get}
 use Rattle.serde_json.specs.View.{items_of}
+
+-- ---- which fault a value gets
+
+-- A value gets this fault, with a name, exactly where this holds of the value and the name.
+abbrev pub IsToldWhere : {A E : Type 0} → (Data → Result A E) → (List ℕ → E) → (Data → List ℕ → Type 0) → Type 0
+IsToldWhere reading fault holds = (d : Data) (name : List ℕ) → (reading d ≡ Err (fault name)) ↔ holds d name
+
+-- It gets one fault alone, that its kind is wrong, by this name, exactly where this holds of it.
+abbrev pub IsWrongWhere : {A : Type 0} → List ℕ → (Data → Result A FieldFault) → (Data → Type 0) → Type 0
+IsWrongWhere name reading holds = (d : Data) (fault : FieldFault) → (reading d ≡ Err fault) ↔ ((fault ≡ Kind name) × holds d)
 
 -- ---- a value by itself
 
@@ -76,6 +86,10 @@ pub record IsMiscounted (first second : List ℕ) (most : ℕ) (d : Data) (told 
 abbrev pub IsWrongKind : (whole first second : List ℕ) → ℕ → Data → List ℕ → Type 0
 IsWrongKind whole first second most d told =
     IsWrongWhole whole d told ⊎ (IsMisspelled first second d told ⊎ IsMiscounted first second most d told)
+
+-- of its members this is the least by bytes that isn't known
+abbrev pub HasUnknown : (known : List (List ℕ)) → Data → List ℕ → Type 0
+HasUnknown known d name = HasMembers d (λ ms. IsLeastUnknown known ms name)
 
 -- its members are known, and of the required ones it lacks this, the first in the order of its table
 abbrev pub IsLacking : (known required : List (List ℕ)) → Data → List ℕ → Type 0

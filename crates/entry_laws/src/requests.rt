@@ -6,14 +6,13 @@ ghost use Rattle.serde_json.specs.Data.{Data, string};
 ghost use Rattle.json_fields.specs.Fields.{coin_at};
 ghost use Rattle.json_fields.specs.Repeats.{IsFirstRepeat};
 ghost use Rattle.json_fields.specs.declared.fault.FieldFault.{FieldFault};
-ghost use Rattle.json_fields.specs.declared.fault.FieldFault.TheVariants.{Kind};
 ghost use Rattle.request_text.specs.RequestText.{coins_at, index_of, method_at, required_in, take_at};
 ghost use Rattle.request_text.specs.Rules.{word_of};
 ghost use Rattle.request_text.specs.declared.fault.Refusal.{Refusal};
 ghost use Rattle.request_text.specs.declared.fault.Refusal.TheVariants.{Field, Repeat};
 ghost use Rattle.request_text.specs.declared.request.Method.{Method};
 ghost use Rattle.entry_laws.specs.Asked.{AreCoins, IsDrawing};
-ghost use Rattle.entry_laws.specs.Forms.{IsListFault};
+ghost use Rattle.entry_laws.specs.Forms.{IsListFault, IsWrongWhere};
 
 /// The law of the members that a request has to have: recipients and a rate, and a seed exactly where its method is left
 /// out or is the word `auto` or `draw`. A method that isn't known needs none.
@@ -26,14 +25,14 @@ pub fn requires_a_seed_of_draws()
 pub fn tells_take_from_stop()
     ensures take { (d : Data) → (take_at d ≡ Ok true) ↔ (d ≡ string (codes "take")) }
     ensures stop { (d : Data) → (take_at d ≡ Ok false) ↔ (d ≡ string (codes "stop")) }
-    ensures other { (d : Data) (fault : FieldFault) → (take_at d ≡ Err fault) ↔ ((fault ≡ Kind (codes "when_unfinished")) × (d ≢ string (codes "take")) × (d ≢ string (codes "stop"))) }
+    ensures other { IsWrongWhere (codes "when_unfinished") take_at (λ d. (d ≢ string (codes "take")) × (d ≢ string (codes "stop"))) }
 {}
 
 /// The law of `method`: a value is read as a method exactly where it is the method's word, and anything else is of the
 /// wrong kind.
 pub fn tells_methods()
     ensures method { (d : Data) (method : Method) → (method_at d ≡ Ok method) ↔ (d ≡ string (word_of method)) }
-    ensures other { (d : Data) (fault : FieldFault) → (method_at d ≡ Err fault) ↔ ((fault ≡ Kind (codes "method")) × ((method : Method) → d ≢ string (word_of method))) }
+    ensures other { IsWrongWhere (codes "method") method_at (λ d. (method : Method) → d ≢ string (word_of method)) }
 {}
 
 /// The law of `coins`: the list is read as coins exactly where each entry is one and none stands twice. Repeat comes

@@ -1,5 +1,5 @@
 -- The sentence of a fault line, or of a report without a payment: by its words, from the front.
-use Rattle.std.specs.Prelude.{ℕ, List, bytes_eq, codes, replicate, Option, Some, None, if◌then◌else◌}
+use Rattle.std.specs.Prelude.{ℕ, ◌≡◌, ◌++◌, List, bytes_eq, codes, replicate, Option, Some, None, if◌then◌else◌}
 use Rattle.fault_lines.specs.Sentences.{address_sentence, blocks_sentence, bump_sentence, check_sentence, kept_sentence, missing_sentence, none_sentence, not_pending_sentence, other_output_sentence, other_pairs_sentence, plan_sentence, psbt_sentence, rate_range_sentence, request_kind_sentence, request_member_sentence, request_missing_sentence, request_sentence, stop_sentence, tx_sentence, unfinished_sentence, wallet_kind_sentence, wallet_member_sentence, wallet_missing_sentence, wallet_repeat_sentence, wallet_sentence}
 use Rattle.fault_lines.specs.declared.stop.Stop.TheVariants as stops
 use Rattle.tx_codec.specs.declared.fault.TxFault.TheVariants as txs
@@ -14,6 +14,7 @@ use Rattle.report_check.specs.declared.fault.CheckFault.TheVariants as checks
 use Rattle.psbt_codec.specs.declared.fault.PsbtFault.TheVariants as psbts
 use Rattle.payment_states.specs.declared.state.State.TheVariants as states
 use Rattle.fee_bump.specs.declared.fault.BumpFault.TheVariants as bumps
+use Rattle.command_end.specs.Lines.{fault_line}
 use Rattle.fault_lines.specs.Word.{after_word, begins, behind, no_coin, told, word, zeros}
 
 -- the sentence of a transaction's fault, by its words
@@ -231,3 +232,11 @@ unpaid_line line =
 -- the sentence of a fault line, behind the word `fault`, or of a report without a payment
 unfoldable pub line_sentence : List ℕ → Option (List ℕ)
 line_sentence line = told (behind (codes "fault ") line) (λ words. words_sentence words) (unpaid_line line)
+
+-- the fault line of these words has this sentence
+abbrev pub HasSentence : List ℕ → List ℕ → Type 0
+HasSentence words sentence = line_sentence (fault_line words) ≡ Some sentence
+
+-- each fault line whose words begin so has this sentence, whatever stands after these
+abbrev pub AllHaveSentence : List ℕ → List ℕ → Type 0
+AllHaveSentence front sentence = (rest : List ℕ) → HasSentence (front ++ rest) sentence

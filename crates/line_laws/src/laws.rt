@@ -6,12 +6,12 @@ ghost use Rattle.command_check.specs.declared.stop.Evidence.{Evidence};
 ghost use Rattle.command_complete.specs.Words as completing;
 ghost use Rattle.command_complete.specs.declared.stop.Refusal as completions;
 ghost use Rattle.command_desk.specs.Course.{long_word};
-ghost use Rattle.command_end.specs.Lines.{fault_line, file_refusal_words, file_word};
+ghost use Rattle.command_end.specs.Lines.{file_refusal_words, file_word};
 ghost use Rattle.command_inputs.specs.Words as funding;
 ghost use Rattle.command_inputs.specs.declared.refusal.Refusal as payments;
 ghost use Rattle.command_resume.specs.Words.{kept_words};
 ghost use Rattle.command_desk.specs.Line as lines;
-ghost use Rattle.fault_lines.specs.Lines.{line_sentence};
+ghost use Rattle.fault_lines.specs.Lines.{HasSentence, line_sentence};
 ghost use Rattle.fault_lines.specs.Sentences.{check_sentence, kept_sentence, none_sentence, stop_sentence, unfinished_sentence};
 ghost use Rattle.fault_lines.specs.declared.stop.Stop.TheVariants as stops;
 ghost use Rattle.fund_files.specs.declared.refusal.File.{File};
@@ -25,25 +25,25 @@ ghost use Rattle.line_laws.specs.Sentences.{HasFileNumbers, HasPaymentNumbers, c
 /// The law of refusals: the line of each file, payment and PSBT that is refused has its sentence. An index has 128 bits at
 /// most, as every index has. A call does nothing.
 pub fn refusals_have_their_sentence()
-    ensures file { (r : FileRefusal) → HasFileNumbers r → line_sentence (fault_line (file_refusal_words r)) ≡ Some (file_sentence r) }
-    ensures payment { (r : payments.Refusal) → HasPaymentNumbers r → line_sentence (fault_line (funding.refusal_words r)) ≡ Some (payment_sentence r) }
-    ensures completion { (r : completions.Refusal) → line_sentence (fault_line (completing.refusal_words r)) ≡ Some (completion_sentence r) }
+    ensures file { (r : FileRefusal) → HasFileNumbers r → HasSentence (file_refusal_words r) (file_sentence r) }
+    ensures payment { (r : payments.Refusal) → HasPaymentNumbers r → HasSentence (funding.refusal_words r) (payment_sentence r) }
+    ensures completion { (r : completions.Refusal) → HasSentence (completing.refusal_words r) (completion_sentence r) }
 {}
 
 /// The law of what is judged: the line of each fault of a kept job, and of each rule that a report breaks, has the sentence
 /// of that fault. A call does nothing.
 pub fn judgements_have_their_sentence()
-    ensures kept { (f : KeptFault) → line_sentence (fault_line (kept_words f)) ≡ Some (kept_sentence f) }
-    ensures check { (f : CheckFault) → line_sentence (fault_line (codes "check " ++ check_fault_words f)) ≡ Some (check_sentence f) }
+    ensures kept { (f : KeptFault) → HasSentence (kept_words f) (kept_sentence f) }
+    ensures check { (f : CheckFault) → HasSentence (codes "check " ++ check_fault_words f) (check_sentence f) }
 {}
 
 /// The law of limits: the line of each file that is longer than its limit has the sentence of that file. A call does
 /// nothing.
 pub fn limits_have_their_sentence()
-    ensures file { (f : File) → line_sentence (fault_line (codes "limit " ++ file_word f)) ≡ Some (limit_sentence f) }
-    ensures evidence { (f : Evidence) → line_sentence (fault_line (codes "limit " ++ evidence_word f)) ≡ Some (evidence_sentence f) }
-    ensures opened { (name file : List ℕ) → line_sentence (fault_line (codes "limit " ++ long_word (lines.Open name file))) ≡ Some (stop_sentence stops.RequestLimit) }
-    ensures blocks { (file : List ℕ) → line_sentence (fault_line (codes "limit " ++ long_word (lines.Blocks file))) ≡ Some (stop_sentence stops.BlocksLimit) }
+    ensures file { (f : File) → HasSentence (codes "limit " ++ file_word f) (limit_sentence f) }
+    ensures evidence { (f : Evidence) → HasSentence (codes "limit " ++ evidence_word f) (evidence_sentence f) }
+    ensures opened { (name file : List ℕ) → HasSentence (codes "limit " ++ long_word (lines.Open name file)) (stop_sentence stops.RequestLimit) }
+    ensures blocks { (file : List ℕ) → HasSentence (codes "limit " ++ long_word (lines.Blocks file)) (stop_sentence stops.BlocksLimit) }
 {}
 
 /// The law of reports without a payment: each has its sentence, whatever it counts. A call does nothing.

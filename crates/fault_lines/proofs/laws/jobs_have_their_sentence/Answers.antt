@@ -9,11 +9,11 @@ returns-clause-no_job c = refl
 
 pub returns-clause-form : goal.returns-clause-form
 unfolding line_sentence words_sentence kept_line limit_line kept_sentence
-returns-clause-form c = λ rest place. refl
+returns-clause-form c = λ place rest. refl
 
 pub returns-clause-job_else : goal.returns-clause-job_else
 unfolding line_sentence words_sentence kept_line limit_line kept_sentence
-returns-clause-job_else c = λ rest kept now. refl
+returns-clause-job_else c = λ kept now rest. refl
 
 pub returns-clause-spent : goal.returns-clause-spent
 unfolding line_sentence words_sentence kept_line limit_line kept_sentence
@@ -21,7 +21,7 @@ returns-clause-spent c = refl
 
 pub returns-clause-part : goal.returns-clause-part
 unfolding line_sentence words_sentence kept_line limit_line kept_sentence
-returns-clause-part c = λ rest number. refl
+returns-clause-part c = λ number rest. refl
 
 pub returns-clause-long_log : goal.returns-clause-long_log
 unfolding line_sentence words_sentence kept_line limit_line kept_sentence
@@ -29,7 +29,7 @@ returns-clause-long_log c = refl
 
 pub returns-clause-section : goal.returns-clause-section
 unfolding line_sentence words_sentence kept_line limit_line kept_sentence
-returns-clause-section c = λ rest index. refl
+returns-clause-section c = λ index rest. refl
 
 pub returns-clause-ill_formed : goal.returns-clause-ill_formed
 unfolding line_sentence words_sentence kept_line limit_line kept_sentence
@@ -37,7 +37,7 @@ returns-clause-ill_formed c = refl
 
 pub returns-clause-log : goal.returns-clause-log
 unfolding line_sentence words_sentence kept_line limit_line kept_sentence
-returns-clause-log c = λ rest index fault. refl
+returns-clause-log c = λ index fault rest. refl
 
 pub returns-clause-failed : goal.returns-clause-failed
 unfolding line_sentence words_sentence kept_line limit_line kept_sentence
