@@ -3,7 +3,8 @@
 
     python3 tools/proved.py              writes docs/PROVED.md
     python3 tools/proved.py --check      fails if docs/PROVED.md isn't what the sources make
-    python3 tools/proved.py where NAME   the file of a definition, and each clause that reaches it, nearest first
+    python3 tools/proved.py where NAME   the file of a definition, the fields of `run` that reach it, and each clause that does,
+                                         nearest first; CRATE::NAME where several crates have one of that name
     python3 tools/proved.py unreached    the definitions that no clause of a public call reaches
 
 It reads crates.txt for the crates and their order, src/ for the calls and specs/ for the definitions. A crate that is
@@ -20,8 +21,11 @@ from pathlib import Path
 TOP = Path(__file__).resolve().parent.parent
 PAGE = TOP / "docs" / "PROVED.md"
 WIDTH = 116
+TOP_CALL = "fund_top run: "
 LONGEST = 700  # letters of a clause that are shown; a longer one is cut
 NAME = re.compile(r"[A-Za-z_][A-Za-z0-9_'-]*")
+# a name, with the file's alias before it, if there is one
+QUALIFIED = re.compile(r"(?:\b([A-Za-z_][A-Za-z0-9_'-]*)\.)?([A-Za-z_][A-Za-z0-9_'-]*)")
 IMPORT = re.compile(r"use\s+Rattle\.([A-Za-z0-9_]+)\.specs\.([A-Za-z0-9_.]+?)(?:\.\{(.*)\}|\s+as\s+(\w+))\s*;?\s*$", re.S)
 
 
@@ -308,13 +312,16 @@ def definitions_of(crate):
 
 
 def named_in(text, crate, file, imports, known):
-    """The definitions that a text names: by an import, or as one of its own file."""
+    """The definitions that a text names: by an import, by the alias of a file, or as one of its own file."""
     keys = []
-    for word in dict.fromkeys(NAME.findall(re.sub(r'"[^"]*"', "", text))):
-        home = imports.get(word)
-        key = (home[0], home[1], home[2]) if home and home[2] else (crate, file, word)
-        if key in known and key not in keys:
-            keys.append(key)
+    for alias, word in dict.fromkeys(QUALIFIED.findall(re.sub(r'"[^"]*"', "", text))):
+        file_of = imports.get(alias)
+        if file_of and not file_of[2]:
+            found = [(file_of[0], file_of[1], word)]
+        else:
+            homes = [(imports.get(name), name) for name in (alias, word) if name]
+            found = [(home[0], home[1], home[2]) if home and home[2] else (crate, file, name) for home, name in homes]
+        keys += [key for key in dict.fromkeys(found) if key in known and key not in keys]
     return keys
 
 
@@ -697,14 +704,21 @@ def where(name):
     crates = crates_in_order()
     known, direct, _ = reach(crates)
     users = above(known)
-    keys = [key for key in known if key[2] == name]
+    crate, _, name = name.rpartition("::")
+    keys = [key for key in known if key[2] == name and crate in ("", key[0])]
     if not keys:
         sys.exit(f"{name}: no definition of specs/ has this name")
+    if len(keys) > 1:
+        print(f"{len(keys)} definitions: {', '.join(f'{key[0]}::{name}' for key in keys)}")
     for key in keys:
         print(f"{name}: crates/{key[0]}/specs/{key[1].replace('.', '/')}.antt")
         below = ways(key, users)
         if not any(one in direct for one in below):
             print("  no clause of a public call reaches it")
+        tops = [place.replace("`", "").partition(TOP_CALL) for one in below for place in direct.get(one, [])]
+        fields = list(dict.fromkeys(rest for _, call, rest in tops if call))
+        if fields:
+            print(f"  {TOP_CALL}{', '.join(fields)}")
         for one in below:
             if one not in direct:
                 continue
@@ -745,4 +759,7 @@ def main():
         sys.exit(__doc__)
 
 
-main()
+try:
+    main()
+except BrokenPipeError:
+    sys.stderr.close()

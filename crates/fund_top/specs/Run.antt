@@ -35,12 +35,13 @@ pub record EndsByStatus (v : Outside) (words : Option Command) (status : Status)
   -- written, and the report is printed. Where the request names a payment, this one replaces it by BIP 125. An exhausted payment
   -- is the best of its row and stage, and its log is accepted.
   pub done : status ≡ statuses.Done → WhereFunding words (λ s p. EndsFunded v.tells_files v.tells_output s p v.shelf v.shelf' v.sink v.sink')
-  -- Done, where a job was gone on with: the same holds, whatever the keeper returned.
+  -- Done, where a job was gone on with: coins, transaction, PSBT and log are as with `done`, and the mark claims what `ClaimsOn`
+  -- says, whatever the keeper returned.
   pub resumed : status ≡ statuses.Done → WhereResuming words (λ s p job. EndsResumed v.tells_files v.tells_output v.tells_jobs s p job v.shelf v.shelf' v.sink v.sink' v.keeper)
   -- No selection: no search and no draw has a result, which the log proves, and the presets alone don't pay.
   pub none : status ≡ statuses.NoSelection → IfSome words (λ c. EndsNotFunded v.tells_files v.tells_output v.tells_jobs c v.shelf v.shelf' v.sink v.sink' v.keeper)
-  -- Unfinished: each try was made of the request's, and of those that the job had left, the next step is a try, and nothing is
-  -- taken. No file is written, and where there is a job, the run is kept as that.
+  -- Unfinished: the request's tries are made, or as many as the job had left. A search is open, and nothing was found, or the
+  -- request says that nothing is taken then. No file is written, and where there is a job, the run is kept as that.
   pub unfinished : status ≡ statuses.Unfinished → IfSome words (λ c. EndsUnfinished v.tells_files v.tells_output v.tells_jobs c v.shelf v.shelf' v.sink v.sink' v.keeper v.keeper')
   -- Done, where coins are listed: the states and the candidates are printed, and nothing else.
   pub listed : status ≡ statuses.Done → WhereListing words (λ s. EndsListed v.tells_files v.tells_output s v.shelf v.sink v.sink')
@@ -69,7 +70,7 @@ pub record EndsByStatus (v : Outside) (words : Option Command) (status : Status)
   -- Memory: its line is put, or the output found none and has got a part of what is due.
   pub memory : status ≡ statuses.Memory → IfSome words (λ c. EndsWithoutMemory v.tells_files v.tells_output v.tells_jobs c v.shelf v.shelf' v.sink v.sink' v.keeper v.keeper')
 
--- No failure is told as something else.
+-- A failed read, write of the log or keeper is told as that. A failed output is never told as success.
 pub record TellsFailures (v : Outside) (status : Status) : Type 0 where
   -- A read that failed is told as a read fault.
   pub all_read : status ≢ statuses.ReadFault → v.shelf'.reads ≡ v.shelf.reads
@@ -86,28 +87,29 @@ pub record LeavesOthers (v : Outside) (words : Option Command) (status : Status)
   pub others : v.tells_files → IfSome words (λ c. KeepsOthers c v.shelf.files v.shelf'.files)
   -- The log stays too before it is written.
   pub kept : v.tells_files → IsBeforeTheLog status → v.shelf'.files ≡ v.shelf.files
-  -- Every job stays but the one that the words name, and that one too unless the run is unfinished, or was, and its report wasn't
-  -- printed whole.
+  -- A job that the words don't name stays. The named one may change with the status Unfinished, WriteFault or Memory alone: the
+  -- run is unfinished, or was, and its report wasn't printed whole.
   pub jobs : v.tells_jobs → IfSome words (λ c. KeepsJobs (job_of c) status v.keeper v.keeper')
 
 -- What is read.
 pub record ReadsInOrder (v : Outside) (words : Option Command) : Type 0 where
-  -- Only the files that the words name are read, in their order, and none again behind another, with a job and without; the log
-  -- of a payment never, and behind a file that is refused none.
+  -- Only the files that the words name are read, and those that the lines of a desk's script name: in their order, and none again
+  -- behind another, with a job and without. The log of a payment is never read, and behind a file that is refused none is.
   pub asked : v.tells_files → IfSome words (λ c. AsksFor c v.shelf v.shelf')
   -- A workload is summed up without files: none is asked for or touched.
   pub apart : WhereWorking words (λ number count. v.shelf' ≡ v.shelf)
 
 -- Going on gives the uninterrupted answer.
 pub record GoesOn (v : Outside) (words : Option Command) (status : Status) : Type 0 where
-  -- Where unfinished runs of the same files left the job after n tries, it ends as a run of n tries and the request's together
-  -- does, in report and log byte for byte. It refuses neither the files nor the job, but for one that has made all its tries.
+  -- Let unfinished runs of the same files have left the job after n tries. Then it ends as one run of n and the request's tries
+  -- together does, byte for byte in report and log. It refuses neither the files nor the job, but for one that has made all its
+  -- tries, as a limit. Where something failed, or memory was short, this says nothing.
   pub uninterrupted : v.tells_files → v.tells_output → v.tells_jobs → WhereResuming words (λ s p job. GoesOnUninterrupted s p job v.shelf v.shelf' v.sink v.sink' v.keeper v.keeper' status)
 
 -- A refusal is told whatever the output does.
 pub record RefusesFirst (v : Outside) (words : Option Command) (status : Status) : Type 0 where
   -- Where the files are refused, the kept job, or the report that is checked, and none of these failed to be read, the status is
-  -- that of the refusal, even if the output fails, or out of memory.
+  -- that of the refusal or out of memory, also if the output fails.
   pub refused : IfSome words (λ c. v.tells_files → NoneUnread c v.shelf v.shelf' → (due : Outcome) → IsRefusal due → NoneUnkept v.tells_jobs due v.keeper v.keeper' → ComesTo v.shelf.files v.keeper.jobs c due → (status ≡ status_of due) ⊎ (status ≡ statuses.Memory))
 
 -- What is due is told where nothing fails.

@@ -219,6 +219,7 @@ EndsWithoutMemory told_files told told_jobs (Check s p report) shelf shelf' sink
 EndsWithoutMemory told_files told told_jobs (Work number count) shelf shelf' sink sink' keeper keeper' = loads.EndsWithoutMemory told number count sink sink'
 EndsWithoutMemory told_files told told_jobs (Desk s script) shelf shelf' sink sink' keeper keeper' = desks.Ends told_files told s script shelf shelf' sink sink' statuses.Memory
 
+-- how a command ends, by its status. None ends with usage.
 abbrev pub Ends : Type 0 → Type 0 → Type 0 → Command → ShelfView → ShelfView → SinkView → SinkView → KeeperView → KeeperView → Status → Type 0
 Ends told_files told told_jobs c shelf shelf' sink sink' keeper keeper' statuses.Done = EndsDone told_files told told_jobs c shelf shelf' sink sink' keeper
 Ends told_files told told_jobs c shelf shelf' sink sink' keeper keeper' statuses.NoSelection = EndsNotFunded told_files told told_jobs c shelf shelf' sink sink' keeper

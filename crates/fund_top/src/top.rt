@@ -62,7 +62,8 @@ fn act<H: Shelf, O: Sink, K: Keeper>(
     }
 }
 
-/// Does what the words say:
+/// Does what the words say, and ends with a status. What is refused gets its fault line. The clauses on content hold where
+/// the shelf, the sink and the keeper tell theirs.
 ///
 /// - `coins WALLET BLOCKS` reads the two files and prints to `out` the listing of the wallet: the tip of its chain, its pending
 ///   payments and their states, and the coins that may be spent.
@@ -79,13 +80,11 @@ fn act<H: Shelf, O: Sink, K: Keeper>(
 /// - `desk WALLET BLOCKS SCRIPT` reads three files, and does the lines of the script at the desk of the wallet: the reply to each
 ///   is printed before the file is read that the next line names.
 ///
-/// What is refused gets its fault line. Whatever the files and the keeper hold, a payment spends only coins that may be spent,
+/// Whatever the files and the keeper hold, a payment spends only coins that may be spent,
 /// and pays each recipient exactly and at least the fee. Where its request names a payment, it replaces that one by the rules of
 /// BIP 125 ('Implementation Details', 1 to 5). One that is marked exhausted is the best of all that are admissible in
 /// its row and stage, and its log is accepted. No selection means that there is none. Unfinished comes only where the tries are
 /// used up, and going on with a job that unfinished runs of the same files left gives the answer of a run without a stop.
-///
-/// The clauses on content hold where the shelf, the sink and the keeper tell theirs.
 pub fn run<H: Shelf, O: Sink, K: Keeper>(
     alloc: Global,
     words: &Vec<String>,
@@ -100,13 +99,13 @@ pub fn run<H: Shelf, O: Sink, K: Keeper>(
     // at least the fee of its declared weight. So ends `done`, and each other end has its own field, by its status.
     ensures ends { EndsByStatus (outside H.tells O.tells K.tells (H.view shelf.old) (H.view shelf.new) (O.view out.old) (O.view out.new) (K.view keeper.old) (K.view keeper.new)) (command_of words.now.items) result }
 
-    // A failure is told as that, and as nothing else.
+    // A failed read, write of the log or keeper is told as that. A failed output is never told as success.
     ensures honest { TellsFailures (outside H.tells O.tells K.tells (H.view shelf.old) (H.view shelf.new) (O.view out.old) (O.view out.new) (K.view keeper.old) (K.view keeper.new)) result }
 
     // What stays: the files but the log, and the jobs but the one that is named.
     ensures stays { LeavesOthers (outside H.tells O.tells K.tells (H.view shelf.old) (H.view shelf.new) (O.view out.old) (O.view out.new) (K.view keeper.old) (K.view keeper.new)) (command_of words.now.items) result }
 
-    // What is read: the files that are named, in their order, and none again behind another.
+    // What is read: the files that the words name, and those that a desk's script names; in their order, none again behind another.
     ensures reads { ReadsInOrder (outside H.tells O.tells K.tells (H.view shelf.old) (H.view shelf.new) (O.view out.old) (O.view out.new) (K.view keeper.old) (K.view keeper.new)) (command_of words.now.items) }
 
     // Going on with a job gives the answer of a run without a stop.
