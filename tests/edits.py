@@ -230,17 +230,22 @@ class Check:
 
 
 def batches(edits, calls):
-    """Edits in groups of which no two touch one function, or two of which one reaches the other: its goals wouldn't be told."""
+    """Edits in groups of which no two touch one function, or two of which one reaches the other: its goals wouldn't be told. Nor do
+    two of a group change one line."""
     groups = []
     for edit in edits:
         for group in groups:
-            if not any(meet(one, other, calls) for one in group[1] for other in edit.paths):
+            if not any(meet(one, other, calls) for one in group[1] for other in edit.paths) and not any(share_a_line(it, edit) for it in group[0]):
                 group[0].append(edit)
                 group[1].update(edit.paths)
                 break
         else:
             groups.append(([edit], set(edit.paths)))
     return [group[0] for group in groups]
+
+
+def share_a_line(one, other):
+    return any(file == its_file and (old in its_old or its_old in old) for file, old, _ in one.parts for its_file, its_old, _ in other.parts)
 
 
 def meet(one, other, calls):
