@@ -57,6 +57,7 @@ fn coins(alloc: Global, count: u32) -> Result<Vec<Candidate>, Memory>
             safe: true,
             ancestors: 0,
             descendants: 0,
+            price: 0,
         })?;
     }
     Ok(coins)

@@ -30,7 +30,7 @@ frame_told told name a b shelf.Memory (Err d) out frame =
     short_apart : shelf.Memory ≡ shelf.Failed → ⊥
     short_apart is = absurd cc
 
--- nor is want of memory
+-- nor is being out of memory
 pub feed_memory_not : {X : Type 0} (r : Result X FeedFault) → IsErrAnd r (λ d. d ≡ Memory) → r ≡ Err Read → ⊥
 feed_memory_not (Ok x) out is = absurd out
 feed_memory_not (Err d) out is =

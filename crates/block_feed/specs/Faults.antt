@@ -107,7 +107,7 @@ IsBlockFault hash height fault body = ⊥
 
 -- The fault of a file where the feed stands, by what is read of it from there on: no block is there, or one whose bytes
 -- are at fault.
-abbrev pub IsFault : List ℕ → FeedState → FeedFault → Type 0
-IsFault file state fault =
+abbrev pub IsFeedFault : List ℕ → FeedState → FeedFault → Type 0
+IsFeedFault file state fault =
     let bytes = drop state.place (take most file) in
     IsRecordFault (nat_lt most (length file)) state.place fault bytes ⊎ ((body : List ℕ) × HoldsRecord body bytes × IsBlockFault state.hash (height_after state.height) fault body)

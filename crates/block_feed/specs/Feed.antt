@@ -1,6 +1,7 @@
 -- The feed: where it stands, and what it gives next.
-use Rattle.std.specs.Prelude.{ℕ, ◌≡◌, ◌≢◌, ◌+◌, ◌-◌, ◌≤◌, ◌⊎◌, Bool, List, [], ◌∷◌, ◌++◌, length, take, drop, nat_lt, Option, Some, None, Result, Ok, Err}
+use Rattle.std.specs.Prelude.{ℕ, ◌≡◌, ◌≢◌, ◌+◌, ◌-◌, ◌≤◌, ◌⊎◌, Bool, List, [], ◌∷◌, ◌++◌, length, take, drop, nat_lt, Option, Some, None, Result, Ok, Err, IfOk, IfSome}
 use Rattle.sha2.specs.declared.Sha256.{Sha256}
+use Rattle.fund_base.specs.Cursor.{IsBytes}
 use Rattle.fund_base.specs.Parsing.{◌>>=◌}
 use Rattle.block_feed.specs.Block.{ChainBlock, height_after}
 use Rattle.block_feed.specs.BlockFile.{IsTail, IsBlockFile}
@@ -50,14 +51,18 @@ pub record StaysAt (old new : FeedState) : Type 0 where
   pub place : new.place ≡ old.place
   pub hasher : new.hasher ≡ old.hasher
 
--- What a call gave and where the feed then stands is what there is next, want of memory and failed
+-- What a call gave and where the feed then stands is what there is next, being out of memory and failed
 -- reads aside.
 abbrev pub Gives : FeedState → FeedState → Result (Option ChainBlock) FeedFault → Result (Option (ChainBlock × ℕ)) FeedFault → Type 0
 Gives old new (Ok None) next = next ≡ Ok None
 Gives old new (Ok (Some block)) next = next ≡ Ok (Some (block, new.place))
 Gives old new (Err e) next = e ≢ Memory → e ≢ Read → next ≡ Err e
 
--- What a call found, seen by view, is what reading gives, want of memory and failed reads aside.
+-- Where a call gave a block, what it read of the file, from the feed's place before the call to that after it, is bytes.
+abbrev pub TakesBytes : List ℕ → FeedState → FeedState → Result (Option ChainBlock) FeedFault → Type 0
+TakesBytes file old new result = IfOk result (λ o. IfSome o (λ _. IsBytes (take (new.place - old.place) (seen_from file old.place))))
+
+-- What a call found, seen by view, is what reading gives, being out of memory and failed reads aside.
 abbrev pub Finds : {X Y : Type 0} → (X → Y) → Result X FeedFault → Result Y FeedFault → Type 0
 Finds view (Ok x) read = read ≡ Ok (view x)
 Finds view (Err e) read = e ≢ Memory → e ≢ Read → read ≡ Err e
@@ -69,6 +74,16 @@ Moves old new (Ok (Some block)) = (block.height ≡ height_after old.height) × 
 Moves old new (Ok None) = StaysAt old new
 Moves old new (Err e) = StaysAt old new × (new.digest ≡ old.digest)
 
+-- What a call comes to: it gives what there is next, and the feed stands behind it.
+pub record IsGiven (file : List ℕ) (old new : FeedState) (result : Result (Option ChainBlock) FeedFault) : Type 0 where
+  pub exact : Gives old new result (next_of file old)
+  pub bytes : TakesBytes file old new result
+  pub moves : Moves old new result
+
+-- this holds of each call, by the file, where the feed stands before it and after it, and what it gives
+abbrev pub OfEachCall : (List ℕ → FeedState → FeedState → Result (Option ChainBlock) FeedFault → Type 0) → Type 0
+OfEachCall holds = (file : List ℕ) (old new : FeedState) (result : Result (Option ChainBlock) FeedFault) → IsGiven file old new result → holds file old new result
+
 -- What a call takes into the digest: with a block the bytes of its record, which stand between the feed's
 -- places before and after the call; at the file's end all that is left, and the digest is then there.
 abbrev pub Digests : List ℕ → FeedState → FeedState → Result (Option ChainBlock) FeedFault → Type 0
@@ -76,7 +91,7 @@ Digests file old new (Ok (Some block)) = (bytes : List ℕ) → HasTaken old.has
 Digests file old new (Ok None) = (bytes : List ℕ) → HasTaken old.hasher bytes → IsDigest old.hasher (bytes ++ drop old.place file) new.digest
 Digests file old new (Err e) = Unit {0}
 
--- want of memory or a failed read
+-- being out of memory or a failed read
 abbrev pub IsOutside : FeedFault → Type 0
 IsOutside fault = (fault ≡ Memory) ⊎ (fault ≡ Read)
 

@@ -1,14 +1,13 @@
 //! The feed of linked blocks.
 
-ghost use Rattle.std.specs.Prelude.{ℕ, ◌≡◌, ◌≢◌, ◌+◌, ◌-◌, ◌≤◌, ◌<◌, [], ◌++◌, length, drop, take, nat_lt, option_map, List, Some, None, Ok, Err, IfOk, IfErr, IfSome, IfNone, is_some, IsSome, IsErrOf, MatchOption, MatchResult};
+ghost use Rattle.std.specs.Prelude.{ℕ, ◌≡◌, ◌≢◌, ◌≤◌, ◌<◌, [], ◌++◌, length, take, nat_lt, option_map, List, Some, None, Ok, Err, IfOk, IfErr, IfSome, IfNone, is_some, IsSome, IsErrOf};
 ghost use Rattle.fund_shelf.specs.Causes.{ReadsOne};
 ghost use Rattle.fund_base.specs.Writer.{Feeds};
-ghost use Rattle.block_feed.specs.Block.{ChainBlock, IsLinked, Begins, height_after};
-ghost use Rattle.block_feed.specs.BlockFile.{IsBlockFile};
+ghost use Rattle.block_feed.specs.Block.{IsLinked, height_after};
 ghost use Rattle.block_feed.specs.Digest.{HasTaken, IsDigest};
-ghost use Rattle.block_feed.specs.Feed.{IsOutside, IsEnd, StandsBefore, IsFirst, next_in, next_of, seen_from, Finds, Gives, Moves, Digests};
+ghost use Rattle.block_feed.specs.Feed.{next_in, next_of, seen_from, Finds, Gives, Moves, Digests, TakesBytes};
 ghost use Rattle.block_feed.specs.Parts.{IsNextAt, IsPast, behind_record};
-ghost use Rattle.block_feed.specs.declared.fault.FeedFault.TheVariants.{Tx, Read, Limit, Memory};
+ghost use Rattle.block_feed.specs.declared.fault.FeedFault.TheVariants.{Tx, Read, Memory};
 ghost use Rattle.tx_codec.specs.declared.fault.TxFault.TheVariants.{Memory as NoMemory};
 
 use crate::block::Block;
@@ -58,7 +57,7 @@ fn height_after(height: u32) -> u32
     height.saturating_add(1).min(MAX_HEIGHT)
 }
 
-/// What stays of a fault: the fault itself, unless it is want of memory or a failed read.
+/// What stays of a fault: the fault itself, unless it is being out of memory or a failed read.
 fn lasting(fault: FeedFault) -> Option<FeedFault>
     ensures kept { fault ≢ Memory → fault ≢ Read → result ≡ Some fault }
     ensures memory { fault ≡ Memory → result ≡ None }
@@ -214,16 +213,10 @@ impl Feed {
         shelf: &mut H,
         name: &str,
     ) -> Result<Option<Block>, FeedFault>
-        // The blocks that are given, in order, are those of the file, and each block of the file is given,
-        // memory and failed reads aside.
-        ensures before { H.tells → self.old.fault ≡ None → IfOk result (λ o. StandsBefore ((H.view shelf.old).files name.now) self.old self.new o) }
-        ensures first { H.tells → self.old.fault ≡ None → let file = (H.view shelf.old).files name.now in (blocks : List ChainBlock) → IsBlockFile self.old.hash self.old.height blocks (drop self.old.place file) → length file ≤ 1_073_741_824 → MatchResult result (λ o. IsFirst file self.new blocks o) IsOutside }
-
-        // What is given is the block that the file holds there, and each block there is given, memory and
-        // failed reads aside; and so is its end.
-        ensures found { H.tells → self.old.fault ≡ None → let file = (H.view shelf.old).files name.now in IfOk result (λ o. MatchOption o (IsEnd file self.old.place) (λ block. Begins self.old.hash self.old.height block (drop self.old.place file) (drop self.new.place file))) }
-        ensures only { H.tells → self.old.fault ≡ None → let file = (H.view shelf.old).files name.now in (block : ChainBlock) (rest : List ℕ) → Begins self.old.hash self.old.height block (drop self.old.place file) rest → length file ≤ 1_073_741_824 + length rest → MatchResult result (λ o. (o ≡ Some block) × (drop self.new.place file ≡ rest)) IsOutside }
-        ensures end { H.tells → self.old.fault ≡ None → IsEnd ((H.view shelf.old).files name.now) self.old.place → MatchResult result (λ o. o ≡ None) IsOutside }
+        // What is given is what the file holds there, memory and failed reads aside: a block, its end, or a fault, each exactly
+        // where `judges_records` says so. What that is to the blocks of the file, `gives_blocks` says.
+        ensures exact { H.tells → self.old.fault ≡ None → Gives self.old self.new result (next_of ((H.view shelf.old).files name.now) self.old) }
+        ensures bytes { H.tells → TakesBytes ((H.view shelf.old).files name.now) self.old self.new result }
 
         // A block lies within the file, and takes bytes of it.
         ensures within { H.tells → self.old.fault ≡ None → IfOk result (λ o. IfSome o (λ _. (self.old.place < self.new.place) × (self.new.place ≤ length ((H.view shelf.old).files name.now)))) }
@@ -233,9 +226,7 @@ impl Feed {
         ensures moves { Moves self.old self.new result }
         ensures linked { IfOk result (λ o. IfSome o (λ block. IsLinked self.old.hash (height_after self.old.height) block)) }
 
-        // Which fault it is, and what it leaves.
-        ensures exact { H.tells → self.old.fault ≡ None → Gives self.old self.new result (next_of ((H.view shelf.old).files name.now) self.old) }
-        ensures limit { H.tells → self.old.fault ≡ None → result ≡ Err Limit → 1_073_741_824 < length ((H.view shelf.old).files name.now) }
+        // What a fault leaves.
         ensures again { IfSome self.old.fault (λ fault. (result ≡ Err fault) × (self.new ≡ self.old)) }
         ensures fine { IfOk result (λ _. self.new.fault ≡ None) }
         ensures kept { IfErr result (λ e. e ≢ Memory → e ≢ Read → self.new.fault ≡ Some e) }

@@ -16,4 +16,4 @@ mod tail;
 pub use block::Block;
 pub use fault::FeedFault;
 pub use feed::Feed;
-pub use laws::{blocks_are, digests_files, judges_records};
+pub use laws::{blocks_are, digests_files, gives_blocks, judges_records};

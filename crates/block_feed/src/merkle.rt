@@ -60,7 +60,7 @@ fn first_hash(level: &[[u8; 32]]) -> [u8; 32]
     }
 }
 
-/// The Merkle root of hashes, and whether their tree is mutated. The error is want of memory.
+/// The Merkle root of hashes, and whether their tree is mutated. The error is out of memory.
 #[tactic(auto, using(crate::proofs::Trees::same_none, crate::proofs::Trees::same_more, crate::proofs::Trees::same_all, crate::proofs::Trees::shorter))]
 pub fn tree_of(alloc: Global, hashes: Vec<[u8; 32]>) -> Result<Tree, AllocError>
     ensures root { IfOk result (λ m. m.root ≡ merkle_root hashes.items) }

@@ -7,14 +7,11 @@ ghost use Rattle.block_feed.specs.Feed.{seen_from};
 ghost use Rattle.fund_shelf.specs.Causes.{ReadsOne};
 ghost use Rattle.block_feed.specs.Parts.{IsFirstPart};
 
-use fund_shelf::{Fault, Shelf};
+use fund_shelf::{Fault, PIECE, Shelf};
 use std::alloc::{AllocError, Global};
 
 /// How many bytes of a block file are read at most.
 const MOST: usize = 1_073_741_824;
-
-/// How many bytes one read asks for at most.
-const PIECE: usize = 131_072;
 
 // Room for a piece of so many bytes, or for one.
 fn room(alloc: Global, size: usize) -> Result<Vec<u8>, AllocError>

@@ -2,7 +2,7 @@
 
 ghost use Rattle.std.specs.Prelude.{◌≡◌, ◌≢◌, ◌+◌, ◌≤◌, ◌==◌, ℕ, bytes_eq, length, not, take, drop, map, if◌then◌else◌, IfOk, IsOkAnd, Err, None, Some};
 ghost use Rattle.fund_base.specs.Cursor.{IsBytes, after, compact_at};
-ghost use Rattle.fund_base.specs.Parsing.{Yields, YieldsAll, fault_as, many_at};
+ghost use Rattle.fund_base.specs.Parsing.{Yields, YieldsAll, many_at};
 ghost use Rattle.tx_codec.specs.Reading.{tx_at};
 ghost use Rattle.tx_codec.specs.Txid.{txid_of};
 ghost use Rattle.tx_codec.specs.declared.fault.TxFault.TheVariants.{Memory as NoMemory};

@@ -1,4 +1,4 @@
-//! Want of memory, the one answer that no rule ties to a cause.
+//! Being out of memory, the one answer that no rule ties to a cause.
 
 use std::alloc::{AllocError, AllocFailed};
 

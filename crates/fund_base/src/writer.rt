@@ -23,7 +23,7 @@ pub trait Writer {
         ensures { OnOk result (Feeds holds self.old self.new bytes.now) };
 }
 
-/// Keeps the bytes. The error is want of memory.
+/// Keeps the bytes. The error is out of memory.
 impl Writer for Vec<u8> {
     type Error = AllocError;
 

@@ -75,7 +75,7 @@ frame_passed told name a b e f (Ok y) out frame = absurd out
 frame_passed {E = E} told name a b e f (Err d) out frame =
     frame_as told _ _ name a b (λ is. ap (λ (x : E). Err x) (sym out ∙ ap (fault_in e) is)) (λ is. ap (λ (x : E). Err x) (out ∙ ap (fault_in e) is)) frame
 
--- want of memory is no failed read
+-- being out of memory is no failed read
 pub memory_not : {X : Type 0} (r : Result X Fault) → IsErrAnd r (λ d. d ≡ shelf.Memory) → r ≡ Err shelf.Failed → ⊥
 memory_not (Ok x) out is = absurd out
 memory_not (Err d) out is =
@@ -115,6 +115,6 @@ frame_whole told name a b shelf.Memory (Err d) out frame =
 pub long_not : {X : Type 0} → IsErrOf {T = X} (Err reads.TooLong) reads.Failed → ⊥
 long_not is = absurd cc
 
--- and want of memory is no failed read
+-- and being out of memory is no failed read
 pub short_not : {X : Type 0} → IsErrOf {T = X} (Err shelf.Memory) shelf.Failed → ⊥
 short_not is = absurd cc

@@ -19,7 +19,7 @@ pub use failures::Failures;
 pub use file_shelf::FileShelf;
 pub use mem_shelf::MemShelf;
 pub use mem_sink::MemSink;
-pub use pieces::{Front, ReadError, put_all, read_front, read_whole};
+pub use pieces::{Front, PIECE, ReadError, put_all, read_front, read_whole};
 pub use shelf::{Fault, Shelf};
 pub use sink::Sink;
 pub use std_sink::StdSink;

@@ -100,7 +100,7 @@ impl Shelf for MemShelf {
         ensures asked { Asks (name.now ∷ []) (view_of self.old).asked (view_of self.new).asked }
         ensures once { result ≢ Err Fault.Memory → (view_of self.new).asked ≡ (view_of self.old).asked ++ name.now ∷ [] }
 
-        // Want of memory may take the place of a failure that is due.
+        // Being out of memory may take the place of a failure that is due.
         ensures failed { IsErrOf result Fault.Failed → IsTrue (read_fails self.old name.now) }
         ensures answered { OnOk result (IsFalse (read_fails self.old name.now)) }
         ensures read_plan { read_plan self.new ≡ after_call (read_plan self.old) }
@@ -130,7 +130,7 @@ impl Shelf for MemShelf {
         ensures alone { (other : List ℕ) → other ≢ name.now → (view_of self.new).writes other ≡ (view_of self.old).writes other }
         ensures asked { (view_of self.new).asked ≡ (view_of self.old).asked }
 
-        // Want of memory may take the place of a failure that is due.
+        // Being out of memory may take the place of a failure that is due.
         ensures failed { IsErrOf result Fault.Failed → IsTrue (is_due (write_plan self.old)) }
         ensures answered { OnOk result (IsFalse (is_due (write_plan self.old))) }
         ensures kept { OnErr result ((view_of self.new).files ≡ (view_of self.old).files) }

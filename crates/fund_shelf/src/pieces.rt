@@ -9,7 +9,7 @@ use crate::sink::Sink;
 use std::alloc::{AllocError, Global};
 
 /// How many bytes one read asks for.
-const PIECE: usize = 131_072;
+pub const PIECE: usize = 131_072;
 
 /// Why a whole file was not read.
 #[derive(Clone, Copy, PartialEq, Eq)]

@@ -7,7 +7,7 @@ use crate::shelf::Fault;
 use std::io;
 
 /// An answer of the system, told to whoever asked: what it gave is given, and whatever its error is, it is a failure,
-/// which is counted. It is never told as want of memory.
+/// which is counted. It is never told as out of memory.
 pub(crate) fn told<T: Drop>(answer: io::Result<T>, failures: &mut u64) -> Result<T, Fault>
     // What the system gave is given, and nothing is counted.
     ensures given { IfOk answer (λ given. result ≡ Ok given) }
@@ -15,7 +15,7 @@ pub(crate) fn told<T: Drop>(answer: io::Result<T>, failures: &mut u64) -> Result
     // An error is a failure, and the count is one more.
     ensures failed { OnErr answer (result ≡ Err Fault.Failed) }
     ensures counted { OnErr answer (failures.new ≡ one_more failures.old) }
-    // So the count never falls, it stays exactly where something is given, and want of memory isn't told.
+    // So the count never falls, it stays exactly where something is given, and being out of memory isn't told.
     ensures grows { failures.old ≤ failures.new }
     ensures cause { IsErrOf result Fault.Failed → Rose failures.old failures.new }
     ensures one_more { IsErrOf result Fault.Failed → failures.new ≡ one_more failures.old }

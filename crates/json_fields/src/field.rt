@@ -1,6 +1,6 @@
 //! Values of one kind: numbers, flags, texts, hashes, coins and lists. None of them takes memory.
 
-ghost use Rattle.std.specs.Prelude.{◌≡◌, ◌≢◌, ◌≤◌, ℕ, IfOk, IfSome, Err};
+ghost use Rattle.std.specs.Prelude.{◌≡◌, ◌≢◌, ◌≤◌, IfOk, IfSome, Err};
 ghost use Rattle.serde_json.specs.View.{view, items_view};
 ghost use Rattle.json_fields.specs.Fields.{number_at, flag_at, text_at, entries_at, hash_in, hash_at, point_in, coin_in, coin_at, IsHash, IsPoint};
 ghost use Rattle.json_fields.specs.Memory.{Exactly};

@@ -71,7 +71,7 @@ impl<'a> HexText<'a> {
         self.text.len() / 2
     }
 
-    /// The bytes. Since the text spells them, no error but want of memory is left.
+    /// The bytes. Since the text spells them, no error but being out of memory is left.
     pub fn bytes(&self, alloc: Global) -> Result<Vec<u8>, Memory>
         ensures { IfOk result (λ v. v.items ≡ self.now) }
     {

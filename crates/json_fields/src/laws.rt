@@ -1,6 +1,6 @@
 //! What the definitions of reading come to, in words that don't follow the reading.
 
-ghost use Rattle.std.specs.Prelude.{◌≡◌, ◌≢◌, ◌<◌, ◌≤◌, ◌*◌, ◌%◌, ℕ, List, [], reverse, length, slice_index, Result, Ok, Err, option_and_then};
+ghost use Rattle.std.specs.Prelude.{◌≡◌, ◌≢◌, ◌<◌, ◌≤◌, ◌%◌, ℕ, List, [], reverse, length, slice_index, Result, Ok, Err, option_and_then};
 ghost use Rattle.std.specs.List.{AllPass};
 ghost use Rattle.hex.specs.Hex.{encode_lower, encode_upper, is_hex_digit};
 ghost use Rattle.json.specs.Json as json;

@@ -13,7 +13,7 @@ use Rattle.keep_sqlite.specs.Saving.{IsAsBefore, IsRun, MakesTables, Saves, Stay
 use Rattle.keep_sqlite.specs.Tables.{AreMadeBy, job_text, part_text}
 use Rattle.sqlite.specs.declared.types.Value.TheVariants.{Blob, Int, Text}
 use Rattle.fund_outside.specs.declared.keeper.KeepFault.{KeepFault}
-use Rattle.keep_sqlite.specs.Told.{told_answer}
+use Rattle.keep_sqlite.specs.Reported.{reported_answer}
 use Rattle.std.specs.Prelude.{pos}
 
 module _ (old new : State) (inside : IsTrue old.in_transaction) where
@@ -81,7 +81,7 @@ pub done_inside : {S : Type 0} (g : Ghosts S) {T U : Type 0} (a b : Held S) (giv
 done_inside g a b given done one = record { kept = one.kept; inside = one.inside; survives = one.survives }
 
 -- an answer that is told fails where it failed
-pub told_err : {T : Type 0} (P : Type 0) (answer : Result T Error) (result : Result T KeepFault) → result ≡ told_answer answer → OnErr answer P → OnErr result P
+pub told_err : {T : Type 0} (P : Type 0) (answer : Result T Error) (result : Result T KeepFault) → result ≡ reported_answer answer → OnErr answer P → OnErr result P
 told_err P (Ok given) result is p = rw is tt
 told_err P (Err error) result is p = rw is p
 
@@ -123,7 +123,7 @@ pub no_ok : {T : Type 0} (P : Type 0) (fault : KeepFault) (result : Result T Kee
 no_ok P fault result is = rw is tt
 
 -- what is written is told where it was done
-pub told_ok : {T : Type 0} (P : Type 0) (answer : Result T Error) (result : Result T KeepFault) → result ≡ told_answer answer → OnOk answer P → OnOk result P
+pub told_ok : {T : Type 0} (P : Type 0) (answer : Result T Error) (result : Result T KeepFault) → result ≡ reported_answer answer → OnOk answer P → OnOk result P
 told_ok P (Ok given) result is p = rw is p
 told_ok P (Err error) result is p = rw is tt
 

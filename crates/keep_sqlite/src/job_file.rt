@@ -8,7 +8,7 @@ ghost use Rattle.sqlite.specs.declared.types.Value.TheVariants.{Int, Text};
 ghost use Rattle.keep_sqlite.specs.Calls.{AnswersIn};
 ghost use Rattle.keep_sqlite.specs.JobFile.{FindsIn, IsOpened, SavesIn};
 ghost use Rattle.keep_sqlite.specs.Tables.{bytes_text, saved_text};
-ghost use Rattle.keep_sqlite.specs.Told.{Tells};
+ghost use Rattle.keep_sqlite.specs.Reported.{Reports};
 
 use crate::tables::{self, Call};
 use crate::told::told;
@@ -128,7 +128,7 @@ impl<R: Deref<Target = HostRuntime> + Drop> Keeper for SqliteKeeper<R> {
         ensures counted { IsErrOf result KeepFault.Failed → (view_of self.new).faults ≡ one_more (view_of self.old).faults }
 
         // What it tells is what the tables show, or why the file can't be opened.
-        ensures told { Tells (FindsIn over_files saved_text (Text job.now ∷ []) self.old.connection self.new.connection) result }
+        ensures told { Reports (FindsIn over_files saved_text (Text job.now ∷ []) self.old.connection self.new.connection) result }
     {
         told(
             ask(&self.rt, &mut self.connection, &Call::Load { job }),
@@ -146,7 +146,7 @@ impl<R: Deref<Target = HostRuntime> + Drop> Keeper for SqliteKeeper<R> {
         ensures counted { IsErrOf result KeepFault.Failed → (view_of self.new).faults ≡ one_more (view_of self.old).faults }
 
         // What it tells is what the tables show, or why the file can't be opened.
-        ensures told { Tells (FindsIn over_files bytes_text (Text job.now ∷ Int (pos number) ∷ []) self.old.connection self.new.connection) result }
+        ensures told { Reports (FindsIn over_files bytes_text (Text job.now ∷ Int (pos number) ∷ []) self.old.connection self.new.connection) result }
     {
         told(
             ask(&self.rt, &mut self.connection, &Call::Part { job, number }),

@@ -1,13 +1,13 @@
 //! Jobs kept in the tables of a database, over any store.
 
-ghost use Rattle.std.specs.Prelude.{◌≡◌, ◌≤◌, [], ◌∷◌, pos, None, IsErrOf, IsTrue, OnErr, OnOk};
+ghost use Rattle.std.specs.Prelude.{◌≡◌, ◌≤◌, [], ◌∷◌, pos, None, Err, IsErrOf, IsTrue, OnErr, OnOk};
 ghost use Rattle.fund_shelf.specs.Causes.{Rose, one_more};
 ghost use Rattle.sqlite.specs.Held.{state};
 ghost use Rattle.sqlite.specs.State.{HasCleanDisk};
 ghost use Rattle.sqlite.specs.declared.types.Value.TheVariants.{Int, Text};
 ghost use Rattle.keep_sqlite.specs.Saving.{IsAsBefore, Saves};
 ghost use Rattle.keep_sqlite.specs.Tables.{Finds, bytes_text, saved_text};
-ghost use Rattle.keep_sqlite.specs.Told.{Tells};
+ghost use Rattle.keep_sqlite.specs.Reported.{Reports};
 
 use crate::tables;
 use crate::told::told;
@@ -15,7 +15,7 @@ use fund_outside::{KeepFault, Keeper};
 use sqlite::{Alter, Connection};
 
 /// Jobs kept in the tables `job` and `part` of a database. It tells nothing of which jobs these are. Each call that the
-/// database refuses is counted, but for want of memory; `save` is one transaction, so that after any error, and after
+/// database refuses is counted, but for being out of memory; `save` is one transaction, so that after any error, and after
 /// a stop at any moment of it, the tables are as before or as after it. A load or a part tells what its query shows:
 /// `None` where the tables aren't made or no row is shown, and never in place of an error. That is promised while the
 /// disk returns what was written and nothing else writes the database.
@@ -29,7 +29,7 @@ impl<S: Alter + Drop> JobTables<S> {
     ghost use Rattle.keep_sqlite.specs.JobTables.{held_by, view_of};
 
     /// The jobs of an open database, without a failure so far. The tables are made by the first `save`. No clause says
-    /// what a call answers over a database of anything else, or while a transaction is open.
+    /// what a call answers over a database of anything else, or what a load or a part does while a transaction is open.
     pub fn adopt(connection: Connection<S>) -> JobTables<S>
         ensures view { view_of result ≡ record { jobs = λ _. None; faults = 0 } }
         ensures held { held_by result ≡ connection }
@@ -69,7 +69,7 @@ impl<S: Alter + Drop> Keeper for JobTables<S> {
         ensures counted { IsErrOf result KeepFault.Failed → (view_of self.new).faults ≡ one_more (view_of self.old).faults }
 
         // What it tells is what the tables show, where the disk has returned what was written.
-        ensures told { HasCleanDisk (state S.Store (held_by self.new)) → Tells (Finds S.Store saved_text (Text job.now ∷ []) (held_by self.old) (held_by self.new)) result }
+        ensures told { HasCleanDisk (state S.Store (held_by self.new)) → Reports (Finds S.Store saved_text (Text job.now ∷ []) (held_by self.old) (held_by self.new)) result }
     {
         told(tables::load(&mut self.connection, job), &mut self.faults)
     }
@@ -84,7 +84,7 @@ impl<S: Alter + Drop> Keeper for JobTables<S> {
         ensures counted { IsErrOf result KeepFault.Failed → (view_of self.new).faults ≡ one_more (view_of self.old).faults }
 
         // What it tells is what the tables show, where the disk has returned what was written.
-        ensures told { HasCleanDisk (state S.Store (held_by self.new)) → Tells (Finds S.Store bytes_text (Text job.now ∷ Int (pos number) ∷ []) (held_by self.old) (held_by self.new)) result }
+        ensures told { HasCleanDisk (state S.Store (held_by self.new)) → Reports (Finds S.Store bytes_text (Text job.now ∷ Int (pos number) ∷ []) (held_by self.old) (held_by self.new)) result }
     {
         told(
             tables::part(&mut self.connection, job, number),
@@ -103,6 +103,9 @@ impl<S: Alter + Drop> Keeper for JobTables<S> {
 
         // What a save that is done has written and committed, where the disk has returned what was written.
         ensures saved { HasCleanDisk (state S.Store (held_by self.new)) → OnOk result (Saves S.Store job.now first part.now saved.now (held_by self.old) (held_by self.new)) }
+
+        // While a transaction is open it fails, and the database stays as it is.
+        ensures open { IsTrue (held_by self.old).in_transaction → (result ≡ Err KeepFault.Failed) × (held_by self.new ≡ held_by self.old) }
 
         // After an error the database is as before, where the disk has returned what was written.
         ensures neither { HasCleanDisk (state S.Store (held_by self.new)) → IsTrue (state S.Store (held_by self.new)).is_open → OnErr result (IsAsBefore S.Store (held_by self.old) (held_by self.new)) }

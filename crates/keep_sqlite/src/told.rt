@@ -2,7 +2,7 @@
 
 ghost use Rattle.std.specs.Prelude.{◌≡◌, ◌≤◌, IsErrOf, OnOk};
 ghost use Rattle.fund_shelf.specs.Causes.{Rose, one_more};
-ghost use Rattle.keep_sqlite.specs.Told.{told_answer};
+ghost use Rattle.keep_sqlite.specs.Reported.{reported_answer};
 
 use fund_outside::KeepFault;
 use sqlite::{Error, ErrorCode};
@@ -10,7 +10,7 @@ use sqlite::{Error, ErrorCode};
 /// An answer of the database, told to whoever asked: what it gave is given, and nothing is counted. That it was out of
 /// memory is told as that and not counted; every other error is a failure, and counts once.
 pub(crate) fn told<T: Drop>(answer: Result<T, Error>, faults: &mut u64) -> Result<T, KeepFault>
-    ensures told { result ≡ told_answer answer }
+    ensures told { result ≡ reported_answer answer }
     // So the count rises by one at each failure, and at nothing else.
     ensures grows { faults.old ≤ faults.new }
     ensures cause { IsErrOf result KeepFault.Failed → Rose faults.old faults.new }

@@ -1,6 +1,6 @@
 //! Scores of selections.
 
-ghost use Rattle.std.specs.Prelude.{◌≡◌, ◌↔◌, IsTrue};
+ghost use Rattle.std.specs.Prelude.{◌↔◌, IsTrue};
 ghost use Rattle.pick_problem.specs.Score.{IsBelow, IsSame};
 
 /// How good an admissible selection is: the lower the better. Scores are compared by the first number, then by the

@@ -1,7 +1,7 @@
 //! Laws of the letters of a closing log, which may be any bytes, and of acceptance by steps. A call of any of them does
 //! nothing.
 
-ghost use Rattle.std.specs.Prelude.{◌≡◌, ◌↔◌, ◌++◌, ℕ, Bool, true, List, Option};
+ghost use Rattle.std.specs.Prelude.{◌≡◌, ◌↔◌, ◌++◌, ℕ, true, List, Option};
 ghost use Rattle.pick_problem.specs.ClosingTree.{IsAccepted, IsAnswered};
 ghost use Rattle.pick_problem.specs.Letters.{AreTaken, IsAcceptedText, StopsAt, led, letters_of, read};
 ghost use Rattle.pick_problem.specs.Problem.{PlainProblem};

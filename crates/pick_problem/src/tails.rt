@@ -2,8 +2,7 @@
 
 ghost use Rattle.std.specs.Prelude.{◌≡◌, ◌+◌, ◌<◌, ℕ, IfOk, SomeIff, drop, length, map, sum};
 ghost use Rattle.pick_problem.specs.Later.{behind_twins, is_twin, later_value, least_weight};
-ghost use Rattle.pick_problem.specs.Pool.{item_at};
-ghost use Rattle.pick_problem.specs.Problem.{IsProblem, PlainProblem};
+ghost use Rattle.pick_problem.specs.Problem.{PlainProblem};
 ghost use Rattle.pick_problem.specs.Tails.{AreTails, IsLeastFrom, IsRunEnd, IsTail, tail_at};
 
 use crate::item::{Item, Kind};

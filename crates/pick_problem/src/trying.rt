@@ -1,6 +1,6 @@
 //! The best selection of a small problem, found by trying each.
 
-ghost use Rattle.std.specs.Prelude.{◌≡◌, ◌≤◌, ◌<◌, ◌^◌, ◌↔◌, IsTrue, IfOk, List, ℕ, length};
+ghost use Rattle.std.specs.Prelude.{◌≡◌, ◌≤◌, ◌<◌, ◌↔◌, IsTrue, IfOk, List, ℕ, length};
 ghost use Rattle.pick_problem.specs.Admissible.{IsAdmissible, IsFit};
 ghost use Rattle.pick_problem.specs.Best.{IsBest, IsBetter};
 ghost use Rattle.pick_problem.specs.Problem.{Rising};

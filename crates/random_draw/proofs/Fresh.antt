@@ -11,7 +11,7 @@ use Rattle.pick_problem.specs.declared.item.Kind.TheVariants.{Lean}
 use Rattle.pick_problem.proofs.RisingLaws.{Rising-earlier}
 use Rattle.pick_problem.proofs.Deciding.{if_cases, if_true, if_false}
 use Rattle.random_draw.specs.Draw.{with_place, without, first_dropped, one_less, trimmed, kept_with, found_from}
-use Rattle.random_draw.specs.Kept.{AreFresh, times}
+use Rattle.random_draw.specs.KeptPlaces.{AreFresh, times}
 use Rattle.random_draw.proofs.Sorting.{place_first, place_later, sum_by-with_place}
 use Rattle.random_draw.proofs.Trimming.{one_less_last, rising_front, trimmed_light, trimmed_heavy}
 

@@ -12,7 +12,7 @@ use Rattle.pick_problem.specs.Pool.{IsItem, no_item, item_at}
 use Rattle.pick_problem.specs.Problem.{PlainProblem, IsProblem, Rising, value_of, weight_of}
 use Rattle.pick_problem.proofs.SumLaws.{item_is, value-append, weight-append, places_few}
 use Rattle.random_draw.specs.Draw.{with_place, one_less, trimmed}
-use Rattle.random_draw.specs.Kept.{AreFresh, IsKept, places_of, sorted_up}
+use Rattle.random_draw.specs.KeptPlaces.{AreFresh, AreKeptPlaces, places_of, sorted_up}
 use Rattle.random_draw.specs.declared.kept.Kept.{Kept}
 use Rattle.random_draw.proofs.Sorting.{popped, sorted_up-permutation}
 use Rattle.random_draw.proofs.Trimming.{one_less_last, rising_last, rising_front, trimmed_heavy, value_most, weight_most, value-with_place, weight-with_place}
@@ -23,7 +23,7 @@ pub record AreSmall (kept : Kept) : Type 0 where
   pub value : kept.value ≤ 2_100_000_000_000_000_000_000
   pub weight : kept.weight ≤ 400_000_000_000
 
-pub small : (p : PlainProblem) (kept : Kept) → IsProblem p → IsKept p kept → AreSmall kept
+pub small : (p : PlainProblem) (kept : Kept) → IsProblem p → AreKeptPlaces p kept → AreSmall kept
 small p kept is so =
     let few : length (places_of kept) ≤ length p.items = places_few (length p.items) (places_of kept) so.rising in
     record {
@@ -40,7 +40,7 @@ pub item_small : (p : PlainProblem) (items : List Item) (j : ℕ) {kept : List �
 item_small p items j is same fresh = rw (at_place p items j same) (item_is p j is (All-head (λ k. k < length p.items) j [] fresh.below))
 
 -- a place is added
-pub joins : (p : PlainProblem) (kept : Kept) (heap : BinaryHeap ℕ Global) (items : List Item) (j x y : ℕ) → IsKept p kept → AreFresh p (places_of kept) (j ∷ []) → items ≡ p.items → IsHeap nat_cmp (heap_items heap) → IsPermutation (j ∷ heap_items kept.heap) (heap_items heap) → x ≡ (get_or items j no_item).value → y ≡ (get_or items j no_item).weight → IsKept p (record { heap = heap; value = kept.value + x; weight = kept.weight + y })
+pub joins : (p : PlainProblem) (kept : Kept) (heap : BinaryHeap ℕ Global) (items : List Item) (j x y : ℕ) → AreKeptPlaces p kept → AreFresh p (places_of kept) (j ∷ []) → items ≡ p.items → IsHeap nat_cmp (heap_items heap) → IsPermutation (j ∷ heap_items kept.heap) (heap_items heap) → x ≡ (get_or items j no_item).value → y ≡ (get_or items j no_item).weight → AreKeptPlaces p (record { heap = heap; value = kept.value + x; weight = kept.weight + y })
 joins p kept heap items j x y so fresh same heaped moved xe ye =
     let places : sorted_up (heap_items heap) ≡ with_place j (places_of kept) = sorted_up-permutation (j ∷ heap_items kept.heap) (heap_items heap) moved in
     let item : get_or items j no_item ≡ item_at p.items j = at_place p items j same in
@@ -58,9 +58,9 @@ pub record IsDropped (p : PlainProblem) (kept : Kept) (heap : BinaryHeap ℕ Glo
   pub weight : y ≤ kept.weight
   pub places : sorted_up (heap_items heap) ≡ one_less p (places_of kept)
   pub fewer : length (sorted_up (heap_items heap)) + 1 ≡ length (places_of kept)
-  pub remains : IsKept p (record { heap = heap; value = kept.value - x; weight = kept.weight - y })
+  pub remains : AreKeptPlaces p (record { heap = heap; value = kept.value - x; weight = kept.weight - y })
 
-pub leaves : (p : PlainProblem) (kept : Kept) (heap : BinaryHeap ℕ Global) (items : List Item) (j x y : ℕ) → IsProblem p → IsKept p kept → items ≡ p.items → IsHeap nat_cmp (heap_items heap) → IsPermutation (heap_items kept.heap) (j ∷ heap_items heap) → IsUpperBound nat_cmp j (heap_items heap) → x ≡ (get_or items j no_item).value → y ≡ (get_or items j no_item).weight → IsDropped p kept heap j x y
+pub leaves : (p : PlainProblem) (kept : Kept) (heap : BinaryHeap ℕ Global) (items : List Item) (j x y : ℕ) → IsProblem p → AreKeptPlaces p kept → items ≡ p.items → IsHeap nat_cmp (heap_items heap) → IsPermutation (heap_items kept.heap) (j ∷ heap_items heap) → IsUpperBound nat_cmp j (heap_items heap) → x ≡ (get_or items j no_item).value → y ≡ (get_or items j no_item).weight → IsDropped p kept heap j x y
 leaves p kept heap items j x y is so same heaped moved top xe ye =
     let rest : List ℕ = sorted_up (heap_items heap) in
     let parts : places_of kept ≡ rest ++ j ∷ [] = popped (heap_items kept.heap) (heap_items heap) j moved top in

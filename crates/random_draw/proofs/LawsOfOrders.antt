@@ -8,7 +8,7 @@ use Rattle.std.proofs.lemmas.List.Edits.{length-swap, swap_is}
 use Rattle.std.proofs.lemmas.List.FromFn.{length-range_with_len, get_or-range_with_len}
 use Rattle.std.proofs.Math.ListN.{set, length-set}
 use Rattle.random_draw.specs.Order.{word, shuffled_from, order_of}
-use Rattle.random_draw.specs.Kept.{times}
+use Rattle.random_draw.specs.KeptPlaces.{times}
 use Rattle.random_draw.proofs.OrderLaws.{once_each, none_above, times-order}
 
 pub stands_once : (seed : List ℕ) (n j : ℕ) → j < n → times j (order_of seed n) ≡ 1

@@ -13,7 +13,7 @@ use Rattle.std.proofs.lemmas.List.Sorted.{IsPermutation-refl, IsPermutation-swap
 use Rattle.rand_chacha.specs.ChaCha.{ChaCha, key_of, next_word}
 use Rattle.pick_problem.specs.Problem.{PlainProblem}
 use Rattle.random_draw.specs.Order.{word, shuffled_from, order_of}
-use Rattle.random_draw.specs.Kept.{AreFresh, times}
+use Rattle.random_draw.specs.KeptPlaces.{AreFresh, times}
 
 -- the state of the words of a seed once so many are used
 abbrev pub words_at : List ℕ → ℕ → ChaCha

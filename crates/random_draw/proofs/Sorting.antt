@@ -11,7 +11,7 @@ use Rattle.std.proofs.lemmas.List.Sums.{sum_by-cons}
 use Rattle.std.proofs.lemmas.List.Sorted.{sum_by-IsPermutation, IsNonDecreasingBy-from_sort}
 use Rattle.pick_problem.proofs.Deciding.{if_true, if_false}
 use Rattle.random_draw.specs.Draw.{with_place}
-use Rattle.random_draw.specs.Kept.{sorted_up}
+use Rattle.random_draw.specs.KeptPlaces.{sorted_up}
 
 pub place_first : (j k : ℕ) (ks : List ℕ) → j < k → with_place j (k ∷ ks) ≡ j ∷ k ∷ ks
 unfolding with_place

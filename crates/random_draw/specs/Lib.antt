@@ -1,4 +1,4 @@
 pub mod Draw
-pub mod Kept
+pub mod KeptPlaces
 pub mod Laws
 pub mod Order

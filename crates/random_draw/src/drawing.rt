@@ -3,7 +3,7 @@
 ghost use Rattle.std.specs.Prelude.{◌≡◌, [], IfOk};
 ghost use Rattle.pick_problem.specs.Admissible.{IsFit};
 ghost use Rattle.random_draw.specs.Draw.{draw_of, found_from};
-ghost use Rattle.random_draw.specs.Kept.{AreFresh};
+ghost use Rattle.random_draw.specs.KeptPlaces.{AreFresh};
 
 use crate::kept::Kept;
 use crate::shuffling::order;

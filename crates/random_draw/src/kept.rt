@@ -1,6 +1,6 @@
 //! The places that a running draw keeps.
 
-ghost use Rattle.std.specs.Prelude.{◌≡◌, ◌+◌, ◌<◌, ◌≤◌, ◌∷◌, [], IfOk, OnOk, length};
+ghost use Rattle.std.specs.Prelude.{◌≡◌, ◌+◌, ◌<◌, ◌∷◌, [], OnOk, length};
 ghost use Rattle.pick_problem.specs.Problem.{PlainProblem};
 ghost use Rattle.random_draw.specs.Draw.{kept_with, one_less, trimmed, with_place};
 
@@ -19,12 +19,12 @@ pub(crate) struct Kept {
 }
 
 impl Kept {
-    ghost use Rattle.random_draw.specs.Kept.{AreFresh, IsKept, places_of, sorted_up};
+    ghost use Rattle.random_draw.specs.KeptPlaces.{AreFresh, AreKeptPlaces, places_of};
 
     /// None.
     pub(crate) fn new(alloc: Global) -> Kept
         ensures places { places_of result ≡ [] }
-        ensures kept { (p : PlainProblem) → IsKept p result }
+        ensures kept { (p : PlainProblem) → AreKeptPlaces p result }
     {
         Kept {
             heap: BinaryHeap::new(alloc),
@@ -42,7 +42,7 @@ impl Kept {
 
     /// The places, rising.
     pub(crate) fn into_places(self, problem: &Problem) -> Places
-        requires { IsKept problem.now self }
+        requires { AreKeptPlaces problem.now self }
         ensures { result ≡ places_of self }
     {
         Places::new(self.heap.into_sorted_vec())
@@ -50,10 +50,10 @@ impl Kept {
 
     /// One place more, which isn't kept yet.
     fn push(&mut self, problem: &Problem, place: u32) -> Result<(), Memory>
-        requires kept { IsKept problem.now self.old }
+        requires kept { AreKeptPlaces problem.now self.old }
         requires fresh { AreFresh problem.now (places_of self.old) (place ∷ []) }
         ensures places { OnOk result (places_of self.new ≡ with_place place (places_of self.old)) }
-        ensures kept { OnOk result (IsKept problem.now self.new) }
+        ensures kept { OnOk result (AreKeptPlaces problem.now self.new) }
     {
         let item = &problem.items()[place as usize];
         self.heap.push(place)?;
@@ -64,11 +64,11 @@ impl Kept {
 
     /// Drops the least valuable place, on a tie the greater one.
     fn drop_one(&mut self, problem: &Problem)
-        requires kept { IsKept problem.now self.old }
+        requires kept { AreKeptPlaces problem.now self.old }
         requires some { 0 < self.old.weight }
         ensures places { places_of self.new ≡ one_less problem.now (places_of self.old) }
         ensures fewer { length (places_of self.new) + 1 ≡ length (places_of self.old) }
-        ensures kept { IsKept problem.now self.new }
+        ensures kept { AreKeptPlaces problem.now self.new }
     {
         if let Some(place) = self.heap.pop() {
             let item = &problem.items()[place as usize];
@@ -79,9 +79,9 @@ impl Kept {
 
     /// Drops the least valuable place while they weigh more than the problem's limit.
     fn trim(&mut self, problem: &Problem)
-        requires { IsKept problem.now self.old }
+        requires { AreKeptPlaces problem.now self.old }
         ensures places { places_of self.new ≡ trimmed problem.now (length (places_of self.old)) (places_of self.old) }
-        ensures kept { IsKept problem.now self.new }
+        ensures kept { AreKeptPlaces problem.now self.new }
     {
         let limit = problem.most_weight();
         while self.weight > limit {
@@ -92,10 +92,10 @@ impl Kept {
     /// Adds a place, which isn't kept yet, and drops the least valuable one while they weigh more than the problem's
     /// limit.
     pub(crate) fn add(&mut self, problem: &Problem, place: u32) -> Result<(), Memory>
-        requires kept { IsKept problem.now self.old }
+        requires kept { AreKeptPlaces problem.now self.old }
         requires fresh { AreFresh problem.now (places_of self.old) (place ∷ []) }
         ensures places { OnOk result (places_of self.new ≡ kept_with problem.now (places_of self.old) place) }
-        ensures kept { OnOk result (IsKept problem.now self.new) }
+        ensures kept { OnOk result (AreKeptPlaces problem.now self.new) }
     {
         self.push(problem, place)?;
         self.trim(problem);

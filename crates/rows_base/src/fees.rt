@@ -10,7 +10,8 @@
 ghost use Rattle.fee_rates.specs.Terms.{AreRates, IsLoad};
 
 use fee_rates::{
-    Load, MAX_RATE, Rates, Terms, dust, effective, fee, input_fee, is_program, output_size, vsize,
+    MAX_RATE, PaymentLoad, Rates, Terms, dust, effective, fee, input_fee, is_program, output_size,
+    vsize,
 };
 use fund_base::{MAX_MONEY, Script};
 use row_columns::{Answer, column, number_within, script_in};
@@ -38,10 +39,10 @@ fn rates(rate: &str) -> Rates
 }
 
 /// A payment that replaces none, without presets, its change to a P2WPKH script.
-fn load(columns: &[&str]) -> Load
+fn load(columns: &[&str]) -> PaymentLoad
     ensures { IsLoad result }
 {
-    Load {
+    PaymentLoad {
         paid: number_within(column(columns, 1), MAX_MONEY),
         outputs: number_within(column(columns, 2), 1_000_000_000),
         count: number_within(column(columns, 3), 1_000_000_000),
@@ -57,10 +58,10 @@ fn load(columns: &[&str]) -> Load
 }
 
 /// The same with presets, and what a replacement pays above its fee.
-fn preset_load(columns: &[&str]) -> Load
+fn preset_load(columns: &[&str]) -> PaymentLoad
     ensures { IsLoad result }
 {
-    Load {
+    PaymentLoad {
         preset_effective: i128::from(number_within(column(columns, 5), MAX_MONEY)),
         preset_weight: number_within(column(columns, 6), MAX_INPUT),
         has_presets: true,

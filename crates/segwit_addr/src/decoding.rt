@@ -1,6 +1,6 @@
 //! Reading addresses: the script of a text, or the first fault in it.
 
-ghost use Rattle.std.specs.Prelude.{ℕ, List, ◌≡◌, ◌+◌, ◌-◌, ◌≤◌, map, length, nat_le, take, drop, Err, IfOk, IfSome, IsOk, IsTrue, MatchResult};
+ghost use Rattle.std.specs.Prelude.{ℕ, List, ◌≡◌, ◌+◌, ◌-◌, ◌≤◌, map, length, nat_le, Err, IfOk, IfSome, IsOk, IsTrue, MatchResult};
 ghost use Rattle.std.specs.Char.{to_ascii_lowercase};
 ghost use Rattle.std.specs.List.{list_any};
 ghost use Rattle.fund_base.specs.Parsing.{YieldsAll};

@@ -9,7 +9,7 @@ use Rattle.fund_base.specs.Cursor.{At, IsBytes}
 use Rattle.fund_base.specs.Parsing.{◌>>=◌, many_from}
 use Rattle.fund_base.proofs.Laws.{bind_is, Reads}
 use Rattle.fund_base.proofs.Repeat.{AllFrom}
-use Rattle.tx_laws.specs.Broken.{IsBroken, IsFirst, IsBehind}
+use Rattle.tx_laws.specs.Broken.{IsBroken, IsFirst, FollowsWhole}
 
 pub record Judged {X F E : Type 0} (Breaks : F → ℕ → List ℕ → E → Type 0) (Comes : List ℕ → F → Type 0) (at : At) (read : Result X E) : Type 0 where
   pub tells : (fault : E) → read ≡ Err fault → IsBroken Comes Breaks at.place at.rest fault
@@ -111,7 +111,7 @@ mapped Breaks C at read g j = record {
 -- ---- one part behind another
 
 abbrev pub Either : {X F : Type 0} → (List ℕ → F → Type 0) → (X → List ℕ) → (X → Type 0) → (X → List ℕ → F → Type 0) → List ℕ → F → Type 0
-Either A text Is Then front field = A front field ⊎ IsBehind text Is Then front field
+Either A text Is Then front field = A front field ⊎ FollowsWhole text Is Then front field
 
 told_behind : {X F E : Type 0} (Breaks : F → ℕ → List ℕ → E → Type 0) (A : List ℕ → F → Type 0) (text : X → List ℕ) (Is : X → Type 0) (Then : X → List ℕ → F → Type 0) (x : X) (at next : At) (fault : E) → Is x → at.rest ≡ text x ++ next.rest → next.place ≡ at.place + length (text x)
     → IsBroken (Then x) Breaks next.place next.rest fault → IsBroken (Either A text Is Then) Breaks at.place at.rest fault
@@ -128,7 +128,7 @@ told_behind Breaks A text Is Then x at next fault is parts place b = record {
 
 given_behind : {X Y F E : Type 0} (Breaks : F → ℕ → List ℕ → E → Type 0) (item : At → Result (X × At) E) (text : X → List ℕ) (Is : X → Type 0) → Reads item text Is → (Then : X → List ℕ → F → Type 0) (at : At) (f : X × At → Result Y E) → IsBytes at.rest
     → ((x : X) (next : At) → Is x → IsBytes next.rest → at.rest ≡ text x ++ next.rest → next.place ≡ at.place + length (text x) → Judged Breaks (Then x) next (f (x, next)))
-    → (front behind : List ℕ) → at.rest ≡ front ++ behind → (field : F) → IsBehind text Is Then front field → (place : ℕ) → place ≡ at.place + length front → (fault : E) → Breaks field place behind fault → (item at >>= f) ≡ Err fault
+    → (front behind : List ℕ) → at.rest ≡ front ++ behind → (field : F) → FollowsWhole text Is Then front field → (place : ℕ) → place ≡ at.place + length front → (fault : E) → Breaks field place behind fault → (item at >>= f) ≡ Err fault
 given_behind {X = X} Breaks item text Is laws Then at f fits later front behind parts field h place place_is fault breaks =
     let parted : at.rest ≡ text h.whole ++ (h.inner ++ behind) = parts ∙ ap (λ (l : List ℕ). l ++ behind) h.parts ∙ append_assoc (text h.whole) h.inner behind in
     let a = laws.again h.whole at (h.inner ++ behind) h.is parted in

@@ -21,7 +21,7 @@ use Rattle.tx_codec.specs.Fault.{cut_fault}
 use Rattle.tx_codec.specs.Reading.{cut, input_at, output_at, output_in, some_at, inputs_at, outputs_at, item_at}
 use Rattle.tx_codec.specs.TransactionText.{input_text, output_text, InputFits, OutputFits}
 use Rattle.tx_codec.proofs.PartLaws.{number32, bytes, string, StringFits, BareFits, input_reads, FitsBehind, output_reads}
-use Rattle.tx_laws.specs.Broken.{IsFirst, IsBehind}
+use Rattle.tx_laws.specs.Broken.{IsFirst, FollowsWhole}
 use Rattle.tx_laws.specs.Fields.{Field, Breaks}
 use Rattle.tx_laws.specs.Fields.Field.{Txid, Index, InputScriptSize, InputScript, Sequence, OutputCount, Value, OutputScriptSize, OutputScript, ItemSize, Item}
 use Rattle.tx_laws.specs.Order.{InputComes, OutputComes, ItemComes, IsAmong, AreInputs, sum_of, AreOutputs, InputsCome, OutputsCome}
@@ -200,7 +200,7 @@ item_judged at fits =
 -- ---- a count, and so many items
 
 abbrev pub AmongParts : {X : Type 0} → (X → List ℕ) → (List X → X → Type 0) → (List X → List ℕ → Field → Type 0) → (ℕ → Type 0) → List ℕ → Field → Type 0
-AmongParts text Fits ItemHas Is = IsBehind compact Is (λ n. IsWithin text Fits ItemHas n [])
+AmongParts text Fits ItemHas Is = FollowsWhole compact Is (λ n. IsWithin text Fits ItemHas n [])
 
 pub among_to : {X : Type 0} (text : X → List ℕ) (Fits : List X → X → Type 0) (ItemHas : List X → List ℕ → Field → Type 0) (AreWhole : List X → Type 0) (Is : ℕ → Type 0) → ((n : ℕ) → Is n → n < 2 ^ 64) → ((items : List X) → AllFrom Fits [] items → AreWhole items)
     → (front : List ℕ) (field : Field) → AmongParts text Fits ItemHas Is front field → IsAmong text AreWhole ItemHas front field

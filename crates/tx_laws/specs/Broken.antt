@@ -20,7 +20,7 @@ pub record IsFirst {F : Type 0} (first : F) (front : List ℕ) (field : F) : Typ
   pub field_is : field ≡ first
 
 -- The front begins with the text of something whole, and behind that come the fields that then come.
-pub record IsBehind {X F : Type 0} (text : X → List ℕ) (Is : X → Type 0) (Then : X → List ℕ → F → Type 0) (front : List ℕ) (field : F) : Type 0 where
+pub record FollowsWhole {X F : Type 0} (text : X → List ℕ) (Is : X → Type 0) (Then : X → List ℕ → F → Type 0) (front : List ℕ) (field : F) : Type 0 where
   pub whole : X
   pub inner : List ℕ
   pub is : Is whole

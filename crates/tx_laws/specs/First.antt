@@ -8,12 +8,12 @@ use Rattle.tx_laws.specs.Order.{TransactionComes, LegacyTransactionComes, WholeC
 
 -- The bytes, of which the first stands at this place, don't begin with a transaction: this fault has the first field that
 -- isn't as it must be.
-abbrev pub IsFaultFrom : ℕ → List ℕ → TxFault → Type 0
-IsFaultFrom place bytes fault = IsBroken TransactionComes Breaks place bytes fault
+abbrev pub IsTxFaultFrom : ℕ → List ℕ → TxFault → Type 0
+IsTxFaultFrom place bytes fault = IsBroken TransactionComes Breaks place bytes fault
 
 -- The bytes aren't a transaction, where the end counts as a field.
-abbrev pub IsFault : List ℕ → TxFault → Type 0
-IsFault bytes fault = IsBroken (WholeComes IsTransaction TransactionComes) Breaks 0 bytes fault
+abbrev pub IsTxFault : List ℕ → TxFault → Type 0
+IsTxFault bytes fault = IsBroken (WholeComes IsTransaction TransactionComes) Breaks 0 bytes fault
 
 -- They aren't one in the legacy form, where no marker is looked for.
 abbrev pub IsLegacyFault : List ℕ → TxFault → Type 0

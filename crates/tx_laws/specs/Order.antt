@@ -9,7 +9,7 @@ use Rattle.tx_codec.specs.declared.tx.TxIn.{TxIn}
 use Rattle.tx_codec.specs.declared.tx.TxOut.{TxOut}
 use Rattle.tx_codec.specs.Transaction.{Transaction}
 use Rattle.tx_codec.specs.TransactionText.{input_text, output_text, text_of, InputFits, OutputFits}
-use Rattle.tx_laws.specs.Broken.{IsBehind, IsFirst}
+use Rattle.tx_laws.specs.Broken.{FollowsWhole, IsFirst}
 use Rattle.tx_laws.specs.Fields.{Field}
 use Rattle.tx_laws.specs.Fields.Field.{Version, Opening, Flag, InputCount, Txid, Index, InputScriptSize, InputScript, Sequence, OutputCount, Value, OutputScriptSize, OutputScript, ItemCount, ItemSize, Item, SomeWitness, LockTime, End}
 
@@ -132,11 +132,11 @@ pub record AreSomeOutputs (outputs : List TxOut) : Type 0 where
 
 -- The outputs, and what comes behind them.
 abbrev pub OutputsThen : (List ℕ → Field → Type 0) → List ℕ → Field → Type 0
-OutputsThen Then front field = OutputsCome front field ⊎ IsBehind (counted output_text) AreSomeOutputs (λ outputs. Then) front field
+OutputsThen Then front field = OutputsCome front field ⊎ FollowsWhole (counted output_text) AreSomeOutputs (λ outputs. Then) front field
 
 -- The inputs, the outputs, and what comes behind them where there are so many inputs.
 abbrev pub InputsThen : Field → (ℕ → List ℕ → Field → Type 0) → List ℕ → Field → Type 0
-InputsThen count Then front field = InputsCome count front field ⊎ IsBehind (counted input_text) AreSomeInputs (λ inputs. OutputsThen (Then (length inputs))) front field
+InputsThen count Then front field = InputsCome count front field ⊎ FollowsWhole (counted input_text) AreSomeInputs (λ inputs. OutputsThen (Then (length inputs))) front field
 
 -- so many witnesses, each of them empty
 pub record AreNone (inputs : ℕ) (front : List ℕ) (field : Field) : Type 0 where
@@ -186,12 +186,12 @@ IsVersion bytes = length bytes ≡ 4
 
 -- Behind these bytes of a transaction comes this field.
 abbrev pub TransactionComes : List ℕ → Field → Type 0
-TransactionComes front field = IsFirst Version front field ⊎ IsBehind (λ (bytes : List ℕ). bytes) IsVersion (λ version. FormComes) front field
+TransactionComes front field = IsFirst Version front field ⊎ FollowsWhole (λ (bytes : List ℕ). bytes) IsVersion (λ version. FormComes) front field
 
 -- The same of one in the legacy form, where no marker is looked for.
 abbrev pub LegacyTransactionComes : List ℕ → Field → Type 0
-LegacyTransactionComes front field = IsFirst Version front field ⊎ IsBehind (λ (bytes : List ℕ). bytes) IsVersion (λ version. LegacyComes InputCount) front field
+LegacyTransactionComes front field = IsFirst Version front field ⊎ FollowsWhole (λ (bytes : List ℕ). bytes) IsVersion (λ version. LegacyComes InputCount) front field
 
 -- Behind a whole transaction comes the end.
 abbrev pub WholeComes : (Transaction → Type 0) → (List ℕ → Field → Type 0) → List ℕ → Field → Type 0
-WholeComes Is Comes front field = Comes front field ⊎ IsBehind text_of Is (λ tx. IsFirst End) front field
+WholeComes Is Comes front field = Comes front field ⊎ FollowsWhole text_of Is (λ tx. IsFirst End) front field

@@ -18,9 +18,9 @@ use Rattle.pick_problem.proofs.Deciding.{if_false, if_true, lt_yes}
 use Rattle.pick_problem.proofs.WayLaws.{fronted, pass_tokens, shift_ends}
 use Rattle.walk_engine.specs.declared.stack.Stack.{Stack}
 use Rattle.walk_engine.specs.declared.stop.Stop.{Stop}
-use Rattle.walk_engine.specs.Dropping.{OnlyDrops, dropping}
+use Rattle.walk_engine.specs.Skipping.{OnlyDrops, dropping}
 use Rattle.walk_engine.specs.Stack.{IsStack, with_place}
-use Rattle.walk_engine.specs.Ways.{HasWalked}
+use Rattle.walk_engine.specs.Transitions.{HasWalked}
 use Rattle.walk_engine.proofs.WayLaws.{lt_false, lt_true, stack_wider, walked_at, walked_front}
 
 module _ (p : PlainProblem) (t : ℕ) (reason : Reason) (old mid new : List ℕ)

@@ -17,9 +17,9 @@ use Rattle.pick_problem.proofs.WayLaws.{fronted, pass_tokens, shift_ends, upward
 use Rattle.walk_engine.specs.declared.best.Best.{Best}
 use Rattle.walk_engine.specs.declared.stack.Stack.{Stack}
 use Rattle.walk_engine.specs.Best.{plain_best}
-use Rattle.walk_engine.specs.Dropping.{OnlyDrops, dropping}
-use Rattle.walk_engine.specs.Gliding.{HasGlided, open_walk}
-use Rattle.walk_engine.specs.Search.{PlainSearch, IsKept, IsSearch, after, plain, tries_in}
+use Rattle.walk_engine.specs.Skipping.{OnlyDrops, dropping}
+use Rattle.walk_engine.specs.SkipRuns.{HasGlided, open_walk}
+use Rattle.walk_engine.specs.Search.{PlainSearch, IsSearchState, IsSearch, after, plain, tries_in}
 use Rattle.walk_engine.specs.Stack.{IsStack}
 use Rattle.walk_engine.proofs.SearchLaws.{search_stays}
 use Rattle.walk_engine.proofs.TurnLaws.{same_search, same_walk, walk_of}
@@ -97,7 +97,7 @@ glide_more p b q t u v n reason old mid new h drops e next =
 
 module _ (p : PlainProblem) (s : Stack) (next : ℕ) (best : Best) (made : ℕ) (done : Bool) (letters : List ℕ)
     (capacity kept earlier spare : ℕ) (search : IsSearch (plain p s next best made done letters kept spare))
-    (is : IsKept p s next best done letters capacity kept earlier spare) (undone : done ≡ false) (next' n : ℕ)
+    (is : IsSearchState p s next best done letters capacity kept earlier spare) (undone : done ≡ false) (next' n : ℕ)
     (letters' : List ℕ) (capacity' : ℕ) (h : HasGlided p (plain_best best) s.places.items next next' n letters letters')
     (stack : IsStack p next' s) (grows : capacity ≤ capacity') (few : n ≤ spare) where
   abbrev old : Walk
@@ -139,7 +139,7 @@ module _ (p : PlainProblem) (s : Stack) (next : ℕ) (best : Best) (made : ℕ) 
   glided_search = subst (λ (x : PlainSearch). IsSearch x) (sym glided) (search_stays
       (plain p s next best made done letters kept spare) n search)
 
-  pub glided_kept : IsKept p s next' best done letters' capacity' kept earlier (spare - n)
+  pub glided_kept : IsSearchState p s next' best done letters' capacity' kept earlier (spare - n)
   glided_kept =
       let long : length letters' ≡ length letters + length h.tokens = omega
       (arith, ap length h.letters, length-append letters (letters_of h.tokens), letters-length h.tokens) in

@@ -12,7 +12,7 @@ use Rattle.pick_problem.proofs.WayLaws.{upward_reverse}
 use Rattle.walk_engine.specs.declared.best.Best.{Best}
 use Rattle.walk_engine.specs.declared.stack.Stack.{Stack}
 use Rattle.walk_engine.specs.Best.{IsBestSoFar, plain_best}
-use Rattle.walk_engine.specs.Search.{PlainSearch, IsKept, IsSearch, IsWellFormed, plain, restored, standing, tries_in}
+use Rattle.walk_engine.specs.Search.{PlainSearch, IsSearchState, IsSearch, IsWellFormed, plain, restored, standing, tries_in}
 use Rattle.walk_engine.specs.Stack.{IsStack}
 
 take_all : (xs : List ℕ) → take (length xs) xs ≡ xs
@@ -97,7 +97,7 @@ restored_plain p q xs s best letters places best_is told =
 pub restored_kept : (p : PlainProblem) (q : Position) (xs : List ℕ) (s : Stack) (best : Best) (letters : List ℕ)
     (capacity : ℕ) → IsWellFormed p q xs → IsStack p q.next s → IsBestSoFar p best → letters ≡ xs →
     length letters + 2 * length s.places.items + 1 ≤ capacity →
-    IsKept p s q.next best q.done letters capacity (length xs) q.tries 0
+    IsSearchState p s q.next best q.done letters capacity (length xs) q.tries 0
 restored_kept p q xs s best letters capacity well stack sums told room =
     let behind : drop (length xs) letters ≡ [] = ap (drop (length xs)) told ∙ drop_all xs in
     record {

@@ -18,9 +18,9 @@ use Rattle.walk_engine.specs.declared.best.Best.{Best}
 use Rattle.walk_engine.specs.declared.stack.Stack.{Stack}
 use Rattle.walk_engine.specs.declared.stop.Stop.{Stop}
 use Rattle.walk_engine.specs.Best.{IsBestSoFar, plain_best}
-use Rattle.walk_engine.specs.Search.{PlainSearch, IsKept, IsSearch, after, if_done, plain, tries_in}
+use Rattle.walk_engine.specs.Search.{PlainSearch, IsSearchState, IsSearch, after, if_done, plain, tries_in}
 use Rattle.walk_engine.specs.Stack.{with_place}
-use Rattle.walk_engine.specs.Ways.{HasWalked}
+use Rattle.walk_engine.specs.Transitions.{HasWalked}
 use Rattle.walk_engine.proofs.SearchLaws.{search_stays}
 
 -- tries are no more than tokens, and tokens are no more than letters
@@ -87,7 +87,7 @@ same_search p before before' walk walk' spare spare' a b c = cc
 
 module _ (p : PlainProblem) (s : Stack) (next : ℕ) (best : Best) (made : ℕ) (done : Bool) (letters : List ℕ)
     (capacity kept earlier spare : ℕ) (search : IsSearch (plain p s next best made done letters kept spare))
-    (is : IsKept p s next best done letters capacity kept earlier spare) (undone : done ≡ false)
+    (is : IsSearchState p s next best done letters capacity kept earlier spare) (undone : done ≡ false)
     (some : 1 ≤ spare) where
   abbrev old : Walk
   old = (plain p s next best made done letters kept spare).walk
@@ -150,7 +150,7 @@ module _ (p : PlainProblem) (s : Stack) (next : ℕ) (best : Best) (made : ℕ) 
     turned_search = subst (λ (x : PlainSearch). IsSearch x) (sym turned) (search_stays
         (plain p s next best made done letters kept spare) 1 search)
 
-    pub turned_kept : IsKept p s' stop.next best' stop.done letters' capacity' kept earlier (spare - 1)
+    pub turned_kept : IsSearchState p s' stop.next best' stop.done letters' capacity' kept earlier (spare - 1)
     turned_kept =
         let ks : List Token = the_way.tokens in
         let tame = tame_way p (reverse s.places.items) next the_rule in

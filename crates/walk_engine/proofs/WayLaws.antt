@@ -22,7 +22,7 @@ use Rattle.pick_problem.proofs.WayLaws.{upward_reverse}
 use Rattle.walk_engine.specs.declared.stack.Stack.{Stack}
 use Rattle.walk_engine.specs.declared.stop.Stop.{Stop}
 use Rattle.walk_engine.specs.Stack.{IsStack}
-use Rattle.walk_engine.specs.Ways.{HasWalked}
+use Rattle.walk_engine.specs.Transitions.{HasWalked}
 use Rattle.walk_engine.proofs.CaseLaws.{same_lt}
 
 pub lt_true : (a b : ℕ) → a < b → nat_lt a b ≡ true

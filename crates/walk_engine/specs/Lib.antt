@@ -1,7 +1,7 @@
 pub mod Best
 pub mod Cases
-pub mod Dropping
-pub mod Gliding
 pub mod Search
+pub mod SkipRuns
+pub mod Skipping
 pub mod Stack
-pub mod Ways
+pub mod Transitions

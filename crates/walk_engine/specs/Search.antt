@@ -128,7 +128,7 @@ if_done false = 0
 
 -- the sums are those of the chosen places and of the best; there is room for the letters of the spare tries; the
 -- letters after those from before are letters of tokens; and the tries from before are counted
-pub record IsKept (p : PlainProblem) (s : Stack) (next : ℕ) (best : Best) (done : Bool) (letters : List ℕ)
+pub record IsSearchState (p : PlainProblem) (s : Stack) (next : ℕ) (best : Best) (done : Bool) (letters : List ℕ)
     (capacity kept earlier spare : ℕ) : Type 0 where
   pub stack : IsStack p next s
   pub sums : IsBestSoFar p best

@@ -5,15 +5,15 @@
 
 mod best;
 mod cases;
-mod dropping;
-mod gliding;
 mod position;
 mod prepared;
 mod restoring;
 mod search;
+mod skip_runs;
+mod skipping;
 mod stack;
 mod stop;
-mod ways;
+mod transitions;
 
 pub use position::may_stand;
 pub use search::Search;

@@ -1,8 +1,8 @@
 //! Whether a search may stand at a position.
 
-ghost use Rattle.std.specs.Prelude.{◌≡◌, ◌↔◌, ◌<◌, ◌≤◌, IsTrue, List, length, ℕ};
+ghost use Rattle.std.specs.Prelude.{◌≡◌, ◌↔◌, ◌<◌, IsTrue, List, ℕ};
 ghost use Rattle.pick_problem.specs.Admissible.{IsFit};
-ghost use Rattle.pick_problem.specs.Problem.{IsProblem, Rising};
+ghost use Rattle.pick_problem.specs.Problem.{Rising};
 ghost use Rattle.walk_engine.specs.Search.{IsWellFormed, Stands, open_at, tries_in};
 
 use fund_base::Places;

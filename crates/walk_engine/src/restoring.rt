@@ -1,14 +1,12 @@
 //! Positions of searches, and searches that go on from a position.
 
-ghost use Rattle.std.specs.Prelude.{◌≡◌, ◌↔◌, ◌+◌, ◌*◌, ◌≤◌, ℕ, Err, IfOk, None, Option, Some, length};
+ghost use Rattle.std.specs.Prelude.{◌≡◌, ◌↔◌, ◌+◌, ◌*◌, ◌≤◌, ℕ, Err, IfOk, length};
 ghost use Rattle.std.specs.Vec.{vec_capacity};
-ghost use Rattle.pick_problem.specs.Admissible.{IsFit};
 ghost use Rattle.pick_problem.specs.Letters.{letters_of};
-ghost use Rattle.pick_problem.specs.Problem.{Rising, value_of};
 ghost use Rattle.pick_problem.specs.Standing.{position_of};
 ghost use Rattle.pick_problem.specs.Walk.{walk};
 ghost use Rattle.pick_problem.specs.declared.position.RestoreFault.TheVariants as fault;
-ghost use Rattle.walk_engine.specs.Search.{IsAfter, IsSearch, IsWellFormed, restored, standing};
+ghost use Rattle.walk_engine.specs.Search.{IsAfter, IsWellFormed, restored, standing};
 
 use crate::best::Best;
 use crate::position::is_well_formed;

@@ -1,18 +1,18 @@
 //! A search: a walk with its letters.
 
-ghost use Rattle.std.specs.Prelude.{◌≡◌, ◌↔◌, ◌+◌, ◌*◌, ◌^◌, ◌<◌, ◌≤◌, ℕ, Bool, true, false, IfOk, MatchOption, None};
+ghost use Rattle.std.specs.Prelude.{◌≡◌, ◌↔◌, ◌+◌, ◌*◌, ◌^◌, ◌<◌, ◌≤◌, ℕ, true, false, IfOk, MatchOption, None};
 ghost use Rattle.std.specs.Prelude.{OnErr, OnOk, Some, length};
 ghost use Rattle.pick_problem.specs.Best.{IsBest};
-ghost use Rattle.pick_problem.specs.Letters.{IsAcceptedText, letters_of};
+ghost use Rattle.pick_problem.specs.Letters.{IsAcceptedText};
 ghost use Rattle.pick_problem.specs.Problem.{IsProblem};
-ghost use Rattle.pick_problem.specs.Walk.{IsPosition, start};
+ghost use Rattle.pick_problem.specs.Walk.{IsPosition};
 ghost use Rattle.pick_problem.specs.declared.position.Progress.TheVariants as progress;
 
 use crate::best::Best;
-use crate::gliding::glide;
 use crate::prepared::Prepared;
+use crate::skip_runs::glide;
 use crate::stack::Stack;
-use crate::ways::{begin, step};
+use crate::transitions::{begin, step};
 use fund_base::Memory;
 use pick_problem::{Problem, Progress};
 use std::alloc::Global;
@@ -57,7 +57,7 @@ impl Drop for Search {
 impl Model for Search {
     ghost use Rattle.std.specs.Prelude.{length};
     ghost use Rattle.std.specs.Vec.{vec_capacity};
-    ghost use Rattle.walk_engine.specs.Search.{IsKept, IsSearch, PlainSearch, plain};
+    ghost use Rattle.walk_engine.specs.Search.{IsSearchState, IsSearch, PlainSearch, plain};
 
     ghost Value = { PlainSearch };
 
@@ -65,7 +65,7 @@ impl Model for Search {
 
     ghost invariant = { λ s.
         IsSearch (plain s.prepared s.stack s.next s.best s.made s.done s.letters.items s.kept s.spare)
-        × IsKept s.prepared s.stack s.next s.best s.done s.letters.items (vec_capacity s.letters) s.kept s.earlier
+        × IsSearchState s.prepared s.stack s.next s.best s.done s.letters.items (vec_capacity s.letters) s.kept s.earlier
         s.spare };
 }
 

@@ -4,7 +4,7 @@ use Rattle.std.specs.Prelude.{codes}
 use Rattle.json_fields.specs.declared.fault.FieldFault.TheVariants.{Memory as NoMemory}
 use Rattle.tx_codec.specs.Transaction.{Transaction}
 use Rattle.wallet_text.specs.Repeats.{IsEarlierRepeat, IsRepeat}
-use Rattle.wallet_text.specs.Told.{refusal_of}
+use Rattle.wallet_text.specs.Reported.{refusal_of}
 use Rattle.json_fields.specs.Repeats.{IsFirstRepeat}
 use Rattle.wallet_text.specs.WalletRules.{AreDistinctEarlier, IsFirstLater}
 use Rattle.wallet_text.specs.WalletText.{earlier_txids, lists_at, told_index}

@@ -1,10 +1,11 @@
 pub mod Parts
 pub mod PlainWallet
+pub mod Refusals
 pub mod Repeats
+pub mod Reported
 pub mod ScriptEntries
 pub mod Stores
 pub mod Table
-pub mod Told
 pub mod TxEntries
 pub mod WalletRules
 pub mod WalletText

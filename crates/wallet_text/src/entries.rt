@@ -1,6 +1,6 @@
 //! The entries of the wallet's lists, each read after those before it.
 
-ghost use Rattle.std.specs.Prelude.{◌≡◌, ◌≢◌, ◌≤◌, ◌||◌, ◌++◌, [], ◌∷◌, ℕ, codes, nat_lt, if◌then◌else◌, Ok, Err, IfOk, IsOk, IsOkAnd};
+ghost use Rattle.std.specs.Prelude.{◌≡◌, ◌≢◌, ◌≤◌, ◌||◌, ◌++◌, [], ◌∷◌, codes, nat_lt, if◌then◌else◌, Ok, Err, IfOk, IsOk, IsOkAnd};
 ghost use Rattle.std.specs.Int.{w32};
 ghost use Rattle.fund_base.specs.Cursor.{number_at};
 ghost use Rattle.fund_base.specs.Parsing.{YieldsAll};
@@ -10,14 +10,14 @@ ghost use Rattle.json_fields.specs.declared.fault.FieldFault.TheVariants.{Memory
 ghost use Rattle.serde_json.specs.View.{view, items_view};
 ghost use Rattle.tx_codec.specs.Reading.{BeginsInputs};
 ghost use Rattle.wallet_text.specs.Stores.{StoresScript, StoresChange, StoresEarlier, StoresPending};
-ghost use Rattle.wallet_text.specs.Told.{Gives};
+ghost use Rattle.wallet_text.specs.Reported.{Gives};
 ghost use Rattle.wallet_text.specs.WalletText.{told_index, watch_names, watch_at, has_script_length, script_in, script_behind, change_at, tx_in, earlier_at, earlier_in, earlier_behind, pending_in, pending_behind};
 ghost use Rattle.wallet_text.specs.declared.fault.Refusal.TheVariants.{Field, Script as BadScript, Weight as BadWeight};
 
 use crate::fault::Refusal;
 use crate::seen::Seen;
 use crate::wallet::{Earlier, Watch};
-use fund_base::{OutPoint, Script, Txid};
+use fund_base::{MAX_WEIGHT, OutPoint, Script, Txid};
 use json_fields::{
     FieldFault, HexText, coin_of, hex_of, hex_text_of, member_of, number_of, object_of, txid_of,
 };
@@ -30,8 +30,6 @@ const MOST_SCRIPT: usize = 10_000;
 
 /// The least and the greatest declared weight of an input, in weight units.
 const LEAST_WEIGHT: u64 = 165;
-
-const MOST_WEIGHT: u64 = 400_000;
 
 /// A place in a list as a fault tells it, 4,294,967,295 at most.
 pub fn told_index(index: usize) -> u32
@@ -84,7 +82,7 @@ fn check_weight(index: usize, weight: u64) -> Result<(), Refusal>
     ensures exact { result ≡ (if nat_lt weight 165 || nat_lt 400000 weight then Err (BadWeight (told_index index)) else Ok tt) }
     ensures never { result ≢ Err (Field Memory) }
 {
-    if weight < LEAST_WEIGHT || weight > MOST_WEIGHT {
+    if weight < LEAST_WEIGHT || weight > MAX_WEIGHT {
         return Err(Refusal::Weight(told_index(index)));
     }
     Ok(())

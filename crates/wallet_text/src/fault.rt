@@ -2,7 +2,7 @@
 
 ghost use Rattle.std.specs.Prelude.{◌≡◌};
 ghost use Rattle.json_fields.specs.declared.fault.FieldFault.TheVariants.{Memory as NoMemory};
-ghost use Rattle.wallet_text.specs.Told.{refusal_of};
+ghost use Rattle.wallet_text.specs.Reported.{refusal_of};
 ghost use Rattle.wallet_text.specs.declared.fault.Refusal.TheVariants.{Field, Tx};
 
 use fund_base::Memory;

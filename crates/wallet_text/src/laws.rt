@@ -1,20 +1,19 @@
 //! What the rules of the wallet file come to, in words that don't follow the reading.
 
-ghost use Rattle.std.specs.Prelude.{◌≡◌, ◌≢◌, ◌≤◌, ◌<◌, ◌⊎◌, ℕ, List, ◌∷◌, length, Bool, true, false, codes, ◌↔◌, [], Contains};
+ghost use Rattle.std.specs.Prelude.{◌≡◌, ◌≤◌, ◌<◌, ◌⊎◌, ℕ, List, ◌∷◌, length, Bool, true, false, codes, ◌↔◌, Contains};
 ghost use Rattle.std.specs.Result.{result_err};
 ghost use Rattle.json_fields.specs.Fields.{object_at};
 ghost use Rattle.json_fields.specs.Rules.{first_some, IsHexString};
 ghost use Rattle.serde_json.specs.Data.{Data};
 ghost use Rattle.tx_codec.specs.Transaction.{Transaction};
 ghost use Rattle.tx_codec.specs.declared.fault.TxFault.{TxFault};
-ghost use Rattle.tx_codec.specs.Txid.{txid_of};
-ghost use Rattle.json_fields.specs.Repeats.{IsFirstRepeat};
-ghost use Rattle.wallet_text.specs.WalletRules.{IsWatch, AreDistinct, AreDistinctEarlier, ParentsComeFirst, IsFirstLater};
+ghost use Rattle.wallet_text.specs.WalletRules.{IsWatch};
 ghost use Rattle.wallet_text.specs.PlainWallet.{PlainWallet};
 ghost use Rattle.wallet_text.specs.ScriptEntries.{IsEntry, IsNoScript, IsNoWeight};
+ghost use Rattle.wallet_text.specs.Refusals.{AreRefusedAt, IsLaterIn, IsOfChange, IsRefusedWhere, IsRepeatIn, KeepRules};
 ghost use Rattle.wallet_text.specs.TxEntries.{transaction_of, IsEarlierEntry};
 ghost use Rattle.wallet_text.specs.Table.{member_faults, said_by};
-ghost use Rattle.wallet_text.specs.WalletText.{field, known_names, required_names, told_index, judged, earlier_txids, txids_of, lists_at, wallet_at, script_in, change_at, earlier_in, pending_in};
+ghost use Rattle.wallet_text.specs.WalletText.{field, known_names, required_names, told_index, judged, lists_at, wallet_at, script_in, earlier_in, pending_in};
 ghost use Rattle.wallet_text.specs.declared.fault.Refusal.{Refusal};
 ghost use Rattle.wallet_text.specs.declared.fault.Refusal.TheVariants.{Script, Weight, Tx, Repeat, ParentLater};
 ghost use Rattle.wallet_text.specs.declared.wallet.Watch.{Watch};
@@ -36,11 +35,11 @@ pub fn judges_entries()
 /// before.
 pub fn judges_scripts()
     ensures taken { (index : ℕ) (before : List (List ℕ)) (d : Data) (w : Watch) → (script_in index before d ≡ Ok w) ↔ (IsEntry d w × IsWatch w × (¬ Contains before w.script)) }
-    ensures script { (index : ℕ) (before : List (List ℕ)) (d : Data) (told : ℕ) → (script_in index before d ≡ Err (Script told)) ↔ ((told ≡ told_index index) × ((w : Watch) × IsEntry d w × (Contains before w.script ⊎ IsNoScript w.script))) }
-    ensures weight { (index : ℕ) (before : List (List ℕ)) (d : Data) (told : ℕ) → (script_in index before d ≡ Err (Weight told)) ↔ ((told ≡ told_index index) × ((w : Watch) × IsEntry d w × (¬ Contains before w.script) × (¬ IsNoScript w.script) × IsNoWeight w.weight)) }
-    ensures change { (count : ℕ) (d : Data) (w : Watch) → (change_at count d ≡ Ok w) ↔ (script_in count [] d ≡ Ok w) }
-    ensures change_script { (count : ℕ) (d : Data) (told : ℕ) → (change_at count d ≡ Err (Script told)) ↔ (script_in count [] d ≡ Err (Script told)) }
-    ensures change_weight { (count : ℕ) (d : Data) (told : ℕ) → (change_at count d ≡ Err (Weight told)) ↔ (script_in count [] d ≡ Err (Weight told)) }
+    ensures script { IsRefusedWhere Script (λ before w. Contains before w.script ⊎ IsNoScript w.script) }
+    ensures weight { IsRefusedWhere Weight (λ before w. (¬ Contains before w.script) × (¬ IsNoScript w.script) × IsNoWeight w.weight) }
+    ensures change { (w : Watch) → IsOfChange (Ok w) }
+    ensures change_script { (told : ℕ) → IsOfChange (Err (Script told)) }
+    ensures change_weight { (told : ℕ) → IsOfChange (Err (Weight told)) }
 {}
 
 /// The law of an entry of `earlier` and of one of `pending`, at an index. It is taken exactly where its bytes are one
@@ -57,10 +56,10 @@ pub fn judges_transactions()
 /// txid that stands twice in `earlier`, or, where none does, in `pending`, or, where none does there either, the first
 /// pending transaction that spends an output of itself or of one after it.
 pub fn judges_lists()
-    ensures kept { (earlier : List Earlier) (pending : List Transaction) → lists_at earlier pending ≡ Ok tt → AreDistinctEarlier earlier × AreDistinct pending × ParentsComeFirst pending }
-    ensures only { (earlier : List Earlier) (pending : List Transaction) → AreDistinctEarlier earlier → AreDistinct pending → ParentsComeFirst pending → lists_at earlier pending ≡ Ok tt }
-    ensures repeated { (earlier : List Earlier) (pending : List Transaction) (list : List ℕ) (told : ℕ) → lists_at earlier pending ≡ Err (Repeat list told) → (place : ℕ) × (told ≡ told_index place) × (((list ≡ codes "earlier") × IsFirstRepeat (earlier_txids earlier) place) ⊎ ((list ≡ codes "pending") × AreDistinctEarlier earlier × IsFirstRepeat (txids_of pending) place)) }
-    ensures later { (earlier : List Earlier) (pending : List Transaction) (told : ℕ) → lists_at earlier pending ≡ Err (ParentLater told) → (place : ℕ) × (told ≡ told_index place) × AreDistinctEarlier earlier × AreDistinct pending × IsFirstLater pending place }
+    ensures kept { (earlier : List Earlier) (pending : List Transaction) → lists_at earlier pending ≡ Ok tt → KeepRules earlier pending }
+    ensures only { (earlier : List Earlier) (pending : List Transaction) → KeepRules earlier pending → lists_at earlier pending ≡ Ok tt }
+    ensures repeated { (list : List ℕ) → AreRefusedAt (Repeat list) (IsRepeatIn list) }
+    ensures later { AreRefusedAt ParentLater IsLaterIn }
     ensures other { (earlier : List Earlier) (pending : List Transaction) (fault : Refusal) → lists_at earlier pending ≡ Err fault → ((list : List ℕ) × (told : ℕ) × (fault ≡ Repeat list told)) ⊎ ((told : ℕ) × (fault ≡ ParentLater told)) }
 {}
 

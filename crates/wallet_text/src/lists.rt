@@ -4,7 +4,7 @@ ghost use Rattle.std.specs.Prelude.{◌≡◌, ◌≤◌, [], if◌then◌else�
 ghost use Rattle.indexmap.specs.IndexSet.{IsEmpty, spare};
 ghost use Rattle.json_fields.specs.Fields.{refuse};
 ghost use Rattle.wallet_text.specs.Repeats.{IsRepeat};
-ghost use Rattle.wallet_text.specs.Told.{Gives};
+ghost use Rattle.wallet_text.specs.Reported.{Gives};
 ghost use Rattle.wallet_text.specs.WalletRules.{AreDistinctEarlier};
 ghost use Rattle.wallet_text.specs.WalletText.{told_index, txids_of, earlier_txids, repeat_from, spends_one_of, later_from, lists_at};
 ghost use Rattle.wallet_text.specs.declared.fault.Refusal.TheVariants.{ParentLater, Repeat};

@@ -9,7 +9,7 @@ ghost use Rattle.serde_json.specs.Find.{get};
 ghost use Rattle.serde_json.specs.View.{view};
 ghost use Rattle.wallet_text.specs.Parts.{head_at, listed_at, parts_at, watched_at};
 ghost use Rattle.wallet_text.specs.Stores.{StoresScript, StoresEarlier, StoresPending, StoresWatched, StoresWallet};
-ghost use Rattle.wallet_text.specs.Told.{Gives, HasReason, Reads};
+ghost use Rattle.wallet_text.specs.Reported.{Gives, HasReason, Reads};
 ghost use Rattle.wallet_text.specs.WalletRules.{IsWallet};
 ghost use Rattle.wallet_text.specs.WalletText.{known_names, required_names, scripts_at, earlier_list_at, pending_list_at, abandoned_list_at, locked_list_at, wallet_of};
 ghost use Rattle.wallet_text.specs.declared.fault.Refusal.TheVariants.{Field};

@@ -5,7 +5,7 @@ use Rattle.pick_problem.specs.Admissible.{IsFit}
 use Rattle.pick_problem.specs.declared.item.Item.{Item}
 use Rattle.random_draw.specs.Order.{order_of}
 use Rattle.random_draw.specs.Draw.{draw_of, found_from}
-use Rattle.random_draw.specs.Kept.{AreFresh}
+use Rattle.random_draw.specs.KeptPlaces.{AreFresh}
 use Rattle.random_draw.proofs.Fresh.{found_fits}
 use Rattle.random_draw.proofs.OrderLaws.{order_fresh}
 use Rattle.random_draw.proofs.drawing.draw.Goals as goal

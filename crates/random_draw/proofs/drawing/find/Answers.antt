@@ -3,7 +3,7 @@ use Rattle.std.proofs.Common.{arith, ap, sym, refl, ◌∙◌}
 use Rattle.std.proofs.lemmas.List.{drop_more, drop_all}
 use Rattle.pick_problem.specs.Problem.{value_of}
 use Rattle.random_draw.specs.Draw.{found_from, kept_with}
-use Rattle.random_draw.specs.Kept.{AreFresh, places_of}
+use Rattle.random_draw.specs.KeptPlaces.{AreFresh, places_of}
 use Rattle.random_draw.proofs.Fresh.{first_fresh, goes_on, found_now, found_later, found_none}
 use Rattle.random_draw.proofs.drawing.find.Goals as goal
 

@@ -1,7 +1,7 @@
 use Rattle.std.proofs.Common.{Result, subst, sym}
 use Rattle.serde_json.specs.View.{view}
 use Rattle.wallet_text.specs.PlainWallet.{PlainWallet}
-use Rattle.wallet_text.specs.Told.{Gives}
+use Rattle.wallet_text.specs.Reported.{Gives}
 use Rattle.wallet_text.specs.declared.fault.Refusal.{Refusal}
 use Rattle.wallet_text.proofs.PartLaws.{parts_of}
 use Rattle.wallet_text.proofs.reading.read.Goals as goal

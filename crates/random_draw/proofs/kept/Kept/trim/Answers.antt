@@ -1,7 +1,7 @@
 use Rattle.std.specs.Prelude.{◌<◌, ◌≤◌, length}
 use Rattle.std.proofs.Common.{arith, sym, ◌∙◌}
 use Rattle.pick_problem.specs.Problem.{weight_of}
-use Rattle.random_draw.specs.Kept.{places_of}
+use Rattle.random_draw.specs.KeptPlaces.{places_of}
 use Rattle.random_draw.proofs.KeptLaws.{trims}
 use Rattle.random_draw.proofs.Trimming.{trimmed_light}
 use Rattle.random_draw.proofs.kept.Kept.trim.Goals as goal

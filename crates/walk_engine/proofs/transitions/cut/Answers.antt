@@ -2,9 +2,9 @@ use Rattle.std.proofs.Common.{reverse, subst}
 use Rattle.pick_problem.specs.declared.token.Reason.{Reason}
 use Rattle.pick_problem.specs.declared.token.Token.TheVariants.{Close}
 use Rattle.pick_problem.specs.Walk.{leave, writes}
-use Rattle.walk_engine.specs.Ways.{HasWalked}
+use Rattle.walk_engine.specs.Transitions.{HasWalked}
 use Rattle.walk_engine.proofs.WayLaws.{walked_put}
-use Rattle.walk_engine.proofs.ways.cut.Goals as goal
+use Rattle.walk_engine.proofs.transitions.cut.Goals as goal
 
 pub returns-clause-walked : goal.returns-clause-walked
 returns-clause-walked c =

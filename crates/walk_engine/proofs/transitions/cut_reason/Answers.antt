@@ -1,6 +1,6 @@
 use Rattle.std.proofs.Common.{arith}
 use Rattle.walk_engine.proofs.WayLaws.{cut_by_reason, cut_by_short}
-use Rattle.walk_engine.proofs.ways.cut_reason.Goals as goal
+use Rattle.walk_engine.proofs.transitions.cut_reason.Goals as goal
 
 pub returns-then-value_behind-from : goal.returns-then-value_behind-from
 returns-then-value_behind-from c =

@@ -2,7 +2,7 @@ use Rattle.std.proofs.Common.{arith}
 use Rattle.walk_engine.specs.Best.{plain_best}
 use Rattle.walk_engine.proofs.GlideLaws.{drops_length, glide_more}
 use Rattle.walk_engine.proofs.WayLaws.{stack_wider}
-use Rattle.walk_engine.proofs.gliding.glide.Goals as goal
+use Rattle.walk_engine.proofs.skip_runs.glide.Goals as goal
 
 pub gliding-preserved : goal.gliding-preserved
 gliding-preserved c =

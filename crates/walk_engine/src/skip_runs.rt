@@ -1,16 +1,16 @@
 //! Runs of tries that drop their place, and change nothing else.
 
-ghost use Rattle.std.specs.Prelude.{◌≡◌, ◌+◌, ◌*◌, ◌<◌, ◌≤◌, length};
+ghost use Rattle.std.specs.Prelude.{◌+◌, ◌*◌, ◌<◌, ◌≤◌, length};
 ghost use Rattle.std.specs.Vec.{vec_capacity};
 ghost use Rattle.walk_engine.specs.Best.{IsBestSoFar, plain_best};
-ghost use Rattle.walk_engine.specs.Gliding.{HasGlided};
+ghost use Rattle.walk_engine.specs.SkipRuns.{HasGlided};
 ghost use Rattle.walk_engine.specs.Stack.{IsStack};
 
 use crate::best::Best;
-use crate::dropping::drop_reason;
 use crate::prepared::Prepared;
+use crate::skipping::drop_reason;
 use crate::stack::Stack;
-use crate::ways::drop_place;
+use crate::transitions::drop_place;
 
 /// Where a run of tries leads: the next place; and how many tries were made.
 #[derive(Clone, Copy)]

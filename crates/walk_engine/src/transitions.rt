@@ -13,9 +13,9 @@ ghost use Rattle.pick_problem.specs.declared.token.Reason.TheVariants.{Short};
 ghost use Rattle.pick_problem.specs.declared.token.Token.TheVariants.{Close, Enter, Pass};
 ghost use Rattle.walk_engine.specs.Best.{IsBestSoFar, plain_best};
 ghost use Rattle.walk_engine.specs.Cases.{rule_of};
-ghost use Rattle.walk_engine.specs.Dropping.{dropping};
+ghost use Rattle.walk_engine.specs.Skipping.{dropping};
 ghost use Rattle.walk_engine.specs.Stack.{IsStack, with_place};
-ghost use Rattle.walk_engine.specs.Ways.{HasWalked};
+ghost use Rattle.walk_engine.specs.Transitions.{HasWalked};
 
 use crate::best::{Best, improve};
 use crate::cases::{Case, first_case};

@@ -1,9 +1,9 @@
 use Rattle.std.proofs.Common.{◌+◌, ◌-◌, ◌*◌, ◌≤◌, length}
 use Rattle.std.specs.Vec.{vec_capacity}
 use Rattle.walk_engine.specs.Best.{plain_best}
-use Rattle.walk_engine.specs.Gliding.{HasGlided}
+use Rattle.walk_engine.specs.SkipRuns.{HasGlided}
 use Rattle.walk_engine.specs.Stack.{IsStack}
-use Rattle.walk_engine.proofs.gliding.glide.Given as goal
+use Rattle.walk_engine.proofs.skip_runs.glide.Given as goal
 
 abbrev pub invariant-gliding : goal.invariant-gliding
 invariant-gliding l = record {

@@ -7,15 +7,15 @@ use Rattle.sqlite.specs.declared.error.Error.TheVariants.{SqliteFailure}
 use Rattle.sqlite.specs.declared.error.ErrorCode.TheVariants.{OutOfMemory}
 
 -- that it was out of memory as that, and every other one as a failure
-abbrev pub told_as : Error → KeepFault
-told_as (SqliteFailure OutOfMemory) = Memory
-told_as _ = Failed
+abbrev pub reported_as : Error → KeepFault
+reported_as (SqliteFailure OutOfMemory) = Memory
+reported_as _ = Failed
 
 -- what it gave as that
-abbrev pub told_answer : {T : Type 0} → Result T Error → Result T KeepFault
-told_answer (Ok given) = Ok given
-told_answer (Err error) = Err (told_as error)
+abbrev pub reported_answer : {T : Type 0} → Result T Error → Result T KeepFault
+reported_answer (Ok given) = Ok given
+reported_answer (Err error) = Err (reported_as error)
 
 -- the result tells an answer that is so
-abbrev pub Tells : {T : Type 0} → (Result T Error → Type 0) → Result T KeepFault → Type 0
-Tells IsSo result = (answer : Result _ Error) × IsSo answer × (result ≡ told_answer answer)
+abbrev pub Reports : {T : Type 0} → (Result T Error → Type 0) → Result T KeepFault → Type 0
+Reports IsSo result = (answer : Result _ Error) × IsSo answer × (result ≡ reported_answer answer)

@@ -17,7 +17,7 @@ abbrev pub places_of : Kept → List ℕ
 places_of kept = sorted_up (heap_items kept.heap)
 
 -- the kept places are places of the pool, the greatest is at hand, and their sums are known
-pub record IsKept (p : PlainProblem) (kept : Kept) : Type 0 where
+pub record AreKeptPlaces (p : PlainProblem) (kept : Kept) : Type 0 where
   pub heap : IsHeap nat_cmp (heap_items kept.heap)
   pub rising : Rising (length p.items) 0 (places_of kept)
   pub value : kept.value ≡ value_of p (places_of kept)

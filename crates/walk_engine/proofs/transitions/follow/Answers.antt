@@ -1,7 +1,7 @@
 use Rattle.std.proofs.Common.{ap, refl}
 use Rattle.walk_engine.specs.Cases.{rule_of}
 use Rattle.walk_engine.proofs.WayLaws.{walked_goes}
-use Rattle.walk_engine.proofs.ways.follow.Goals as goal
+use Rattle.walk_engine.proofs.transitions.follow.Goals as goal
 
 pub returns-in-Goes-clause-walked : goal.returns-in-Goes-clause-walked
 returns-in-Goes-clause-walked c =

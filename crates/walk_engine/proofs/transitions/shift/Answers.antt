@@ -4,7 +4,7 @@ use Rattle.pick_problem.specs.Later.{behind_twins}
 use Rattle.pick_problem.specs.Letters.{letters_of}
 use Rattle.pick_problem.proofs.WayLaws.{pass_tokens}
 use Rattle.walk_engine.proofs.WayLaws.{shift_stops, lt_true}
-use Rattle.walk_engine.proofs.ways.shift.Goals as goal
+use Rattle.walk_engine.proofs.transitions.shift.Goals as goal
 
 pub returns-then-end-count-clause-walked : goal.returns-then-end-count-clause-walked
 returns-then-end-count-clause-walked c =

@@ -2,7 +2,7 @@ use Rattle.std.proofs.Common.{◌+◌, ◌*◌, ◌≤◌, length}
 use Rattle.std.specs.Vec.{vec_capacity}
 use Rattle.walk_engine.specs.Stack.{IsStack}
 use Rattle.walk_engine.proofs.WayLaws.{Leaving}
-use Rattle.walk_engine.proofs.ways.leave.Given as goal
+use Rattle.walk_engine.proofs.transitions.leave.Given as goal
 
 abbrev pub invariant-leaving : goal.invariant-leaving
 invariant-leaving l = record {

@@ -5,14 +5,14 @@ ghost use Rattle.pick_problem.specs.Later.{behind_twins};
 ghost use Rattle.pick_problem.specs.Problem.{IsProblem};
 ghost use Rattle.pick_problem.specs.declared.item.Kind.TheVariants.{Changeless, Lean};
 ghost use Rattle.walk_engine.specs.Best.{IsBestSoFar, plain_best};
-ghost use Rattle.walk_engine.specs.Dropping.{OnlyDrops};
+ghost use Rattle.walk_engine.specs.Skipping.{OnlyDrops};
 ghost use Rattle.walk_engine.specs.Stack.{IsStack};
 
 use crate::best::{Best, stays};
 use crate::cases::{is_above, is_heavy, is_short, is_worse, reaches};
 use crate::prepared::Prepared;
 use crate::stack::Stack;
-use crate::ways::is_lightest;
+use crate::transitions::is_lightest;
 use pick_problem::{Kind, Reason};
 
 /// The reason of a changeless try that drops its place and changes nothing else: O or W. What is above the greatest
