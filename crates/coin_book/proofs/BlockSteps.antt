@@ -1,5 +1,5 @@
 -- One block more.
-use Rattle.std.proofs.Common.{◌≡◌, ◌∙◌, ℕ, ◌+◌, true, false, cond, List, [], ◌∷◌, ◌++◌, length, map, filter, Option, Some, None, Vec, Global, sym, ap, subst, arith, append_assoc}
+use Rattle.std.proofs.Common.{◌≡◌, ◌∙◌, ℕ, ◌+◌, true, false, cond, List, [], ◌∷◌, ◌++◌, length, map, filter, Option, Some, None, Vec, Global, sym, ap, subst, arith, append_assoc, true≢false}
 use Rattle.std.specs.Prelude.{bytes_eq, is_some, nat_le, nat_lt}
 use Rattle.std.specs.List.{IsDistinct, flat_map}
 use Rattle.std.specs.Map.{keys_of, lookup}
@@ -17,8 +17,8 @@ use Rattle.std.specs.declared.snapshot.Snapshot.{Snapshot}
 use Rattle.coin_book.specs.Coins.{Made, confirmed_made, made_by, pending_made, weight_for}
 use Rattle.coin_book.specs.Faults.{fault_behind, fault_of, full_at, points}
 use Rattle.coin_book.specs.History.{Confirmed, History, confirmed_at, confirmed_before, confirmed_in, with_block}
-use Rattle.coin_book.specs.Invariant.{HoldsChain, HoldsCoins, IsKept, history_of, points_in, weigher}
-use Rattle.coin_book.specs.Spends.{height_of, spends_below}
+use Rattle.coin_book.specs.Invariant.{HoldsChain, HoldsCoins, IsLedger, history_of, points_in, weigher}
+use Rattle.coin_book.specs.Watched.{PlainWatched, kept_height, kept_spends}
 use Rattle.coin_book.specs.Merging.{all_in, shares, spends_in, staying, stays}
 use Rattle.coin_book.specs.declared.coin.Spend.{Spend}
 use Rattle.coin_book.specs.declared.fault.BookFault.{BookFault}
@@ -30,18 +30,18 @@ use Rattle.coin_book.proofs.FaultSteps.{fault_first, fault_rest, held_count, no_
 use Rattle.coin_book.proofs.ListSteps.{all_is_one}
 use Rattle.coin_book.proofs.MapSteps.{fault_more}
 use Rattle.coin_book.proofs.MergeSteps.{coins_behind, heights_behind, lookup_both}
-use Rattle.coin_book.proofs.PendingSteps.{both_hold, height_at}
+use Rattle.coin_book.proofs.PendingSteps.{both_hold}
 use Rattle.coin_book.proofs.StaySteps.{left_is, settled}
+use Rattle.coin_book.proofs.WatchSteps.{height_at, height_held, no_height, no_spends, spends_held}
 
 -- ---- two ledgers put together
 
-pub chain_joined : (weigh : List ℕ → Option ℕ) (before behind : List Confirmed) (base more new : Ledger) → HoldsChain weigh [] before base → HoldsChain weigh before behind more → fault_behind (points_in weigh before) (points_in weigh behind) ≡ None
+pub chain_joined : (w : PlainWatched) (weigh : List ℕ → Option ℕ) (before behind : List Confirmed) (base more new : Ledger) → HoldsChain w weigh [] before base → HoldsChain w weigh before behind more → fault_behind (points_in weigh before) (points_in weigh behind) ≡ None
     → IsDistinct bytes_eq (keys_of more.heights.entries) → IsDistinct same_outpoint (keys_of more.spends.entries)
     → new.coins.entries ≡ insert_all same_outpoint base.coins.entries more.coins.entries → new.heights.entries ≡ insert_all bytes_eq base.heights.entries more.heights.entries
-    → ((o : OutPoint) → spends_in new.spends.entries o ≡ spends_in base.spends.entries o ++ all_in more.spends.entries o) → HoldsChain weigh [] (before ++ behind) new
-unfolding height_of spends_below
-chain_joined weigh before behind base more new under h fresh once each coins heights spends =
-    let known : (t : List ℕ) → height_of before t ≡ lookup (bytes_eq t) base.heights.entries = λ t. under.heights t in
+    → ((o : OutPoint) → spends_in new.spends.entries o ≡ spends_in base.spends.entries o ++ all_in more.spends.entries o) → HoldsChain w weigh [] (before ++ behind) new
+chain_joined w weigh before behind base more new under h fresh once each coins heights spends =
+    let known : (t : List ℕ) → kept_height w before t ≡ lookup (bytes_eq t) base.heights.entries = λ t. height_held w weigh before base t under in
     let apart : (t : List ℕ) → is_some (lookup (bytes_eq t) base.heights.entries) ≡ true → lookup (bytes_eq t) more.heights.entries ≡ None = λ t there. h.apart t (ap (λ (o : Option ℕ). is_some o) (known t) ∙ there) in
     let tall = heights ∙ heights_behind base.heights.entries more.heights.entries once apart in
     let put = coins ∙ coins_behind base.coins.entries more.coins.entries ((λ k. fault_behind (under.coins.keys_are k) (h.coins.keys_are k)) ∙ fresh) in
@@ -50,26 +50,27 @@ chain_joined weigh before behind base more new under h fresh once each coins hei
           (both_hold (flat_map (made_by weigh) before) (flat_map (made_by weigh) behind) base.coins.entries more.coins.entries new.coins.entries under.coins h.coins put);
       spends = λ o.
           h.spends o
-          ∙ ap (λ (l : List Spend). l ++ spends_in more.spends.entries o) (under.spends o)
+          ∙ ap (λ (l : List Spend). l ++ spends_in more.spends.entries o) (spends_held w weigh before base o under)
           ∙ ap (λ (l : List Spend). spends_in base.spends.entries o ++ l) (sym (all_is_one more.spends.entries o each))
-          ∙ sym (spends o);
+          ∙ sym (spends o)
+          ∙ ap (λ (l : List Spend). l ++ spends_in new.spends.entries o) (sym (no_spends w o));
       heights = λ t.
           h.heights t
           ∙ ap (λ (o : Option ℕ). option_or o (lookup (bytes_eq t) more.heights.entries)) (known t)
           ∙ sym (lookup_both (bytes_eq t) base.heights.entries more.heights.entries)
-          ∙ ap (lookup (bytes_eq t)) (sym tall);
-      apart = λ t there. absurd cc;
+          ∙ ap (lookup (bytes_eq t)) (sym tall)
+          ∙ ap (λ (o : Option ℕ). option_or o (lookup (bytes_eq t) new.heights.entries)) (sym (no_height w t));
+      apart = λ t there. absurd (true≢false (sym there ∙ ap (λ (o : Option ℕ). is_some o) (no_height w t)));
     }
 
 -- a ledger that tells the same
-pub chain_same : (weigh : List ℕ → Option ℕ) (before : List Confirmed) (base new : Ledger) → HoldsChain weigh [] before base → new.coins.entries ≡ base.coins.entries → new.heights.entries ≡ base.heights.entries
-    → ((o : OutPoint) → spends_in new.spends.entries o ≡ spends_in base.spends.entries o) → HoldsChain weigh [] before new
-unfolding height_of spends_below
-chain_same weigh before base new h coins heights spends = record {
+pub chain_same : (w : PlainWatched) (weigh : List ℕ → Option ℕ) (before : List Confirmed) (base new : Ledger) → HoldsChain w weigh [] before base → new.coins.entries ≡ base.coins.entries → new.heights.entries ≡ base.heights.entries
+    → ((o : OutPoint) → spends_in new.spends.entries o ≡ spends_in base.spends.entries o) → HoldsChain w weigh [] before new
+chain_same w weigh before base new h coins heights spends = record {
   coins = subst (λ (es : List (OutPoint × Held)). HoldsCoins (flat_map (made_by weigh) before) es) (sym coins) h.coins;
-  spends = λ o. h.spends o ∙ sym (spends o);
-  heights = λ t. h.heights t ∙ ap (lookup (bytes_eq t)) (sym heights);
-  apart = λ t there. absurd cc;
+  spends = λ o. h.spends o ∙ ap (λ (l : List Spend). kept_spends w [] o ++ l) (sym (spends o));
+  heights = λ t. h.heights t ∙ ap (λ (es : List (List ℕ × ℕ)). option_or (kept_height w [] t) (lookup (bytes_eq t) es)) (sym heights);
+  apart = λ t there. absurd (true≢false (sym there ∙ ap (λ (o : Option ℕ). is_some o) (no_height w t)));
 }
 
 -- ---- the fault of the history with the block
@@ -83,38 +84,38 @@ confirmed_fault h b sound =
     ∙ fault_more [] (points (confirmed_made h)) (points_in (weight_for h.scripts) (confirmed_in b))
     ∙ ap (λ (o : Option BookFault). option_or o (fault_behind (points (confirmed_made h)) (points_in (weight_for h.scripts) (confirmed_in b)))) (sound_confirmed h sound)
 
-pub block_fault : (h : History) (ws : List (Vec ℕ Global × ℕ)) (l : Ledger) (ps : List (OutPoint × Held)) (txids : List (List ℕ)) (count : ℕ) (b : ChainBlock) (e : BookFault) → IsKept h ws l ps txids count
+pub block_fault : (h : History) (w : PlainWatched) (ws : List (Vec ℕ Global × ℕ)) (l : Ledger) (ps : List (OutPoint × Held)) (txids : List (List ℕ)) (count : ℕ) (b : ChainBlock) (e : BookFault) → IsLedger h w ws l ps txids count
     → fault_behind (points_in (weigher ws) h.confirmed) (points_in (weigher ws) (confirmed_in b)) ≡ Some e → fault_of (with_block h b) ≡ Some e
-block_fault h ws l ps txids count b e k is =
+block_fault h w ws l ps txids count b e k is =
     fault_first (with_block h b) e (confirmed_fault h b k.sound ∙ sym (λ j. fault_behind (points_in (k.weights_are j) h.confirmed) (points_in (k.weights_are j) (confirmed_in b))) ∙ is)
 
 -- the ledger under the weights that are held
-pub kept_chain : (h : History) (ws : List (Vec ℕ Global × ℕ)) (l : Ledger) (ps : List (OutPoint × Held)) (txids : List (List ℕ)) (count : ℕ) → IsKept h ws l ps txids count → HoldsChain (weigher ws) [] h.confirmed l
-kept_chain h ws l ps txids count k = subst (λ (f : List ℕ → Option ℕ). HoldsChain f [] h.confirmed l) (sym k.weights_are) k.chain
+pub kept_chain : (h : History) (w : PlainWatched) (ws : List (Vec ℕ Global × ℕ)) (l : Ledger) (ps : List (OutPoint × Held)) (txids : List (List ℕ)) (count : ℕ) → IsLedger h w ws l ps txids count → HoldsChain w (weigher ws) [] h.confirmed l
+kept_chain h w ws l ps txids count k = subst (λ (f : List ℕ → Option ℕ). HoldsChain w f [] h.confirmed l) (sym k.weights_are) k.chain
 
 -- What is known before a block is added: the book, the block's own ledger, and how many coins still wait.
-pub record IsNext (h : History) (b : ChainBlock) (ws : List (Vec ℕ Global × ℕ)) (l more : Ledger) (ps : List (OutPoint × Held)) (txids : List (List ℕ)) (count left : ℕ) : Type 0 where
-  pub kept : IsKept h ws l ps txids count
-  pub holds : HoldsChain (weigher ws) h.confirmed (confirmed_in b) more
+pub record IsNext (h : History) (b : ChainBlock) (w : PlainWatched) (ws : List (Vec ℕ Global × ℕ)) (l more : Ledger) (ps : List (OutPoint × Held)) (txids : List (List ℕ)) (count left : ℕ) : Type 0 where
+  pub kept : IsLedger h w ws l ps txids count
+  pub holds : HoldsChain w (weigher ws) h.confirmed (confirmed_in b) more
   pub none : fault_behind (points_in (weigher ws) h.confirmed) (points_in (weigher ws) (confirmed_in b)) ≡ None
   pub many : left ≡ length (pending_made (with_block h b))
 
-pub block_next : (h : History) (b : ChainBlock) (ws : List (Vec ℕ Global × ℕ)) (l more : Ledger) (ps : List (OutPoint × Held)) (txids : List (List ℕ)) (count left : ℕ) (chain : List Confirmed) → IsKept h ws l ps txids count → chain ≡ confirmed_in b
-    → HoldsChain (weigher ws) h.confirmed chain more → fault_behind (points_in (weigher ws) h.confirmed) (points_in (weigher ws) chain) ≡ None
-    → left ≡ cond (shares txids more.heights.entries) (length (filter (stays more.heights.entries) (keys_of ps))) (length ps) → IsNext h b ws l more ps txids count left
-block_next h b ws l more ps txids count left chain k same holds none told =
-    let held = subst (λ (c : List Confirmed). HoldsChain (weigher ws) h.confirmed c more) same holds in
+pub block_next : (h : History) (b : ChainBlock) (w : PlainWatched) (ws : List (Vec ℕ Global × ℕ)) (l more : Ledger) (ps : List (OutPoint × Held)) (txids : List (List ℕ)) (count left : ℕ) (chain : List Confirmed) → IsLedger h w ws l ps txids count → chain ≡ confirmed_in b
+    → HoldsChain w (weigher ws) h.confirmed chain more → fault_behind (points_in (weigher ws) h.confirmed) (points_in (weigher ws) chain) ≡ None
+    → left ≡ cond (shares txids more.heights.entries) (length (filter (stays more.heights.entries) (keys_of ps))) (length ps) → IsNext h b w ws l more ps txids count left
+block_next h b w ws l more ps txids count left chain k same holds none told =
+    let held = subst (λ (c : List Confirmed). HoldsChain w (weigher ws) h.confirmed c more) same holds in
     record {
       kept = k;
       holds = held;
       none = subst (λ (c : List Confirmed). fault_behind (points_in (weigher ws) h.confirmed) (points_in (weigher ws) c) ≡ None) same none;
-      many = left_is h b (weigher ws) more ps txids left held k.waiting k.txids_are told;
+      many = left_is h b w (weigher ws) more ps txids left k.watched held k.waiting k.txids_are told;
     }
 
 -- the coins of the ledgers and those that still wait are all
-block_total : (h : History) (b : ChainBlock) (ws : List (Vec ℕ Global × ℕ)) (l more : Ledger) (ps : List (OutPoint × Held)) (txids : List (List ℕ)) (count left : ℕ) → IsNext h b ws l more ps txids count left
+block_total : (h : History) (b : ChainBlock) (w : PlainWatched) (ws : List (Vec ℕ Global × ℕ)) (l more : Ledger) (ps : List (OutPoint × Held)) (txids : List (List ℕ)) (count left : ℕ) → IsNext h b w ws l more ps txids count left
     → fault_of (with_block h b) ≡ full_at (length l.coins.entries + length more.coins.entries + left)
-block_total h b ws l more ps txids count left n =
+block_total h b w ws l more ps txids count left n =
     let c = held_count (confirmed_made h) l.coins.entries n.kept.chain.coins in
     let d = held_count (flat_map (made_by (weigher ws)) (confirmed_in b)) more.coins.entries n.holds.coins in
     let w = ap (λ (f : List ℕ → Option ℕ). length (flat_map (made_by f) (confirmed_in b))) n.kept.weights_are in
@@ -125,16 +126,16 @@ block_total h b ws l more ps txids count left n =
     fault_rest (with_block h b) (confirmed_fault h b n.kept.sound ∙ sym (λ j. fault_behind (points_in (n.kept.weights_are j) h.confirmed) (points_in (n.kept.weights_are j) (confirmed_in b))) ∙ n.none)
     ∙ ap full_at all
 
-pub block_full : (h : History) (b : ChainBlock) (ws : List (Vec ℕ Global × ℕ)) (l more : Ledger) (ps : List (OutPoint × Held)) (txids : List (List ℕ)) (count left : ℕ) → IsNext h b ws l more ps txids count left
+pub block_full : (h : History) (b : ChainBlock) (w : PlainWatched) (ws : List (Vec ℕ Global × ℕ)) (l more : Ledger) (ps : List (OutPoint × Held)) (txids : List (List ℕ)) (count left : ℕ) → IsNext h b w ws l more ps txids count left
     → nat_le (length l.coins.entries + length more.coins.entries + left) 100_000 ≡ false → fault_of (with_block h b) ≡ Some Full
-block_full h b ws l more ps txids count left n over =
-    block_total h b ws l more ps txids count left n
+block_full h b w ws l more ps txids count left n over =
+    block_total h b w ws l more ps txids count left n
     ∙ no_room_for (length l.coins.entries + length more.coins.entries + left) (leb-false (length l.coins.entries + length more.coins.entries + left) 100_000 over)
 
-pub block_sound : (h : History) (b : ChainBlock) (ws : List (Vec ℕ Global × ℕ)) (l more : Ledger) (ps : List (OutPoint × Held)) (txids : List (List ℕ)) (count left : ℕ) → IsNext h b ws l more ps txids count left
+pub block_sound : (h : History) (b : ChainBlock) (w : PlainWatched) (ws : List (Vec ℕ Global × ℕ)) (l more : Ledger) (ps : List (OutPoint × Held)) (txids : List (List ℕ)) (count left : ℕ) → IsNext h b w ws l more ps txids count left
     → nat_le (length l.coins.entries + length more.coins.entries + left) 100_000 ≡ true → fault_of (with_block h b) ≡ None
-block_sound h b ws l more ps txids count left n within =
-    block_total h b ws l more ps txids count left n
+block_sound h b w ws l more ps txids count left n within =
+    block_total h b w ws l more ps txids count left n
     ∙ room_for (length l.coins.entries + length more.coins.entries + left) (leb-true (length l.coins.entries + length more.coins.entries + left) 100_000 within)
 
 -- ---- the book with it
@@ -147,32 +148,34 @@ pub record Joins (l more new : Ledger) : Type 0 where
   pub heights_apart : IsDistinct bytes_eq (keys_of more.heights.entries)
   pub spends_apart : IsDistinct same_outpoint (keys_of more.spends.entries)
 
-pub block_kept : (h g : History) (b : ChainBlock) (ws : List (Vec ℕ Global × ℕ)) (l more new : Ledger) (ps rest : List (OutPoint × Held)) (txids : List (List ℕ)) (count left total : ℕ) → IsNext h b ws l more ps txids count left → Joins l more new
-    → nat_le (length l.coins.entries + length more.coins.entries + left) 100_000 ≡ true → rest ≡ cond (nat_lt left (length ps)) (staying new.heights.entries ps) ps → total ≡ count + length b.txs → with_block h b ≡ g → IsKept g ws new rest txids total
-block_kept h g b ws l more new ps rest txids count left total n j within settle sum same =
+pub block_kept : (h g : History) (b : ChainBlock) (w : PlainWatched) (ws : List (Vec ℕ Global × ℕ)) (l more new : Ledger) (ps rest : List (OutPoint × Held)) (txids : List (List ℕ)) (count left total : ℕ) → IsNext h b w ws l more ps txids count left → Joins l more new
+    → nat_le (length l.coins.entries + length more.coins.entries + left) 100_000 ≡ true → rest ≡ cond (nat_lt left (length ps)) (staying new.heights.entries ps) ps → total ≡ count + length b.txs → with_block h b ≡ g → IsLedger g w ws new rest txids total
+block_kept h g b w ws l more new ps rest txids count left total n j within settle sum same =
     let weights = n.kept.weights_are in
-    let chain = chain_joined (weight_for h.scripts) h.confirmed (confirmed_in b) l more new n.kept.chain (subst (λ (f : List ℕ → Option ℕ). HoldsChain f h.confirmed (confirmed_in b) more) weights n.holds)
+    let chain = chain_joined w (weight_for h.scripts) h.confirmed (confirmed_in b) l more new n.kept.chain (subst (λ (f : List ℕ → Option ℕ). HoldsChain w f h.confirmed (confirmed_in b) more) weights n.holds)
     (sym (λ i. fault_behind (points_in (weights i) h.confirmed) (points_in (weights i) (confirmed_in b))) ∙ n.none) j.heights_apart j.spends_apart j.coins j.heights j.spends in
     let a = n.kept.count_is in
     let m = length-map b.txs (confirmed_at b.height) in
     let c = length-append h.confirmed (confirmed_in b) in
-    subst (λ (g : History). IsKept g ws new rest txids total) same
+    subst (λ (g : History). IsLedger g w ws new rest txids total) same
     (record {
       weights_are = weights;
       chain = chain;
-      waiting = settled h b (weigher ws) more ps rest new.heights.entries left n.holds n.kept.waiting (λ t. height_at (weight_for h.scripts) (h.confirmed ++ confirmed_in b) new t chain) n.many settle;
+      waiting = settled h b w (weigher ws) more ps rest new.heights.entries left n.kept.watched n.holds n.kept.waiting (λ t seen. height_at w (weight_for h.scripts) (h.confirmed ++ confirmed_in b) new t chain seen) n.many settle;
+      watched = n.kept.watched;
       txids_are = n.kept.txids_are;
       count_is = omega arith;
-      sound = block_sound h b ws l more ps txids count left n within;
+      sound = block_sound h b w ws l more ps txids count left n within;
     })
 
 -- a ledger that tells the same serves as well
-pub block_back : (h : History) (ws : List (Vec ℕ Global × ℕ)) (l new : Ledger) (ps : List (OutPoint × Held)) (txids : List (List ℕ)) (count : ℕ) → IsKept h ws l ps txids count
-    → new.coins.entries ≡ l.coins.entries → new.heights.entries ≡ l.heights.entries → ((o : OutPoint) → spends_in new.spends.entries o ≡ spends_in l.spends.entries o) → IsKept h ws new ps txids count
-block_back h ws l new ps txids count k coins heights spends = record {
+pub block_back : (h : History) (w : PlainWatched) (ws : List (Vec ℕ Global × ℕ)) (l new : Ledger) (ps : List (OutPoint × Held)) (txids : List (List ℕ)) (count : ℕ) → IsLedger h w ws l ps txids count
+    → new.coins.entries ≡ l.coins.entries → new.heights.entries ≡ l.heights.entries → ((o : OutPoint) → spends_in new.spends.entries o ≡ spends_in l.spends.entries o) → IsLedger h w ws new ps txids count
+block_back h w ws l new ps txids count k coins heights spends = record {
   weights_are = k.weights_are;
-  chain = chain_same (weight_for h.scripts) h.confirmed l new k.chain coins heights spends;
+  chain = chain_same w (weight_for h.scripts) h.confirmed l new k.chain coins heights spends;
   waiting = k.waiting;
+  watched = k.watched;
   txids_are = k.txids_are;
   count_is = k.count_is;
   sound = k.sound;

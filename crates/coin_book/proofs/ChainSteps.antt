@@ -1,12 +1,12 @@
 -- One confirmed transaction more.
 use Rattle.std.proofs.Common.{◌≡◌, ◌∙◌, ℕ, zero, suc, ◌+◌, ◌<◌, ◌≤◌, Bool, true, false, cond, ◌||◌, ◌&&◌, not, List, [], ◌∷◌, ◌++◌, length, map, take, drop, get_or, Option, Some, None, refl, sym, ap, subst, arith, append_assoc, true≢false}
 use Rattle.std.specs.Prelude.{is_some, option_map, option_and_then, find, bytes_eq, slice_get}
-use Rattle.std.specs.List.{flat_map}
+use Rattle.std.specs.List.{flat_map, list_any}
 use Rattle.std.specs.Map.{keys_of, lookup}
 use Rattle.std.specs.Option.{option_or, option_to_list}
 use Rattle.std.proofs.lemmas.List.{append-nil, length-append, length-map, length-take-le, map-append, take-append-drop, take_more}
 use Rattle.std.proofs.lemmas.Grind.{flat_map-append}
-use Rattle.std.proofs.lemmas.List.Folds.{find-append}
+use Rattle.std.proofs.lemmas.List.Folds.{find-append, list_any-append}
 use Rattle.std.proofs.lemmas.Slice.Eq.{bytes_eq-Decides}
 use Rattle.fund_base.specs.declared.outpoint.OutPoint.{OutPoint}
 use Rattle.tx_codec.specs.Txid.{txid_of}
@@ -14,11 +14,13 @@ use Rattle.coin_book.specs.Coins.{Made, made_by}
 use Rattle.coin_book.specs.Faults.{points, fault_behind}
 use Rattle.coin_book.specs.History.{Confirmed}
 use Rattle.coin_book.specs.Invariant.{HoldsChain, HoldsCoins, held_made, is_known, made_at, points_in}
-use Rattle.coin_book.specs.Spends.{has_input, height_of, spend_at, spends_below, spends_of}
-use Rattle.coin_book.specs.Merging.{entry_of, held_point, spends_in}
+use Rattle.coin_book.specs.Spends.{has_input, has_spender, height_of, spend_at, spends_below, spends_of}
+use Rattle.coin_book.specs.Watched.{PlainWatched, kept_height, kept_spends, watches, watches_txid}
+use Rattle.coin_book.specs.Merging.{entry_of, held_point, is_new, is_spender, spends_in}
 use Rattle.coin_book.specs.declared.coin.Spend.{Spend}
 use Rattle.coin_book.specs.declared.fault.BookFault.{BookFault}
 use Rattle.coin_book.proofs.MapSteps.{fault_among, fault_more}
+use Rattle.coin_book.proofs.WatchSteps.{height_held, spends_held}
 use Rattle.coin_book.specs.declared.held.Held.{Held}
 use Rattle.coin_book.specs.declared.ledger.Ledger.{Ledger}
 
@@ -40,21 +42,48 @@ height_push chain c t =
     ∙ map_or (find same chain) (cond (same c) (Some c) None)
     ∙ ap (option_or (option_map (λ (d : Confirmed). d.height) (find same chain))) (one_height (same c) c)
 
-height_by : (height : ℕ) (h l : Option ℕ) (same known : Bool) → (same ≡ true → known ≡ (is_some h || is_some l))
-    → option_or (option_or h l) (cond same (Some height) None) ≡ option_or h (cond known l (cond same (Some height) l))
-height_by height (Some x) l same known e = refl
-height_by height None None true true e = absurd (true≢false (e refl))
-height_by height None None true false e = refl
-height_by height None None false true e = refl
-height_by height None None false false e = refl
-height_by height None (Some x) true true e = refl
-height_by height None (Some x) true false e = absurd (true≢false (sym (e refl)))
-height_by height None (Some x) false true e = refl
-height_by height None (Some x) false false e = refl
+no_more : (o : Option ℕ) → option_or o None ≡ o
+no_more None = refl
+no_more (Some x) = refl
 
 either : (a b : Option ℕ) → is_some (option_or a b) ≡ (is_some a || is_some b)
 either None b = refl
 either (Some x) b = refl
+
+-- one height more of those that are kept
+kept_height_push : (w : PlainWatched) (chain : List Confirmed) (c : Confirmed) (t : List ℕ)
+    → kept_height w (chain ++ c ∷ []) t ≡ option_or (kept_height w chain t) (cond (watches_txid w t && bytes_eq (txid_of c.tx) t) (Some c.height) None)
+unfolding kept_height
+kept_height_push w chain c t = by (watches_txid w t)
+  where
+    by : (b : Bool) → cond b (height_of (chain ++ c ∷ []) t) None ≡ option_or (cond b (height_of chain t) None) (cond (b && bytes_eq (txid_of c.tx) t) (Some c.height) None)
+    by true = height_push chain c t
+    by false = refl
+
+-- what is looked up after a height more, which is put where its txid is watched and not known
+height_by : (height : ℕ) (h l : Option ℕ) (same seen own known : Bool) → (same ≡ true → seen ≡ own) → (same ≡ true → known ≡ (is_some h || is_some l))
+    → option_or (option_or h l) (cond (seen && same) (Some height) None) ≡ option_or h (cond (not own || known) l (cond same (Some height) l))
+height_by height h l false seen own known e f = ap (λ (b : Bool). option_or (option_or h l) (cond b (Some height) None)) (none_both seen) ∙ no_more (option_or h l) ∙ ap (option_or h) (sym (all_same (not own || known)))
+  where
+    none_both : (b : Bool) → (b && false) ≡ false
+    none_both true = refl
+    none_both false = refl
+
+    all_same : (b : Bool) → cond b l l ≡ l
+    all_same true = refl
+    all_same false = refl
+height_by height h l true seen own known e f = by_own own (e refl)
+  where
+    by_known : (h l : Option ℕ) (known : Bool) → known ≡ (is_some h || is_some l) → option_or (option_or h l) (Some height) ≡ option_or h (cond known l (Some height))
+    by_known (Some x) l known e = refl
+    by_known None None true e = absurd (true≢false e)
+    by_known None None false e = refl
+    by_known None (Some x) true e = refl
+    by_known None (Some x) false e = absurd (true≢false (sym e))
+
+    by_own : (own : Bool) → seen ≡ own → option_or (option_or h l) (cond (seen && true) (Some height) None) ≡ option_or h (cond (not own || known) l (Some height))
+    by_own true is = ap (λ (b : Bool). option_or (option_or h l) (cond (b && true) (Some height) None)) is ∙ by_known h l known (f refl)
+    by_own false is = ap (λ (b : Bool). option_or (option_or h l) (cond (b && true) (Some height) None)) is ∙ no_more (option_or h l)
 
 -- ---- spends
 
@@ -67,8 +96,11 @@ seam : {X : Type 0} (xs : List X) (y : X) → (slice_get (xs ++ y ∷ []) (lengt
 seam [] y = (refl, refl)
 seam {X = X} (x ∷ xs) y = let h = seam xs y in (h.0, ap (λ (l : List X). x ∷ l) h.1)
 
+abbrev told : ℕ → Confirmed → Spend
+told n c = record { txid = txid_of c.tx; height = c.height; place = n }
+
 abbrev by_front : List Confirmed → OutPoint → ℕ → Confirmed → Option Spend
-by_front front o place c = cond (has_input o c.tx.inputs && not (is_some (height_of front (txid_of c.tx)))) (Some (record { txid = txid_of c.tx; height = c.height; place = place })) None
+by_front front o place c = cond (has_input o c.tx.inputs && not (has_spender front o (txid_of c.tx))) (Some (told place c)) None
 
 same_below : (chain more : List Confirmed) (o : OutPoint) (n : ℕ) → n ≤ length chain → spends_below (chain ++ more) o n ≡ spends_below chain o n
 unfolding spends_below spend_at
@@ -77,21 +109,61 @@ same_below chain more o (suc n) le =
     let h = left chain more n (omega arith) in
     (λ k. same_below chain more o n (omega arith) k ++ option_to_list (option_and_then (by_front (h.1 k) o n) (h.0 k)))
 
-listed_by : (a known : Bool) (s : Spend) → option_to_list (cond (a && not known) (Some s) None) ≡ cond known [] (cond a (s ∷ []) [])
-listed_by true true s = refl
-listed_by true false s = refl
-listed_by false true s = refl
-listed_by false false s = refl
+listed_by : (b : Bool) (s : Spend) → option_to_list (cond b (Some s) None) ≡ cond b (s ∷ []) []
+listed_by true s = refl
+listed_by false s = refl
 
-pub spends_push : (chain : List Confirmed) (c : Confirmed) (o : OutPoint)
-    → spends_of (chain ++ c ∷ []) o ≡ spends_of chain o ++ cond (is_some (height_of chain (txid_of c.tx))) [] (cond (has_input o c.tx.inputs) (record { txid = txid_of c.tx; height = c.height; place = length chain } ∷ []) [])
+spends_push : (chain : List Confirmed) (c : Confirmed) (o : OutPoint)
+    → spends_of (chain ++ c ∷ []) o ≡ spends_of chain o ++ cond (has_input o c.tx.inputs && not (has_spender chain o (txid_of c.tx))) (told (length chain) c ∷ []) []
 unfolding spends_below spend_at
 spends_push chain c o =
     let n : length (chain ++ c ∷ []) ≡ suc (length chain) = omega (arith, length-append chain (c ∷ [])) in
     let h = seam chain c in
     ap (spends_below (chain ++ c ∷ []) o) n
     ∙ (λ k. same_below chain (c ∷ []) o (length chain) (omega arith) k ++ option_to_list (option_and_then (by_front (h.1 k) o (length chain)) (h.0 k)))
-    ∙ ap (λ (l : List Spend). spends_of chain o ++ l) (listed_by (has_input o c.tx.inputs) (is_some (height_of chain (txid_of c.tx))) (record { txid = txid_of c.tx; height = c.height; place = length chain }))
+    ∙ ap (λ (l : List Spend). spends_of chain o ++ l) (listed_by (has_input o c.tx.inputs && not (has_spender chain o (txid_of c.tx))) (told (length chain) c))
+
+-- what holds of no list, and with one more of each of which it holds, holds of all
+from_front : {X : Type 0} (P : List X → Type 0) → ((xs : List X) (x : X) → P xs → P (xs ++ x ∷ [])) → (xs ys : List X) → P xs → P (xs ++ ys)
+from_front P next xs [] h = subst P (sym (append-nil xs)) h
+from_front P next xs (y ∷ ys) h = subst P (append_assoc xs (y ∷ []) ys) (from_front P next (xs ++ y ∷ []) ys (next xs y h))
+
+-- a spend that is listed tells of one that spends
+spender_is : (chain : List Confirmed) (o : OutPoint) (t : List ℕ) → is_spender (spends_of chain o) t ≡ has_spender chain o t
+unfolding is_spender has_spender spends_below
+spender_is chain o t = from_front (λ (l : List Confirmed). is_spender (spends_of l o) t ≡ has_spender l o t) next [] chain refl
+  where
+    one : (c : Confirmed) (n : ℕ) (old mine spent same : Bool) → bytes_eq (txid_of c.tx) t ≡ same → (same ≡ true → spent ≡ old)
+        → (old || list_any (λ (s : Spend). bytes_eq s.txid t) (cond (mine && not spent) (told n c ∷ []) [])) ≡ (old || ((same && mine) || false))
+    one c n old true false true e h = ap (λ (b : Bool). old || (b || false)) e
+    one c n old true false false e h = ap (λ (b : Bool). old || (b || false)) e
+    one c n old true true true e h = ap (λ (b : Bool). b || false) (sym (h refl)) ∙ ap (λ (b : Bool). b || true) (h refl)
+    one c n old true true false e h = refl
+    one c n old false spent true e h = refl
+    one c n old false spent false e h = refl
+
+    next : (l : List Confirmed) (c : Confirmed) → is_spender (spends_of l o) t ≡ has_spender l o t → is_spender (spends_of (l ++ c ∷ []) o) t ≡ has_spender (l ++ c ∷ []) o t
+    next l c h =
+        let spent = has_spender l o (txid_of c.tx) in
+        ap (λ (s : List Spend). is_spender s t) (spends_push l c o)
+        ∙ list_any-append (λ (s : Spend). bytes_eq s.txid t) (spends_of l o) (cond (has_input o c.tx.inputs && not spent) (told (length l) c ∷ []) [])
+        ∙ ap (λ (b : Bool). b || list_any (λ (s : Spend). bytes_eq s.txid t) (cond (has_input o c.tx.inputs && not spent) (told (length l) c ∷ []) [])) h
+        ∙ one c (length l) (has_spender l o t) (has_input o c.tx.inputs) spent (bytes_eq (txid_of c.tx) t) refl (λ same. ap (has_spender l o) ((bytes_eq-Decides (txid_of c.tx) t).0 same))
+        ∙ sym (list_any-append (λ (d : Confirmed). bytes_eq (txid_of d.tx) t && has_input o d.tx.inputs) l (c ∷ []))
+
+-- one spend more of those that are kept
+kept_push : (w : PlainWatched) (chain : List Confirmed) (c : Confirmed) (o : OutPoint)
+    → kept_spends w (chain ++ c ∷ []) o ≡ kept_spends w chain o ++ cond (has_input o c.tx.inputs && (watches w o && not (is_spender (kept_spends w chain o) (txid_of c.tx)))) (told (length chain) c ∷ []) []
+unfolding kept_spends
+kept_push w chain c o = by (watches w o)
+  where
+    none_both : (b : Bool) → [] ≡ cond (b && false) (told (length chain) c ∷ []) []
+    none_both true = refl
+    none_both false = refl
+
+    by : (b : Bool) → cond b (spends_of (chain ++ c ∷ []) o) [] ≡ cond b (spends_of chain o) [] ++ cond (has_input o c.tx.inputs && (b && not (is_spender (cond b (spends_of chain o) []) (txid_of c.tx)))) (told (length chain) c ∷ []) []
+    by true = spends_push chain c o ∙ ap (λ (b : Bool). spends_of chain o ++ cond (has_input o c.tx.inputs && not b) (told (length chain) c ∷ []) []) (sym (spender_is chain o (txid_of c.tx)))
+    by false = none_both (has_input o c.tx.inputs)
 
 -- ---- coins
 
@@ -119,55 +191,75 @@ flat_push weigh chain c = flat_map-append (made_by weigh) chain (c ∷ []) ∙ a
 -- ---- a ledger with one transaction more
 
 -- a txid that stands in front gets no height here
-stays_out : (known same : Bool) (l : Option ℕ) (height : ℕ) → l ≡ None → (same ≡ true → known ≡ true) → cond known l (cond same (Some height) l) ≡ None
+stays_out : (skip same : Bool) (l : Option ℕ) (height : ℕ) → l ≡ None → (same ≡ true → skip ≡ true) → cond skip l (cond same (Some height) l) ≡ None
 stays_out true same l height none e = none
 stays_out false true l height none e = absurd (true≢false (sym (e refl)))
 stays_out false false l height none e = none
 
--- what the maps of heights and spends were given
-pub record Grown (known : Bool) (spend : Spend) (c : Confirmed) (old new : Ledger) : Type 0 where
-  pub heights : (t : List ℕ) → lookup (bytes_eq t) new.heights.entries ≡ cond known (lookup (bytes_eq t) old.heights.entries) (cond (bytes_eq spend.txid t) (Some spend.height) (lookup (bytes_eq t) old.heights.entries))
-  pub spends : (o : OutPoint) → spends_in new.spends.entries o ≡ spends_in old.spends.entries o ++ cond known [] (cond (has_input o c.tx.inputs) (spend ∷ []) [])
+or_right : (a b : Bool) → b ≡ true → (a || b) ≡ true
+or_right true b e = refl
+or_right false b e = e
 
-pub chain_more : (weigh : List ℕ → Option ℕ) (before behind : List Confirmed) (base old new : Ledger) (c : Confirmed) (held : List Held) (spend : Spend)
-    → HoldsChain weigh [] before base → HoldsChain weigh before behind old → spend ≡ record { txid = txid_of c.tx; height = c.height; place = length (before ++ behind) }
-    → map held_made held ≡ made_by weigh c → new.coins.entries ≡ old.coins.entries ++ map entry_of held → Grown (is_known base old spend.txid) spend c old new
-    → HoldsChain weigh before (behind ++ c ∷ []) new
-unfolding height_of
-chain_more weigh before behind base old new c held spend under h is made coins g =
+-- what the maps of heights and spends were given
+pub record Grown (w : PlainWatched) (spend : Spend) (c : Confirmed) (base old new : Ledger) : Type 0 where
+  pub heights : (t : List ℕ)
+      → lookup (bytes_eq t) new.heights.entries ≡ cond (not (watches_txid w spend.txid) || is_known base old spend.txid) (lookup (bytes_eq t) old.heights.entries) (cond (bytes_eq spend.txid t) (Some spend.height) (lookup (bytes_eq t) old.heights.entries))
+  pub spends : (o : OutPoint) → spends_in new.spends.entries o ≡ spends_in old.spends.entries o ++ cond (has_input o c.tx.inputs && is_new w base.spends.entries old.spends.entries spend.txid o) (spend ∷ []) []
+
+-- the spends of the transaction are put after those that are kept
+spends_more : (w : PlainWatched) (weigh : List ℕ → Option ℕ) (before behind : List Confirmed) (base old : Ledger) (c : Confirmed) (spend : Spend) (o : OutPoint) → HoldsChain w weigh [] before base → HoldsChain w weigh before behind old
+    → spend ≡ told (length (before ++ behind)) c
+    → kept_spends w ((before ++ behind) ++ c ∷ []) o ≡ kept_spends w before o ++ (spends_in old.spends.entries o ++ cond (has_input o c.tx.inputs && is_new w base.spends.entries old.spends.entries spend.txid o) (spend ∷ []) [])
+unfolding is_spender
+spends_more w weigh before behind base old c spend o under h is =
+    let chain = before ++ behind in
+    let mine = has_input o c.tx.inputs in
+    let front = kept_spends w before o in
+    let own = spends_in old.spends.entries o in
+    let one = told (length chain) c in
+    let put : Bool → List Spend = λ b. cond (mine && (watches w o && not b)) (one ∷ []) [] in
+    kept_push w chain c o
+    ∙ ap (λ (l : List Spend). l ++ put (is_spender l (txid_of c.tx))) (h.spends o)
+    ∙ ap (λ (b : Bool). (front ++ own) ++ put b)
+    (list_any-append (λ (s : Spend). bytes_eq s.txid (txid_of c.tx)) front own ∙ ap (λ (l : List Spend). is_spender l (txid_of c.tx) || is_spender own (txid_of c.tx)) (spends_held w weigh before base o under))
+    ∙ (λ k. (front ++ own) ++ cond (mine && is_new w base.spends.entries old.spends.entries (sym is k).txid o) (sym is k ∷ []) [])
+    ∙ append_assoc front own (cond (mine && is_new w base.spends.entries old.spends.entries spend.txid o) (spend ∷ []) [])
+
+pub chain_more : (w : PlainWatched) (weigh : List ℕ → Option ℕ) (before behind : List Confirmed) (base old new : Ledger) (c : Confirmed) (held : List Held) (spend : Spend)
+    → HoldsChain w weigh [] before base → HoldsChain w weigh before behind old → spend ≡ record { txid = txid_of c.tx; height = c.height; place = length (before ++ behind) }
+    → map held_made held ≡ made_by weigh c → new.coins.entries ≡ old.coins.entries ++ map entry_of held → Grown w spend c base old new
+    → HoldsChain w weigh before (behind ++ c ∷ []) new
+chain_more w weigh before behind base old new c held spend under h is made coins g =
     let id = txid_of c.tx in
     let chain = before ++ behind in
     let known = is_known base old spend.txid in
+    let own = watches_txid w spend.txid in
     let id_is : spend.txid ≡ id = ap (λ (s : Spend). s.txid) is in
     let tall : spend.height ≡ c.height = ap (λ (s : Spend). s.height) is in
     let longer : before ++ (behind ++ c ∷ []) ≡ chain ++ c ∷ [] = sym (append_assoc before behind (c ∷ [])) in
-    let known_at : (t : List ℕ) → is_known base old t ≡ (is_some (height_of before t) || is_some (lookup (bytes_eq t) old.heights.entries)) =
-    λ t. ap (λ (o : Option ℕ). is_some o || is_some (lookup (bytes_eq t) old.heights.entries)) (sym (under.heights t))
-    in
-    let known_is : known ≡ is_some (height_of chain id) =
-    ap (is_known base old) id_is ∙ known_at id ∙ sym (either (height_of before id) (lookup (bytes_eq id) old.heights.entries)) ∙ ap (λ (o : Option ℕ). is_some o) (sym (h.heights id))
+    let known_at : (t : List ℕ) → is_known base old t ≡ (is_some (kept_height w before t) || is_some (lookup (bytes_eq t) old.heights.entries)) =
+    λ t. ap (λ (o : Option ℕ). is_some o || is_some (lookup (bytes_eq t) old.heights.entries)) (sym (height_held w weigh before base t under))
     in
     record {
       coins = subst (λ (l : List Made). HoldsCoins l new.coins.entries) (sym (flat_push weigh behind c)) (coins_more (flat_map (made_by weigh) behind) (made_by weigh c) old.coins.entries new.coins.entries held h.coins made coins);
       spends = λ o.
-          ap (λ (l : List Confirmed). spends_of l o) longer
-          ∙ spends_push chain c o
-          ∙ (λ k. h.spends o k ++ cond (sym known_is k) [] (cond (has_input o c.tx.inputs) (sym is k ∷ []) []))
-          ∙ append_assoc (spends_of before o) (spends_in old.spends.entries o) (cond known [] (cond (has_input o c.tx.inputs) (spend ∷ []) []))
-          ∙ ap (λ (l : List Spend). spends_of before o ++ l) (sym (g.spends o));
+          ap (λ (l : List Confirmed). kept_spends w l o) longer
+          ∙ spends_more w weigh before behind base old c spend o under h is
+          ∙ ap (λ (l : List Spend). kept_spends w before o ++ l) (sym (g.spends o));
       heights = λ t.
-          ap (λ (l : List Confirmed). height_of l t) longer
-          ∙ height_push chain c t
-          ∙ ap (λ (o : Option ℕ). option_or o (cond (bytes_eq id t) (Some c.height) None)) (h.heights t)
-          ∙ height_by c.height (height_of before t) (lookup (bytes_eq t) old.heights.entries) (bytes_eq id t) known
+          ap (λ (l : List Confirmed). kept_height w l t) longer
+          ∙ kept_height_push w chain c t
+          ∙ ap (λ (o : Option ℕ). option_or o (cond (watches_txid w t && bytes_eq id t) (Some c.height) None)) (h.heights t)
+          ∙ height_by c.height (kept_height w before t) (lookup (bytes_eq t) old.heights.entries) (bytes_eq id t) (watches_txid w t) own known
+          (λ same. ap (watches_txid w) (sym (id_is ∙ (bytes_eq-Decides id t).0 same)))
           (λ same. ap (is_known base old) (id_is ∙ (bytes_eq-Decides id t).0 same) ∙ known_at t)
-          ∙ (λ k. option_or (height_of before t) (cond known (lookup (bytes_eq t) old.heights.entries) (cond (bytes_eq (sym id_is k) t) (Some (sym tall k)) (lookup (bytes_eq t) old.heights.entries))))
-          ∙ ap (option_or (height_of before t)) (sym (g.heights t));
+          ∙ (λ k. option_or (kept_height w before t) (cond (not own || known) (lookup (bytes_eq t) old.heights.entries) (cond (bytes_eq (sym id_is k) t) (Some (sym tall k)) (lookup (bytes_eq t) old.heights.entries))))
+          ∙ ap (option_or (kept_height w before t)) (sym (g.heights t));
       apart = λ t there.
           g.heights t
-          ∙ stays_out known (bytes_eq spend.txid t) (lookup (bytes_eq t) old.heights.entries) spend.height (h.apart t there)
-          (λ same. known_is ∙ ap (λ (o : Option ℕ). is_some o) (h.heights id) ∙ either (height_of before id) (lookup (bytes_eq id) old.heights.entries)
-          ∙ ap (λ (b : Bool). b || is_some (lookup (bytes_eq id) old.heights.entries)) (ap (λ (x : List ℕ). is_some (height_of before x)) (sym id_is ∙ (bytes_eq-Decides spend.txid t).0 same) ∙ there));
+          ∙ stays_out (not own || known) (bytes_eq spend.txid t) (lookup (bytes_eq t) old.heights.entries) spend.height (h.apart t there)
+          (λ same. or_right (not own) known
+          (known_at spend.txid ∙ ap (λ (b : Bool). b || is_some (lookup (bytes_eq spend.txid) old.heights.entries)) (ap (λ (x : List ℕ). is_some (kept_height w before x)) ((bytes_eq-Decides spend.txid t).0 same) ∙ there)));
     }
 
 -- ---- faults after two ledgers
@@ -180,34 +272,20 @@ points_of held made is = sym (entries_points held) ∙ keys_entries held ∙ ap 
     entries_points [] = refl
     entries_points (x ∷ xs) = ap (λ (l : List OutPoint). held_point x ∷ l) (entries_points xs)
 
-pub held_points : (weigh : List ℕ → Option ℕ) (before behind : List Confirmed) (base old : Ledger) (c : Confirmed) (held : List Held) → HoldsChain weigh [] before base → HoldsChain weigh before behind old → map held_made held ≡ made_by weigh c
+pub held_points : (w : PlainWatched) (weigh : List ℕ → Option ℕ) (before behind : List Confirmed) (base old : Ledger) (c : Confirmed) (held : List Held) → HoldsChain w weigh [] before base → HoldsChain w weigh before behind old → map held_made held ≡ made_by weigh c
     → fault_behind (keys_of base.coins.entries ++ keys_of old.coins.entries) (map held_point held) ≡ fault_behind (points_in weigh before ++ points_in weigh behind) (points (made_by weigh c))
-held_points weigh before behind base old c held under h is = λ k. fault_behind (under.coins.keys_are k ++ h.coins.keys_are k) (points_of held (made_by weigh c) is k)
+held_points w weigh before behind base old c held under h is = λ k. fault_behind (under.coins.keys_are k ++ h.coins.keys_are k) (points_of held (made_by weigh c) is k)
 
 -- ---- chains
 
--- a ledger of nothing
-pub no_chain : (weigh : List ℕ → Option ℕ) (l : Ledger) → l.coins.entries ≡ [] → l.spends.entries ≡ [] → l.heights.entries ≡ [] → HoldsChain weigh [] [] l
-unfolding spends_below height_of
-no_chain weigh l coins spends heights = record {
-  coins = record { made_is = ap (map made_at) coins; keys_are = ap (λ (es : List (OutPoint × Held)). keys_of es) coins };
-  spends = λ o. sym (λ k. spends_in (spends k) o);
-  heights = λ t. sym (λ k. lookup (bytes_eq t) (heights k));
-  apart = λ t there. absurd cc;
-}
-
 -- a ledger of nothing after others
-pub none_behind : (weigh : List ℕ → Option ℕ) (before : List Confirmed) (l : Ledger) → l.coins.entries ≡ [] → l.spends.entries ≡ [] → l.heights.entries ≡ [] → HoldsChain weigh before [] l
-none_behind weigh before l coins spends heights = record {
+pub none_behind : (w : PlainWatched) (weigh : List ℕ → Option ℕ) (before : List Confirmed) (l : Ledger) → l.coins.entries ≡ [] → l.spends.entries ≡ [] → l.heights.entries ≡ [] → HoldsChain w weigh before [] l
+none_behind w weigh before l coins spends heights = record {
   coins = record { made_is = ap (map made_at) coins; keys_are = ap (λ (es : List (OutPoint × Held)). keys_of es) coins };
-  spends = λ o. ap (λ (l : List Confirmed). spends_of l o) (append-nil before) ∙ sym (append-nil (spends_of before o)) ∙ (λ k. spends_of before o ++ spends_in (sym spends k) o);
-  heights = λ t. ap (λ (l : List Confirmed). height_of l t) (append-nil before) ∙ sym (no_more (height_of before t)) ∙ (λ k. option_or (height_of before t) (lookup (bytes_eq t) (sym heights k)));
+  spends = λ o. ap (λ (l : List Confirmed). kept_spends w l o) (append-nil before) ∙ sym (append-nil (kept_spends w before o)) ∙ (λ k. kept_spends w before o ++ spends_in (sym spends k) o);
+  heights = λ t. ap (λ (l : List Confirmed). kept_height w l t) (append-nil before) ∙ sym (no_more (kept_height w before t)) ∙ (λ k. option_or (kept_height w before t) (lookup (bytes_eq t) (sym heights k)));
   apart = λ t there. ap (lookup (bytes_eq t)) heights;
 }
-  where
-    no_more : (o : Option ℕ) → option_or o None ≡ o
-    no_more None = refl
-    no_more (Some x) = refl
 
 pub points_push : (weigh : List ℕ → Option ℕ) (front more : List Confirmed) → points_in weigh (front ++ more) ≡ points_in weigh front ++ points_in weigh more
 points_push weigh front more = ap points (flat_map-append (made_by weigh) front more) ∙ map-append (λ (m : Made). m.coin.coin) (flat_map (made_by weigh) front) (flat_map (made_by weigh) more)

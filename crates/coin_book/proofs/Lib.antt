@@ -1,3 +1,4 @@
+pub mod AskedSteps
 pub mod BlockSteps
 pub mod CallSteps
 pub mod ChainSteps
@@ -8,6 +9,7 @@ pub mod LawSteps
 pub mod ListSteps
 pub mod MapSteps
 pub mod MergeSteps
+pub mod NewSpends
 pub mod OutputSteps
 pub mod PendingSteps
 pub mod RepeatSteps
@@ -18,4 +20,5 @@ pub mod Started
 pub mod StaySteps
 pub mod ToldSteps
 pub mod WaitSteps
+pub mod WatchSteps
 pub mod WeightSteps

@@ -1,5 +1,5 @@
 -- Entries of the maps, one put or added at a time.
-use Rattle.std.proofs.Common.{◌≡◌, ◌∙◌, ◌+◌, arith, length, get_or, take, Bool, true, false, cond, ◌||◌, List, [], ◌∷◌, ◌++◌, map, Option, Some, None, refl, sym, ap, Vec, Global, append_assoc, true≢false}
+use Rattle.std.proofs.Common.{◌≡◌, ◌∙◌, ◌+◌, arith, length, take, Bool, true, false, cond, ◌||◌, List, [], ◌∷◌, ◌++◌, map, Option, Some, None, refl, sym, ap, Vec, Global, append_assoc, true≢false}
 use Rattle.std.specs.Prelude.{is_some, nat_lt}
 use Rattle.std.specs.List.{list_any}
 use Rattle.std.specs.Map.{keys_of, lookup}
@@ -10,10 +10,8 @@ use Rattle.std.proofs.lemmas.List.Folds.{list_any-append}
 use Rattle.std.proofs.lemmas.Map.Made.{is_some-lookup}
 use Rattle.fund_base.specs.Outpoints.{same_outpoint}
 use Rattle.fund_base.specs.declared.outpoint.OutPoint.{OutPoint}
-use Rattle.tx_codec.specs.declared.tx.TxIn.{TxIn}
 use Rattle.coin_book.specs.Faults.{fault_behind}
 use Rattle.coin_book.specs.Merging.{StopsShort, entry_of, held_point}
-use Rattle.coin_book.specs.Spends.{has_input}
 use Rattle.coin_book.specs.declared.fault.BookFault.{BookFault}
 use Rattle.coin_book.specs.declared.fault.BookFault.TheVariants.{Full, RepeatCoin}
 use Rattle.coin_book.specs.declared.coin.Spend.{Spend}
@@ -101,33 +99,6 @@ none_is (Some x) e = absurd (true≢false e)
 pub absent : {X : Type 0} (base : List OutPoint) (es : List (OutPoint × X)) (p : OutPoint) (b : Bool) → b ≡ false → b ≡ (list_any (same_outpoint p) base || list_any (same_outpoint p) (keys_of es)) → lookup (same_outpoint p) es ≡ None
 absent base es p b gone told =
     none_is (lookup (same_outpoint p) es) (is_some-lookup (same_outpoint p) es ∙ or_none (list_any (same_outpoint p) base) (list_any (same_outpoint p) (keys_of es)) (sym told ∙ gone))
-
--- ---- each outpoint once
-
-one_alone : (b : Bool) → b ≡ (b || false)
-one_alone true = refl
-one_alone false = refl
-
--- the only input of a transaction
-pub only_input : (inputs : List TxIn) (x : TxIn) → length inputs ≡ 1 → x ≡ get_or inputs 0 x → (o : OutPoint) → same_outpoint x.prev o ≡ has_input o inputs
-unfolding has_input
-only_input [] x long is o = absurd (omega arith)
-only_input (y ∷ []) x long is o = ap (λ (i : TxIn). same_outpoint i.prev o) is ∙ one_alone (same_outpoint y.prev o)
-only_input (y ∷ z ∷ l) x long is o = absurd (omega arith)
-
-pub once : {X : Type 0} (front seen here : Bool) (l : List X) → (here ≡ true → front ≡ seen) → cond front l [] ++ cond seen [] (cond here l []) ≡ cond (front || here) l []
-once true true here l h = append-nil l
-once true false true l h = absurd (true≢false (h refl))
-once true false false l h = append-nil l
-once false true true l h = absurd (true≢false (sym (h refl)))
-once false true false l h = refl
-once false false here l h = refl
-
-pub first_more : (a b : Bool) → (a || b) ≡ (b || a)
-first_more true true = refl
-first_more true false = refl
-first_more false true = refl
-first_more false false = refl
 
 -- ---- coins one by one
 

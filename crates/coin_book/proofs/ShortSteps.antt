@@ -13,8 +13,9 @@ use Rattle.tx_codec.specs.Txid.{txid_of}
 use Rattle.coin_book.specs.Coins.{IsFirstPlace, Made, NoneBelow, coin_at, coins_below, made_by, made_in, weight_for}
 use Rattle.coin_book.specs.Faults.{fault_behind, points}
 use Rattle.coin_book.specs.History.{Confirmed, History, confirmed_in}
-use Rattle.coin_book.specs.Invariant.{HoldsChain, IsKept, points_in, weigher}
+use Rattle.coin_book.specs.Invariant.{HoldsChain, IsLedger, points_in, weigher}
 use Rattle.coin_book.specs.Short.{IsShortFor, StopsAt}
+use Rattle.coin_book.specs.Watched.{PlainWatched}
 use Rattle.coin_book.specs.declared.fault.BookFault.{BookFault}
 use Rattle.coin_book.specs.declared.fault.BookFault.TheVariants.{Full, Memory, RepeatCoin}
 use Rattle.coin_book.specs.declared.held.Held.{Held}
@@ -112,7 +113,7 @@ first_fault : (before os : List OutPoint) (e : BookFault) → fault_behind befor
 first_fault before [] e here = here
 first_fault before (o ∷ os) e here = fault_among before (o ∷ []) os e here
 
--- a fault of outpoints is no want of memory
+-- a fault of outpoints isn't being out of memory
 never_memory : (before os : List OutPoint) → fault_behind before (take 1 os) ≡ Some Memory → ⊥
 unfolding fault_behind
 never_memory before [] is = absurd cc
@@ -155,9 +156,9 @@ none_told before os none = ap (λ (l : List OutPoint). unwrap_or (fault_behind b
 -- ---- a transaction behind others
 
 -- the keys of the maps are the outpoints of the coins
-pub keys_points : (weigh : List ℕ → Option ℕ) (before behind : List Confirmed) (base old : Ledger) (os : List OutPoint) → HoldsChain weigh [] before base → HoldsChain weigh before behind old
+pub keys_points : (w : PlainWatched) (weigh : List ℕ → Option ℕ) (before behind : List Confirmed) (base old : Ledger) (os : List OutPoint) → HoldsChain w weigh [] before base → HoldsChain w weigh before behind old
     → fault_behind (keys_of base.coins.entries ++ keys_of old.coins.entries) os ≡ fault_behind (points_in weigh before ++ points_in weigh behind) os
-keys_points weigh before behind base old os under h = λ k. fault_behind (under.coins.keys_are k ++ h.coins.keys_are k) os
+keys_points w weigh before behind base old os under h = λ k. fault_behind (under.coins.keys_are k ++ h.coins.keys_are k) os
 
 -- memory was short for this one
 pub stops_at : (weigh : List ℕ → Option ℕ) (before all front : List Confirmed) (one : Confirmed) (rest : List Confirmed) → all ≡ (front ++ one ∷ []) ++ rest → fault_behind (points_in weigh before) (points_in weigh front) ≡ None
@@ -171,5 +172,5 @@ stops_at weigh before all front one rest parts fresh here = record {
 }
 
 -- memory was short for a transaction of a block, under the weights that are held
-pub short_block : (h : History) (ws : List (Vec ℕ Global × ℕ)) (l : Ledger) (ps : List (OutPoint × Held)) (txids : List (List ℕ)) (count : ℕ) (b : ChainBlock) (chain : List Confirmed) → IsKept h ws l ps txids count → chain ≡ confirmed_in b → StopsAt (weigher ws) h.confirmed chain → IsShortFor h b
-short_block h ws l ps txids count b chain k same stops = inl (subst (StopsAt (weight_for h.scripts) h.confirmed) same (subst (λ (f : List ℕ → Option ℕ). StopsAt f h.confirmed chain) k.weights_are stops))
+pub short_block : (h : History) (w : PlainWatched) (ws : List (Vec ℕ Global × ℕ)) (l : Ledger) (ps : List (OutPoint × Held)) (txids : List (List ℕ)) (count : ℕ) (b : ChainBlock) (chain : List Confirmed) → IsLedger h w ws l ps txids count → chain ≡ confirmed_in b → StopsAt (weigher ws) h.confirmed chain → IsShortFor h b
+short_block h w ws l ps txids count b chain k same stops = inl (subst (StopsAt (weight_for h.scripts) h.confirmed) same (subst (λ (f : List ℕ → Option ℕ). StopsAt f h.confirmed chain) k.weights_are stops))

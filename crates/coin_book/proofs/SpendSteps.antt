@@ -17,7 +17,7 @@ use Rattle.fund_base.proofs.OutpointLaws.{same_outpoint-Decides}
 use Rattle.tx_codec.specs.declared.tx.TxIn.{TxIn}
 use Rattle.tx_codec.specs.Txid.{txid_of}
 use Rattle.coin_book.specs.History.{Confirmed}
-use Rattle.coin_book.specs.Spends.{IsSpendOf, has_input, height_of, spend_at, spend_by, spends_below, spends_of}
+use Rattle.coin_book.specs.Spends.{IsSpendOf, has_input, has_spender, height_of, spend_at, spend_by, spends_below, spends_of}
 use Rattle.coin_book.specs.declared.coin.Spend.{Spend}
 
 -- ---- txids in the chain
@@ -47,6 +47,29 @@ pub has_one : (o : OutPoint) (inputs : List TxIn) → Any (λ (i : TxIn). i.prev
 unfolding has_input
 has_one o inputs a = list_any-from_Any (λ (i : TxIn). same_outpoint i.prev o) inputs (a.0, a.1, a.2, a.3, (same_outpoint-Decides a.1.prev o).1 a.4)
 
+-- ---- who spends it before
+
+both_true : (a b : Bool) → (a && b) ≡ true → (a ≡ true) × (b ≡ true)
+both_true true b e = (refl, e)
+both_true false b e = absurd (true≢false (sym e))
+
+abbrev SpendsToo : OutPoint → List ℕ → Confirmed → Type 0
+SpendsToo o t c = txid_of c.tx ≡ t → Any (λ (i : TxIn). i.prev ≡ o) c.tx.inputs → ⊥
+
+pub none_spends : (chain : List Confirmed) (o : OutPoint) (t : List ℕ) → has_spender chain o t ≡ false → All (SpendsToo o t) chain
+unfolding has_spender
+none_spends chain o t none = λ k d lt same spends.
+    let c = get_or chain k d in
+    true≢false (sym (list_any_at (λ (c : Confirmed). bytes_eq (txid_of c.tx) t && has_input o c.tx.inputs) chain k d lt (λ j. (bytes_eq-Decides (txid_of c.tx) t).1 same j && has_one o c.tx.inputs spends j)) ∙ none)
+
+pub no_spender : (chain : List Confirmed) (o : OutPoint) (t : List ℕ) → All (SpendsToo o t) chain → has_spender chain o t ≡ false
+unfolding has_spender
+no_spender chain o t apart =
+    list_any_none (λ (c : Confirmed). bytes_eq (txid_of c.tx) t && has_input o c.tx.inputs) chain
+    (λ k d lt. let c = get_or chain k d in
+    false_from_ne_true (bytes_eq (txid_of c.tx) t && has_input o c.tx.inputs)
+    (λ is. let p = both_true (bytes_eq (txid_of c.tx) t) (has_input o c.tx.inputs) is in apart k d lt ((bytes_eq-Decides (txid_of c.tx) t).0 p.0) (spends_by_one o c.tx.inputs p.1)))
+
 -- ---- one place
 
 abbrev told : ℕ → Confirmed → Spend
@@ -54,13 +77,13 @@ told n c = record { txid = txid_of c.tx; height = c.height; place = n }
 
 -- what is listed of a transaction is of one that spends the outpoint, the first of its txid
 this_one : (chain : List Confirmed) (o : OutPoint) (n : ℕ) (c : Confirmed) (s : Spend) → slice_get chain n ≡ Some c → spend_by chain o n c ≡ Some s → IsSpendOf chain o s × (s.place ≡ n)
-this_one chain o n c s at is = by (has_input o c.tx.inputs) (is_some (height_of (take n chain) (txid_of c.tx))) refl refl is
+this_one chain o n c s at is = by (has_input o c.tx.inputs) (has_spender (take n chain) o (txid_of c.tx)) refl refl is
   where
-    by : (b known : Bool) → has_input o c.tx.inputs ≡ b → is_some (height_of (take n chain) (txid_of c.tx)) ≡ known → cond (b && not known) (Some (told n c)) None ≡ Some s → IsSpendOf chain o s × (s.place ≡ n)
+    by : (b known : Bool) → has_input o c.tx.inputs ≡ b → has_spender (take n chain) o (txid_of c.tx) ≡ known → cond (b && not known) (Some (told n c)) None ≡ Some s → IsSpendOf chain o s × (s.place ≡ n)
     by true false e f is =
         let same : told n c ≡ s = cc in
         subst (λ (x : Spend). IsSpendOf chain o x × (x.place ≡ n)) same
-        (record { by = c; stands = at; txid_is = refl; height_is = refl; spends = spends_by_one o c.tx.inputs e; first = none_before (take n chain) (txid_of c.tx) f }, refl)
+        (record { by = c; stands = at; txid_is = refl; height_is = refl; spends = spends_by_one o c.tx.inputs e; first = none_spends (take n chain) o (txid_of c.tx) f }, refl)
     by true true e f is = absurd cc
     by false known e f is = absurd cc
 
@@ -77,8 +100,8 @@ pub told_at : (chain : List Confirmed) (o : OutPoint) (s : Spend) → IsSpendOf 
 unfolding spend_at
 told_at chain o s h =
     ap (option_and_then (spend_by chain o s.place)) h.stands
-    ∙ ap (λ (b : Bool). cond (b && not (is_some (height_of (take s.place chain) (txid_of h.by.tx)))) (Some (told s.place h.by)) None) (has_one o h.by.tx.inputs h.spends)
-    ∙ ap (λ (b : Bool). cond (not b) (Some (told s.place h.by)) None) (not_known (take s.place chain) (txid_of h.by.tx) (subst (λ (t : List ℕ). All (λ (c : Confirmed). txid_of c.tx ≢ t) (take s.place chain)) h.txid_is h.first))
+    ∙ ap (λ (b : Bool). cond (b && not (has_spender (take s.place chain) o (txid_of h.by.tx))) (Some (told s.place h.by)) None) (has_one o h.by.tx.inputs h.spends)
+    ∙ ap (λ (b : Bool). cond (not b) (Some (told s.place h.by)) None) (no_spender (take s.place chain) o (txid_of h.by.tx) (subst (λ (t : List ℕ). All (SpendsToo o t) (take s.place chain)) h.txid_is h.first))
     ∙ ap (λ (t : List ℕ). Some (record { txid = t; height = h.by.height; place = s.place })) (sym h.txid_is)
     ∙ ap (λ (n : ℕ). Some (record { txid = s.txid; height = n; place = s.place })) (sym h.height_is)
 

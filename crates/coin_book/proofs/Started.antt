@@ -5,24 +5,26 @@ use Rattle.std.specs.Map.{keys_of}
 use Rattle.tx_codec.specs.Transaction.{Transaction}
 use Rattle.block_feed.specs.Block.{ChainBlock}
 use Rattle.std.proofs.lemmas.List.{append-nil, length-map}
+use Rattle.std.proofs.lemmas.List.Elements.{All-nil}
 use Rattle.fund_base.specs.declared.outpoint.OutPoint.{OutPoint}
 use Rattle.wallet_text.specs.PlainWallet.{Earlier, PlainWallet}
 use Rattle.wallet_text.specs.declared.wallet.Watch.{Watch}
 use Rattle.coin_book.specs.Coins.{Made, confirmed_made, pending_made, weight_for}
 use Rattle.coin_book.specs.Faults.{fault_behind, fault_of, points}
 use Rattle.coin_book.specs.History.{History, confirmed_before, start_of}
-use Rattle.coin_book.specs.Invariant.{HoldsChain, IsKept, history_of, made_at, points_in, weigher}
+use Rattle.coin_book.specs.Invariant.{HoldsChain, IsLedger, history_of, made_at, points_in, weigher}
+use Rattle.coin_book.specs.Watched.{IsWatched, PlainWatched}
 use Rattle.coin_book.specs.declared.fault.BookFault.{BookFault}
 use Rattle.coin_book.specs.declared.held.Held.{Held}
 use Rattle.coin_book.specs.declared.ledger.Ledger.{Ledger}
 use Rattle.coin_book.proofs.FaultSteps.{fault_first, fault_rest, few, room_for}
 
 -- the wallet's ledger, whatever its scripts and transactions are called
-pub started : (w : PlainWallet) (ws : List (Vec ℕ Global × ℕ)) (scripts : List Watch) (earlier : List Earlier) (l : Ledger) → scripts ≡ w.scripts → earlier ≡ w.earlier → weigher ws ≡ weight_for scripts
-    → HoldsChain (weigher ws) [] (map confirmed_before earlier) l → HoldsChain (weight_for w.scripts) [] (map confirmed_before w.earlier) l
-started w ws scripts earlier l s e weigh h =
-    subst (λ (es : List Earlier). HoldsChain (weight_for w.scripts) [] (map confirmed_before es) l) e
-    (subst (λ (f : List ℕ → Option ℕ). HoldsChain f [] (map confirmed_before earlier) l) (weigh ∙ ap weight_for s) h)
+pub started : (w : PlainWallet) (seen : PlainWatched) (ws : List (Vec ℕ Global × ℕ)) (scripts : List Watch) (earlier : List Earlier) (l : Ledger) → scripts ≡ w.scripts → earlier ≡ w.earlier → weigher ws ≡ weight_for scripts
+    → HoldsChain seen (weigher ws) [] (map confirmed_before earlier) l → HoldsChain seen (weight_for w.scripts) [] (map confirmed_before w.earlier) l
+started w seen ws scripts earlier l s e weigh h =
+    subst (λ (es : List Earlier). HoldsChain seen (weight_for w.scripts) [] (map confirmed_before es) l) e
+    (subst (λ (f : List ℕ → Option ℕ). HoldsChain seen f [] (map confirmed_before earlier) l) (weigh ∙ ap weight_for s) h)
 
 -- the fault of the confirmed coins, in the same way
 pub told : (w : PlainWallet) (ws : List (Vec ℕ Global × ℕ)) (scripts : List Watch) (earlier : List Earlier) → scripts ≡ w.scripts → earlier ≡ w.earlier → weigher ws ≡ weight_for scripts
@@ -49,15 +51,16 @@ same_start w v blocks waiting is none_in none_wait =
     (λ k. record { scripts = w.scripts; confirmed = sym (append-nil (map confirmed_before w.earlier)) k; pending = [] })
     ∙ (λ k. history_of (sym is k) (sym none_in k) (sym none_wait k))
 
-pub start_kept : (w v : PlainWallet) (ws : List (Vec ℕ Global × ℕ)) (scripts : List Watch) (earlier : List Earlier) (l : Ledger) (blocks : List (Snapshot ChainBlock)) (waiting : List (Snapshot Transaction)) (ps : List (OutPoint × Held)) (txids : List (List ℕ)) (count : ℕ)
-    → v ≡ w → scripts ≡ w.scripts → earlier ≡ w.earlier → weigher ws ≡ weight_for scripts → HoldsChain (weigher ws) [] (map confirmed_before earlier) l → fault_behind [] (points_in (weigher ws) (map confirmed_before earlier)) ≡ None
-    → blocks ≡ [] → waiting ≡ [] → ps ≡ [] → txids ≡ [] → count ≡ length w.earlier → IsKept (history_of v blocks waiting) ws l ps txids count
-start_kept w v ws scripts earlier l blocks waiting ps txids count is s e weigh holds fresh none_in none_wait no_coins no_txids many =
-    subst (λ (h : History). IsKept h ws l ps txids count) (same_start w v blocks waiting is none_in none_wait)
+pub start_kept : (w v : PlainWallet) (seen : PlainWatched) (ws : List (Vec ℕ Global × ℕ)) (scripts : List Watch) (earlier : List Earlier) (l : Ledger) (blocks : List (Snapshot ChainBlock)) (waiting : List (Snapshot Transaction)) (ps : List (OutPoint × Held)) (txids : List (List ℕ)) (count : ℕ)
+    → v ≡ w → scripts ≡ w.scripts → earlier ≡ w.earlier → weigher ws ≡ weight_for scripts → HoldsChain seen (weigher ws) [] (map confirmed_before earlier) l → fault_behind [] (points_in (weigher ws) (map confirmed_before earlier)) ≡ None
+    → blocks ≡ [] → waiting ≡ [] → ps ≡ [] → txids ≡ [] → count ≡ length w.earlier → IsLedger (history_of v blocks waiting) seen ws l ps txids count
+start_kept w v seen ws scripts earlier l blocks waiting ps txids count is s e weigh holds fresh none_in none_wait no_coins no_txids many =
+    subst (λ (h : History). IsLedger h seen ws l ps txids count) (same_start w v blocks waiting is none_in none_wait)
     (record {
       weights_are = weigh ∙ ap weight_for s;
-      chain = started w ws scripts earlier l s e weigh holds;
+      chain = started w seen ws scripts earlier l s e weigh holds;
       waiting = record { made_is = ap (map made_at) no_coins; keys_are = ap (λ (es : List (OutPoint × Held)). keys_of es) no_coins };
+      watched = All-nil (IsWatched seen);
       txids_are = no_txids;
       count_is = many ∙ sym (length-map w.earlier confirmed_before);
       sound = start_answer w ws scripts earlier s e weigh fresh;

@@ -1,11 +1,11 @@
 -- Coins that wait on, and those that move to a block.
-use Rattle.std.proofs.Common.{◌≡◌, ◌∙◌, ℕ, zero, suc, ◌≤◌, Bool, true, false, cond, ◌||◌, List, [], ◌∷◌, ◌++◌, length, map, filter, Option, Some, None, refl, sym, ap, subst, arith, slice_get, true≢false}
+use Rattle.std.proofs.Common.{◌≡◌, ◌∙◌, ℕ, zero, suc, ◌≤◌, Bool, true, false, cond, ◌||◌, List, [], ◌∷◌, ◌++◌, length, map, filter, Option, Some, None, All, refl, sym, ap, subst, arith, slice_get, true≢false}
 use Rattle.std.specs.Prelude.{bytes_eq, is_none, is_some, nat_le, nat_lt, option_and_then, option_map}
 use Rattle.std.specs.List.{flat_map, list_any}
 use Rattle.std.specs.Map.{keys_of, lookup}
 use Rattle.std.specs.Option.{option_or, option_to_list}
 use Rattle.std.proofs.lemmas.Bool.{ltb-false}
-use Rattle.std.proofs.lemmas.List.Elements.{filter-append}
+use Rattle.std.proofs.lemmas.List.Elements.{All-head, All-tail, filter-append}
 use Rattle.std.proofs.lemmas.Map.Made.{is_some-lookup}
 use Rattle.std.proofs.lemmas.Slice.Eq.{bytes_eq-Decides}
 use Rattle.coin_book.proofs.WeightSteps.{or_none}
@@ -21,10 +21,12 @@ use Rattle.coin_book.specs.Faults.{points}
 use Rattle.coin_book.specs.History.{History, confirmed_in, with_block}
 use Rattle.coin_book.specs.Invariant.{HoldsChain, HoldsCoins, made_at}
 use Rattle.coin_book.specs.Spends.{height_of}
+use Rattle.coin_book.specs.Watched.{IsWatched, PlainWatched, watches_txid}
 use Rattle.coin_book.specs.Merging.{shares, staying, stays}
 use Rattle.coin_book.specs.declared.held.Held.{Held}
 use Rattle.coin_book.specs.declared.ledger.Ledger.{Ledger}
 use Rattle.coin_book.proofs.FaultSteps.{held_count}
+use Rattle.coin_book.proofs.WatchSteps.{height_behind, watched_txid}
 
 abbrev Entries : Type 0
 Entries = List (OutPoint × Held)
@@ -105,13 +107,13 @@ all_passed g weigh (t ∷ ts) =
 
 -- ---- tests one after the other
 
-twice : (p q r : Transaction → Bool) → ((t : Transaction) → q t ≡ true → p t ≡ r t) → ((t : Transaction) → q t ≡ false → r t ≡ false) → (ts : List Transaction) → filter p (filter q ts) ≡ filter r ts
-twice p q r both less [] = refl
-twice p q r both less (t ∷ ts) = by (q t) refl (twice p q r both less ts)
+twice : (p q r : Transaction → Bool) (W : Transaction → Type 0) → ((t : Transaction) → W t → q t ≡ true → p t ≡ r t) → ((t : Transaction) → W t → q t ≡ false → r t ≡ false) → (ts : List Transaction) → All W ts → filter p (filter q ts) ≡ filter r ts
+twice p q r W both less [] all = refl
+twice p q r W both less (t ∷ ts) all = by (q t) refl (twice p q r W both less ts (All-tail W t ts all))
   where
     by : (b : Bool) → q t ≡ b → filter p (filter q ts) ≡ filter r ts → filter p (cond b (t ∷ filter q ts) (filter q ts)) ≡ cond (r t) (t ∷ filter r ts) (filter r ts)
-    by true e rest = (λ k. cond (both t e k) (t ∷ rest k) (rest k))
-    by false e rest = rest ∙ sym (ap (λ (b : Bool). cond b (t ∷ filter r ts) (filter r ts)) (less t e))
+    by true e rest = (λ k. cond (both t (All-head W t ts all) e k) (t ∷ rest k) (rest k))
+    by false e rest = rest ∙ sym (ap (λ (b : Bool). cond b (t ∷ filter r ts) (filter r ts)) (less t (All-head W t ts all) e))
 
 -- ---- entries
 
@@ -155,21 +157,21 @@ second None b e = refl
 second (Some x) b e = absurd (true≢false (sym e))
 
 -- The coins of a test that agrees, on the txids that were open, with what is open after the block.
-pub stay_kept : (h : History) (b : ChainBlock) (weigh : List ℕ → Option ℕ) (more : Ledger) (es : List (OutPoint × Held)) (g : List ℕ → Bool) → HoldsChain weigh h.confirmed (confirmed_in b) more
-    → ((t : Transaction) → is_open h.confirmed t ≡ true → g (txid_of t) ≡ is_open (h.confirmed ++ confirmed_in b) t) → HoldsCoins (pending_made h) es → HoldsCoins (pending_made (with_block h b)) (kept g es)
-stay_kept h b weigh more es g holds agrees w =
+pub stay_kept : (h : History) (b : ChainBlock) (w : PlainWatched) (weigh : List ℕ → Option ℕ) (more : Ledger) (es : List (OutPoint × Held)) (g : List ℕ → Bool) → All (IsWatched w) h.pending → HoldsChain w weigh h.confirmed (confirmed_in b) more
+    → ((t : Transaction) → IsWatched w t → is_open h.confirmed t ≡ true → g (txid_of t) ≡ is_open (h.confirmed ++ confirmed_in b) t) → HoldsCoins (pending_made h) es → HoldsCoins (pending_made (with_block h b)) (kept g es)
+stay_kept h b w weigh more es g all holds agrees waits =
     let f = made_in (weight_for h.scripts) None in
     subst (λ (m : List Made). HoldsCoins m (kept g es))
     (all_passed g (weight_for h.scripts) (filter (is_open h.confirmed) h.pending)
-    ∙ ap (flat_map f) (twice (λ (t : Transaction). g (txid_of t)) (is_open h.confirmed) (is_open (h.confirmed ++ confirmed_in b)) agrees
-    (λ t e. ap (λ (o : Option ℕ). is_none o) (holds.heights (txid_of t)) ∙ either (height_of h.confirmed (txid_of t)) (lookup (bytes_eq (txid_of t)) more.heights.entries) e) h.pending))
-    (stay_holds g (pending_made h) es w)
+    ∙ ap (flat_map f) (twice (λ (t : Transaction). g (txid_of t)) (is_open h.confirmed) (is_open (h.confirmed ++ confirmed_in b)) (IsWatched w) agrees
+    (λ t seen e. ap (λ (o : Option ℕ). is_none o) (height_behind w weigh h.confirmed (confirmed_in b) more (txid_of t) holds seen.txid) ∙ either (height_of h.confirmed (txid_of t)) (lookup (bytes_eq (txid_of t)) more.heights.entries) e) h.pending all))
+    (stay_holds g (pending_made h) es waits)
 
 -- the block's own heights agree
-block_agrees : (h : History) (b : ChainBlock) (weigh : List ℕ → Option ℕ) (more : Ledger) → HoldsChain weigh h.confirmed (confirmed_in b) more
-    → (t : Transaction) → is_open h.confirmed t ≡ true → is_none (lookup (bytes_eq (txid_of t)) more.heights.entries) ≡ is_open (h.confirmed ++ confirmed_in b) t
-block_agrees h b weigh more holds t e =
-    sym (ap (λ (o : Option ℕ). is_none o) (holds.heights (txid_of t)) ∙ second (height_of h.confirmed (txid_of t)) (lookup (bytes_eq (txid_of t)) more.heights.entries) e)
+block_agrees : (h : History) (b : ChainBlock) (w : PlainWatched) (weigh : List ℕ → Option ℕ) (more : Ledger) → HoldsChain w weigh h.confirmed (confirmed_in b) more
+    → (t : Transaction) → IsWatched w t → is_open h.confirmed t ≡ true → is_none (lookup (bytes_eq (txid_of t)) more.heights.entries) ≡ is_open (h.confirmed ++ confirmed_in b) t
+block_agrees h b w weigh more holds t seen e =
+    sym (ap (λ (o : Option ℕ). is_none o) (height_behind w weigh h.confirmed (confirmed_in b) more (txid_of t) holds seen.txid) ∙ second (height_of h.confirmed (txid_of t)) (lookup (bytes_eq (txid_of t)) more.heights.entries) e)
 
 -- ---- how many stay
 
@@ -208,26 +210,26 @@ none_is : (o : Option ℕ) → is_some o ≡ false → o ≡ None
 none_is None e = refl
 none_is (Some x) e = absurd (true≢false e)
 
-pub left_is : (h : History) (b : ChainBlock) (weigh : List ℕ → Option ℕ) (more : Ledger) (es : List (OutPoint × Held)) (txids : List (List ℕ)) (left : ℕ) → HoldsChain weigh h.confirmed (confirmed_in b) more → HoldsCoins (pending_made h) es → txids ≡ map txid_of h.pending
+pub left_is : (h : History) (b : ChainBlock) (w : PlainWatched) (weigh : List ℕ → Option ℕ) (more : Ledger) (es : List (OutPoint × Held)) (txids : List (List ℕ)) (left : ℕ) → All (IsWatched w) h.pending → HoldsChain w weigh h.confirmed (confirmed_in b) more → HoldsCoins (pending_made h) es → txids ≡ map txid_of h.pending
     → left ≡ cond (shares txids more.heights.entries) (length (filter (stays more.heights.entries) (keys_of es))) (length es) → left ≡ length (pending_made (with_block h b))
-left_is h b weigh more es txids left holds w are is = is ∙ by (shares txids more.heights.entries) refl
+left_is h b w weigh more es txids left all holds waits are is = is ∙ by (shares txids more.heights.entries) refl
   where
     counted : length (filter (stays more.heights.entries) (keys_of es)) ≡ length (pending_made (with_block h b))
     counted =
         key_filter (stays more.heights.entries) es
         ∙ held_count (pending_made (with_block h b)) (staying more.heights.entries es)
-        (stay_kept h b weigh more es (λ x. is_none (lookup (bytes_eq x) more.heights.entries)) holds (block_agrees h b weigh more holds) w)
+        (stay_kept h b w weigh more es (λ x. is_none (lookup (bytes_eq x) more.heights.entries)) all holds (block_agrees h b w weigh more holds) waits)
 
     open_still : shares txids more.heights.entries ≡ false → (t : Transaction) → list_any (bytes_eq (txid_of t)) (map txid_of h.pending) ≡ true → is_open h.confirmed t ≡ is_open (h.confirmed ++ confirmed_in b) t
     open_still free t is =
         let none = none_is (lookup (bytes_eq (txid_of t)) more.heights.entries)
         (is_some-lookup (bytes_eq (txid_of t)) more.heights.entries ∙ not_among (txid_of t) txids (keys_of more.heights.entries) free (ap (list_any (bytes_eq (txid_of t))) are ∙ is)) in
-        sym (ap (λ (o : Option ℕ). is_none o) (holds.heights (txid_of t) ∙ ap (option_or (height_of h.confirmed (txid_of t))) none ∙ or_none (height_of h.confirmed (txid_of t))))
+        sym (ap (λ (o : Option ℕ). is_none o) (height_behind w weigh h.confirmed (confirmed_in b) more (txid_of t) holds (watched_txid w h.pending (txid_of t) all is) ∙ ap (option_or (height_of h.confirmed (txid_of t))) none ∙ or_none (height_of h.confirmed (txid_of t))))
 
     by : (x : Bool) → shares txids more.heights.entries ≡ x → cond x (length (filter (stays more.heights.entries) (keys_of es))) (length es) ≡ length (pending_made (with_block h b))
     by true e = counted
     by false e =
-        held_count (pending_made h) es w
+        held_count (pending_made h) es waits
         ∙ ap (λ (ts : List Transaction). length (flat_map (made_in (weight_for h.scripts) None) ts)) (agree_in (is_open h.confirmed) (is_open (h.confirmed ++ confirmed_in b)) h.pending (open_still e))
 
 -- ---- what is left
@@ -240,13 +242,13 @@ filter_full {X = X} p (x ∷ xs) le = by (p x) (filter_le p xs) (filter_full p x
     by true few rest le = ap (λ (l : List X). x ∷ l) (rest (omega arith))
     by false few rest le = absurd (omega arith)
 
-pub settled : (h : History) (b : ChainBlock) (weigh : List ℕ → Option ℕ) (more : Ledger) (es new : List (OutPoint × Held)) (heights : List (List ℕ × ℕ)) (left : ℕ) → HoldsChain weigh h.confirmed (confirmed_in b) more → HoldsCoins (pending_made h) es
-    → ((t : List ℕ) → height_of (h.confirmed ++ confirmed_in b) t ≡ lookup (bytes_eq t) heights) → left ≡ length (pending_made (with_block h b)) → new ≡ cond (nat_lt left (length es)) (staying heights es) es → HoldsCoins (pending_made (with_block h b)) new
-settled h b weigh more es new heights left holds w told many is =
+pub settled : (h : History) (b : ChainBlock) (w : PlainWatched) (weigh : List ℕ → Option ℕ) (more : Ledger) (es new : List (OutPoint × Held)) (heights : List (List ℕ × ℕ)) (left : ℕ) → All (IsWatched w) h.pending → HoldsChain w weigh h.confirmed (confirmed_in b) more → HoldsCoins (pending_made h) es
+    → ((t : List ℕ) → watches_txid w t ≡ true → height_of (h.confirmed ++ confirmed_in b) t ≡ lookup (bytes_eq t) heights) → left ≡ length (pending_made (with_block h b)) → new ≡ cond (nat_lt left (length es)) (staying heights es) es → HoldsCoins (pending_made (with_block h b)) new
+settled h b w weigh more es new heights left all holds waits told many is =
     subst (λ (l : List (OutPoint × Held)). HoldsCoins (pending_made (with_block h b)) l) (sym is) (by (nat_lt left (length es)) refl)
   where
     filtered : HoldsCoins (pending_made (with_block h b)) (staying heights es)
-    filtered = stay_kept h b weigh more es (λ x. is_none (lookup (bytes_eq x) heights)) holds (λ t e. sym (ap (λ (o : Option ℕ). is_none o) (told (txid_of t)))) w
+    filtered = stay_kept h b w weigh more es (λ x. is_none (lookup (bytes_eq x) heights)) all holds (λ t seen e. sym (ap (λ (o : Option ℕ). is_none o) (told (txid_of t) seen.txid))) waits
 
     by : (x : Bool) → nat_lt left (length es) ≡ x → HoldsCoins (pending_made (with_block h b)) (cond x (staying heights es) es)
     by true e = filtered

@@ -1,5 +1,5 @@
 -- How a book holds a history.
-use Rattle.std.specs.Prelude.{ℕ, ◌≡◌, ◌||◌, Bool, true, is_some, List, [], ◌++◌, length, map, flat_map, bytes_eq, Option, None, Vec, if◌then◌else◌}
+use Rattle.std.specs.Prelude.{ℕ, ◌≡◌, ◌||◌, All, Bool, true, is_some, List, [], ◌++◌, length, map, flat_map, bytes_eq, Option, None, Vec, if◌then◌else◌}
 use Rattle.std.specs.declared.alloc.Global.{Global}
 use Rattle.std.specs.declared.snapshot.Snapshot.{Snapshot}
 use Rattle.std.specs.Map.{keys_of, lookup}
@@ -13,7 +13,7 @@ use Rattle.coin_book.specs.Coins.{Made, made_by, made_in, pending_made, weight_f
 use Rattle.coin_book.specs.Faults.{fault_of, points}
 use Rattle.coin_book.specs.History.{Confirmed, History, confirmed_before, confirmed_in}
 use Rattle.coin_book.specs.Merging.{spends_in}
-use Rattle.coin_book.specs.Spends.{height_of, spends_of}
+use Rattle.coin_book.specs.Watched.{IsWatched, PlainWatched, kept_height, kept_spends}
 use Rattle.coin_book.specs.declared.coin.Coin.{Coin}
 use Rattle.coin_book.specs.declared.held.Held.{Held}
 use Rattle.coin_book.specs.declared.ledger.Ledger.{Ledger}
@@ -39,12 +39,12 @@ pub record HoldsCoins (made : List Made) (entries : List (OutPoint × Held)) : T
   pub made_is : map made_at entries ≡ made
   pub keys_are : keys_of entries ≡ points made
 
--- What a ledger holds of the confirmed transactions that stand after others.
-pub record HoldsChain (weigh : List ℕ → Option ℕ) (before behind : List Confirmed) (l : Ledger) : Type 0 where
+-- What a ledger holds of the confirmed transactions that stand after others, where so much of them is kept.
+pub record HoldsChain (w : PlainWatched) (weigh : List ℕ → Option ℕ) (before behind : List Confirmed) (l : Ledger) : Type 0 where
   pub coins : HoldsCoins (flat_map (made_by weigh) behind) l.coins.entries
-  pub spends : (o : OutPoint) → spends_of (before ++ behind) o ≡ spends_of before o ++ spends_in l.spends.entries o
-  pub heights : (txid : List ℕ) → height_of (before ++ behind) txid ≡ option_or (height_of before txid) (lookup (bytes_eq txid) l.heights.entries)
-  pub apart : (txid : List ℕ) → is_some (height_of before txid) ≡ true → lookup (bytes_eq txid) l.heights.entries ≡ None
+  pub spends : (o : OutPoint) → kept_spends w (before ++ behind) o ≡ kept_spends w before o ++ spends_in l.spends.entries o
+  pub heights : (txid : List ℕ) → kept_height w (before ++ behind) txid ≡ option_or (kept_height w before txid) (lookup (bytes_eq txid) l.heights.entries)
+  pub apart : (txid : List ℕ) → is_some (kept_height w before txid) ≡ true → lookup (bytes_eq txid) l.heights.entries ≡ None
 
 -- a transaction of this txid stands in one of two ledgers
 abbrev pub is_known : Ledger → Ledger → List ℕ → Bool
@@ -66,11 +66,12 @@ history_of w blocks waiting = record {
   pending = map (λ (s : Snapshot Transaction). s.value) waiting;
 }
 
--- the history has no fault, and what the book holds is determined by it
-pub record IsKept (h : History) (weights : List (Vec ℕ Global × ℕ)) (ledger : Ledger) (pending : List (OutPoint × Held)) (txids : List (List ℕ)) (count : ℕ) : Type 0 where
+-- the history has no fault, and what the book holds is determined by it and by what is kept
+pub record IsLedger (h : History) (w : PlainWatched) (weights : List (Vec ℕ Global × ℕ)) (ledger : Ledger) (pending : List (OutPoint × Held)) (txids : List (List ℕ)) (count : ℕ) : Type 0 where
   pub weights_are : weigher weights ≡ weight_for h.scripts
-  pub chain : HoldsChain (weight_for h.scripts) [] h.confirmed ledger
+  pub chain : HoldsChain w (weight_for h.scripts) [] h.confirmed ledger
   pub waiting : HoldsCoins (pending_made h) pending
+  pub watched : All (IsWatched w) h.pending
   pub txids_are : txids ≡ map txid_of h.pending
   pub count_is : count ≡ length h.confirmed
   pub sound : fault_of h ≡ None

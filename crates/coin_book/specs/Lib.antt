@@ -1,3 +1,4 @@
+pub mod Asked
 pub mod AtOutpoint
 pub mod Coinbase
 pub mod Coins
@@ -10,3 +11,4 @@ pub mod Outputs
 pub mod Repeats
 pub mod Short
 pub mod Spends
+pub mod Watched

@@ -1,5 +1,5 @@
 -- The confirmed transactions: at which height each stands, and what they spend.
-use Rattle.std.specs.Prelude.{ℕ, zero, suc, ◌≡◌, ◌≢◌, All, ◌&&◌, not, List, [], ◌++◌, length, bytes_eq, take, find, slice_get, is_some, Bool, Option, Some, None, option_map, option_and_then, if◌then◌else◌}
+use Rattle.std.specs.Prelude.{ℕ, zero, suc, ◌≡◌, All, ◌&&◌, not, List, [], ◌++◌, length, bytes_eq, take, find, slice_get, Bool, Option, Some, None, option_map, option_and_then, if◌then◌else◌}
 use Rattle.std.specs.List.{Any, list_any}
 use Rattle.std.specs.Option.{option_to_list}
 use Rattle.fund_base.specs.Outpoints.{same_outpoint}
@@ -17,10 +17,14 @@ height_of chain txid = option_map (λ (c : Confirmed). c.height) (find (λ (c : 
 unfoldable pub has_input : OutPoint → List TxIn → Bool
 has_input o inputs = list_any (λ (i : TxIn). same_outpoint i.prev o) inputs
 
--- the transaction at this place of the chain, where it spends the outpoint and none of its txid stands before it
+-- some transaction of this txid spends the outpoint
+unfoldable pub has_spender : List Confirmed → OutPoint → List ℕ → Bool
+has_spender chain o txid = list_any (λ (c : Confirmed). bytes_eq (txid_of c.tx) txid && has_input o c.tx.inputs) chain
+
+-- the transaction at this place of the chain, where it spends the outpoint and none of its txid does so before it
 abbrev pub spend_by : List Confirmed → OutPoint → ℕ → Confirmed → Option Spend
 spend_by chain o place c =
-    if has_input o c.tx.inputs && not (is_some (height_of (take place chain) (txid_of c.tx)))
+    if has_input o c.tx.inputs && not (has_spender (take place chain) o (txid_of c.tx))
     then Some (record { txid = txid_of c.tx; height = c.height; place = place }) else None
 
 unfoldable pub spend_at : List Confirmed → OutPoint → ℕ → Option Spend
@@ -36,11 +40,11 @@ abbrev pub spends_of : List Confirmed → OutPoint → List Spend
 spends_of chain o = spends_below chain o (length chain)
 
 -- The chain holds a transaction at the place of s that has its txid and height and spends the outpoint by some input,
--- and none of its txid stands before it.
+-- and none of its txid does so before it.
 pub record IsSpendOf (chain : List Confirmed) (o : OutPoint) (s : Spend) : Type 0 where
   pub by : Confirmed
   pub stands : slice_get chain s.place ≡ Some by
   pub txid_is : s.txid ≡ txid_of by.tx
   pub height_is : s.height ≡ by.height
   pub spends : Any (λ (i : TxIn). i.prev ≡ o) by.tx.inputs
-  pub first : All (λ (c : Confirmed). txid_of c.tx ≢ s.txid) (take s.place chain)
+  pub first : All (λ (c : Confirmed). txid_of c.tx ≡ s.txid → Any (λ (i : TxIn). i.prev ≡ o) c.tx.inputs → ⊥) (take s.place chain)

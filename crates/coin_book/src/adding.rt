@@ -1,6 +1,6 @@
 //! Transactions added to a ledger.
 
-ghost use Rattle.std.specs.Prelude.{ℕ, ◌≡◌, ◌+◌, ◌<◌, ◌^◌, ◌++◌, ◌∷◌, [], Err, IfOk, IfSome, List, None, OnErr, OnOk, Option, Some, bytes_eq, false, is_some, length, map, not, take, unwrap_or, if◌then◌else◌};
+ghost use Rattle.std.specs.Prelude.{ℕ, ◌≡◌, ◌+◌, ◌<◌, ◌^◌, ◌++◌, ◌&&◌, ◌||◌, ◌∷◌, [], Err, IfOk, IfSome, List, None, OnOk, Option, Some, bytes_eq, is_some, length, map, not, take, unwrap_or, if◌then◌else◌};
 ghost use Rattle.std.specs.Map.{keys_of, lookup};
 ghost use Rattle.fund_base.specs.declared.outpoint.OutPoint.{OutPoint};
 ghost use Rattle.tx_codec.specs.Txid.{txid_of};
@@ -9,14 +9,16 @@ ghost use Rattle.coin_book.specs.Faults.{points, fault_behind};
 ghost use Rattle.coin_book.specs.History.{Confirmed, confirmed_at};
 ghost use Rattle.coin_book.specs.Invariant.{HoldsChain, is_known, points_in, weigher};
 ghost use Rattle.coin_book.specs.Spends.{has_input};
-ghost use Rattle.coin_book.specs.Merging.{Meets, spends_in};
+ghost use Rattle.coin_book.specs.Merging.{Meets, is_new, spends_in};
 ghost use Rattle.coin_book.specs.Short.{StopsAt};
+ghost use Rattle.coin_book.specs.Watched.{watches_txid};
 ghost use Rattle.coin_book.specs.declared.fault.BookFault.TheVariants.{Memory as NoMemory};
 
 use crate::coin::Spend;
 use crate::fault::BookFault;
 use crate::ledger::{Ledger, Weights, add_coins, add_spends, point_fault};
 use crate::making::{first_point, held_in};
+use crate::watched::Watched;
 use fund_base::{Memory, Txid};
 use indexmap::IndexMap;
 use indexmap::map::Entry;
@@ -34,20 +36,33 @@ fn has_height(heights: &IndexMap<Txid, u32>, txid: &Txid) -> bool
     heights.contains_key(txid)
 }
 
-/// Keeps the height of a transaction of this txid, unless the txid has one. Gives whether it had none: only then does it
-/// take memory.
-fn add_height(heights: &mut IndexMap<Txid, u32>, txid: Txid, height: u32) -> Result<bool, Memory>
-    ensures fresh { IfOk result (λ fresh. fresh ≡ not (is_some (lookup (bytes_eq txid) heights.old.entries))) }
-    ensures short { OnErr result (is_some (lookup (bytes_eq txid) heights.old.entries) ≡ false) }
-    ensures heights { (t : List ℕ) → OnOk result (lookup (bytes_eq t) heights.new.entries ≡ (if is_some (lookup (bytes_eq txid) heights.old.entries) then lookup (bytes_eq t) heights.old.entries else if bytes_eq txid t then Some height else lookup (bytes_eq t) heights.old.entries)) }
+/// Keeps the height of a transaction of this txid, unless the txid has one.
+fn add_height(heights: &mut IndexMap<Txid, u32>, txid: Txid, height: u32) -> Result<(), Memory>
+    ensures { (t : List ℕ) → OnOk result (lookup (bytes_eq t) heights.new.entries ≡ (if is_some (lookup (bytes_eq txid) heights.old.entries) then lookup (bytes_eq t) heights.old.entries else if bytes_eq txid t then Some height else lookup (bytes_eq t) heights.old.entries)) }
 {
     match heights.entry(txid)? {
         Entry::Vacant(place) => {
             place.insert(height);
-            Ok(true)
         }
-        Entry::Occupied(_) => Ok(false),
+        Entry::Occupied(_) => {}
     }
+    Ok(())
+}
+
+/// Keeps the height of a transaction where its txid is watched, unless one of its txid stands in these or in the other
+/// ledger.
+fn add_watched_height(
+    heights: &mut IndexMap<Txid, u32>,
+    base: &Ledger,
+    watched: &Watched,
+    spend: &Spend,
+) -> Result<(), Memory>
+    ensures { (t : List ℕ) → OnOk result (lookup (bytes_eq t) heights.new.entries ≡ (if not (watches_txid watched.now spend.now.txid) || (is_some (lookup (bytes_eq spend.now.txid) base.now.heights.entries) || is_some (lookup (bytes_eq spend.now.txid) heights.old.entries)) then lookup (bytes_eq t) heights.old.entries else if bytes_eq spend.now.txid t then Some spend.now.height else lookup (bytes_eq t) heights.old.entries)) }
+{
+    if !watched.has_txid(&spend.txid) || has_height(&base.heights, &spend.txid) {
+        return Ok(());
+    }
+    add_height(heights, spend.txid, spend.height)
 }
 
 /// What is told of a transaction of this txid where memory is short before its coins are added: the fault of its first coin,
@@ -63,29 +78,29 @@ fn fault_or_short(base: &Ledger, own: &Ledger, weights: &Weights, tx: &Tx, txid:
 }
 
 impl Ledger {
-    /// Adds the height and the spends of a transaction of this txid, unless one stands here or in the other ledger: then
-    /// it takes no memory.
+    /// Adds the height of a transaction of this txid where that is watched, unless one stands here or in the other ledger;
+    /// and those of its spends that are to be kept.
     fn add_spender(
         &mut self,
         alloc: Global,
         base: &Ledger,
+        watched: &Watched,
         inputs: &[TxIn],
         spend: &Spend,
     ) -> Result<(), Memory>
         ensures coins { self.new.coins ≡ self.old.coins }
-        ensures short { OnErr result (is_known base.now self.old spend.now.txid ≡ false) }
-        ensures heights { (t : List ℕ) → OnOk result (lookup (bytes_eq t) self.new.heights.entries ≡ (if is_known base.now self.old spend.now.txid then lookup (bytes_eq t) self.old.heights.entries else if bytes_eq spend.now.txid t then Some spend.now.height else lookup (bytes_eq t) self.old.heights.entries)) }
-        ensures spends { (o : OutPoint) → OnOk result (spends_in self.new.spends.entries o ≡ spends_in self.old.spends.entries o ++ (if is_known base.now self.old spend.now.txid then [] else if has_input o inputs.now then spend.now ∷ [] else [])) }
+        ensures heights { (t : List ℕ) → OnOk result (lookup (bytes_eq t) self.new.heights.entries ≡ (if not (watches_txid watched.now spend.now.txid) || is_known base.now self.old spend.now.txid then lookup (bytes_eq t) self.old.heights.entries else if bytes_eq spend.now.txid t then Some spend.now.height else lookup (bytes_eq t) self.old.heights.entries)) }
+        ensures spends { (o : OutPoint) → OnOk result (spends_in self.new.spends.entries o ≡ spends_in self.old.spends.entries o ++ (if has_input o inputs.now && is_new watched.now base.now.spends.entries self.old.spends.entries spend.now.txid o then spend.now ∷ [] else [])) }
     {
-        if has_height(&base.heights, &spend.txid) {
-            return Ok(());
-        }
-        let fresh = add_height(&mut self.heights, spend.txid, spend.height)?;
-        if fresh {
-            add_spends(alloc, &mut self.spends, inputs, spend)
-        } else {
-            Ok(())
-        }
+        add_watched_height(&mut self.heights, base, watched, spend)?;
+        add_spends(
+            alloc,
+            &mut self.spends,
+            &base.spends,
+            watched,
+            inputs,
+            spend,
+        )
     }
 
     /// Adds the transaction that stands after these and those of `base`, with its txid, height and place. Its coins share
@@ -96,6 +111,7 @@ impl Ledger {
         &mut self,
         alloc: Global,
         base: &Ledger,
+        watched: &Watched,
         weights: &Weights,
         tx: &Tx,
         shared: Option<&Rc<Tx>>,
@@ -103,11 +119,11 @@ impl Ledger {
     ) -> Result<(), BookFault>
         requires spend { spend.now.txid ≡ txid_of tx.now }
         requires shared { IfSome shared (λ maker. maker.now.value ≡ tx.now) }
-        ensures holds { (before behind : List Confirmed) → HoldsChain (weigher weights.now.entries) [] before base.now → HoldsChain (weigher weights.now.entries) before behind self.old → spend.now.place ≡ length (before ++ behind)
-            → OnOk result (HoldsChain (weigher weights.now.entries) before (behind ++ confirmed_at spend.now.height tx.now ∷ []) self.new) }
-        ensures exact { (before behind : List Confirmed) → HoldsChain (weigher weights.now.entries) [] before base.now → HoldsChain (weigher weights.now.entries) before behind self.old
+        ensures holds { (before behind : List Confirmed) → HoldsChain watched.now (weigher weights.now.entries) [] before base.now → HoldsChain watched.now (weigher weights.now.entries) before behind self.old → spend.now.place ≡ length (before ++ behind)
+            → OnOk result (HoldsChain watched.now (weigher weights.now.entries) before (behind ++ confirmed_at spend.now.height tx.now ∷ []) self.new) }
+        ensures exact { (before behind : List Confirmed) → HoldsChain watched.now (weigher weights.now.entries) [] before base.now → HoldsChain watched.now (weigher weights.now.entries) before behind self.old
             → Meets result (fault_behind (points_in (weigher weights.now.entries) before ++ points_in (weigher weights.now.entries) behind) (points (made_by (weigher weights.now.entries) (confirmed_at spend.now.height tx.now)))) }
-        ensures short { (before behind : List Confirmed) → HoldsChain (weigher weights.now.entries) [] before base.now → HoldsChain (weigher weights.now.entries) before behind self.old → result ≡ Err NoMemory
+        ensures short { (before behind : List Confirmed) → HoldsChain watched.now (weigher weights.now.entries) [] before base.now → HoldsChain watched.now (weigher weights.now.entries) before behind self.old → result ≡ Err NoMemory
             → fault_behind (points_in (weigher weights.now.entries) before ++ points_in (weigher weights.now.entries) behind) (take 1 (points (made_by (weigher weights.now.entries) (confirmed_at spend.now.height tx.now)))) ≡ None }
     {
         let height = Some(spend.height);
@@ -119,7 +135,7 @@ impl Ledger {
             Ok(()) => {}
             Err(fault) => return Err(fault),
         }
-        self.add_spender(alloc, base, &tx.inputs, spend)?;
+        self.add_spender(alloc, base, watched, &tx.inputs, spend)?;
         Ok(())
     }
 }
@@ -130,6 +146,7 @@ impl Ledger {
 pub fn ledger_behind(
     alloc: Global,
     base: &Ledger,
+    watched: &Watched,
     weights: &Weights,
     txs: &[Tx],
     txids: &[Txid],
@@ -138,11 +155,11 @@ pub fn ledger_behind(
 ) -> Result<Ledger, BookFault>
     requires room { first + length txs.now < 2 ^ 64 }
     requires txids { txids.now ≡ map txid_of txs.now }
-    ensures holds { (before : List Confirmed) → HoldsChain (weigher weights.now.entries) [] before base.now → first ≡ length before
-        → IfOk result (λ l. HoldsChain (weigher weights.now.entries) before (map (confirmed_at height) txs.now) l) }
-    ensures exact { (before : List Confirmed) → HoldsChain (weigher weights.now.entries) [] before base.now → first ≡ length before
+    ensures holds { (before : List Confirmed) → HoldsChain watched.now (weigher weights.now.entries) [] before base.now → first ≡ length before
+        → IfOk result (λ l. HoldsChain watched.now (weigher weights.now.entries) before (map (confirmed_at height) txs.now) l) }
+    ensures exact { (before : List Confirmed) → HoldsChain watched.now (weigher weights.now.entries) [] before base.now → first ≡ length before
         → Meets result (fault_behind (points_in (weigher weights.now.entries) before) (points_in (weigher weights.now.entries) (map (confirmed_at height) txs.now))) }
-    ensures short { (before : List Confirmed) → HoldsChain (weigher weights.now.entries) [] before base.now → first ≡ length before → result ≡ Err NoMemory
+    ensures short { (before : List Confirmed) → HoldsChain watched.now (weigher weights.now.entries) [] before base.now → first ≡ length before → result ≡ Err NoMemory
         → StopsAt (weigher weights.now.entries) before (map (confirmed_at height) txs.now) }
 {
     let mut ledger = Ledger::new(alloc);
@@ -152,7 +169,7 @@ pub fn ledger_behind(
             height,
             place: first + index as u64,
         };
-        match ledger.add(alloc, base, weights, &txs[index], None, &spend) {
+        match ledger.add(alloc, base, watched, weights, &txs[index], None, &spend) {
             Ok(()) => {}
             Err(fault) => return Err(fault),
         }

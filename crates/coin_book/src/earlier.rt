@@ -10,6 +10,7 @@ ghost use Rattle.coin_book.specs.Merging.{Meets};
 use crate::coin::Spend;
 use crate::fault::BookFault;
 use crate::ledger::{Ledger, Weights};
+use crate::watched::Watched;
 use fund_base::Memory;
 use indexmap::IndexMap;
 use std::alloc::Global;
@@ -43,13 +44,14 @@ fn add_weights(alloc: Global, weights: &mut Weights, scripts: &[Watch]) -> Resul
 fn add_all(
     alloc: Global,
     ledger: &mut Ledger,
+    watched: &Watched,
     weights: &Weights,
     earlier: &[Earlier],
 ) -> Result<(), BookFault>
     requires coins { ledger.old.coins.entries ≡ [] }
     requires spends { ledger.old.spends.entries ≡ [] }
     requires heights { ledger.old.heights.entries ≡ [] }
-    ensures holds { OnOk result (HoldsChain (weigher weights.now.entries) [] (map confirmed_before earlier.now) ledger.new) }
+    ensures holds { OnOk result (HoldsChain watched.now (weigher weights.now.entries) [] (map confirmed_before earlier.now) ledger.new) }
     ensures exact { Meets result (fault_behind [] (points_in (weigher weights.now.entries) (map confirmed_before earlier.now))) }
 {
     let base = Ledger::new(alloc);
@@ -63,6 +65,7 @@ fn add_all(
         match ledger.add(
             alloc,
             &base,
+            watched,
             weights,
             entry.tx.as_ref(),
             Some(&entry.tx),
@@ -75,14 +78,25 @@ fn add_all(
     Ok(())
 }
 
+/// For how many of so many transactions a ledger makes room to keep what they spend and their heights.
+fn count_kept(watched: &Watched, count: usize) -> usize {
+    if watched.is_everything() { count } else { 0 }
+}
+
 /// A ledger of the earlier transactions. RepeatCoin or Full comes exactly where an outpoint would be a coin twice or a
 /// coin be number 100,001, by the first coin of which this is so.
-pub fn ledger_of(alloc: Global, weights: &Weights, earlier: &[Earlier]) -> Result<Ledger, BookFault>
-    ensures holds { IfOk result (λ l. HoldsChain (weigher weights.now.entries) [] (map confirmed_before earlier.now) l) }
+pub fn ledger_of(
+    alloc: Global,
+    watched: &Watched,
+    weights: &Weights,
+    earlier: &[Earlier],
+) -> Result<Ledger, BookFault>
+    ensures holds { IfOk result (λ l. HoldsChain watched.now (weigher weights.now.entries) [] (map confirmed_before earlier.now) l) }
     ensures exact { Meets result (fault_behind [] (points_in (weigher weights.now.entries) (map confirmed_before earlier.now))) }
 {
-    let mut ledger = Ledger::with_room(alloc, earlier.len())?;
-    match add_all(alloc, &mut ledger, weights, earlier) {
+    let others = count_kept(watched, earlier.len());
+    let mut ledger = Ledger::with_room(alloc, earlier.len(), others)?;
+    match add_all(alloc, &mut ledger, watched, weights, earlier) {
         Ok(()) => Ok(ledger),
         Err(fault) => Err(fault),
     }

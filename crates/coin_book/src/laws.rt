@@ -1,11 +1,12 @@
 //! Laws of the history that a book is made from.
 
-ghost use Rattle.std.specs.Prelude.{◌≡◌, ◌≢◌, ◌<◌, ◌≤◌, ◌↔◌, ℕ, [], List, Contains, Option, Some, None, length, take};
+ghost use Rattle.std.specs.Prelude.{◌≡◌, ◌≢◌, ◌<◌, ◌≤◌, ◌↔◌, ℕ, [], List, Contains, Option, Some, None, IfSome, length, take, true};
 ghost use Rattle.std.specs.List.{AllPairs};
 ghost use Rattle.fund_base.specs.declared.outpoint.OutPoint.{OutPoint};
 ghost use Rattle.tx_codec.specs.Transaction.{Transaction};
 ghost use Rattle.block_feed.specs.Block.{ChainBlock};
 ghost use Rattle.wallet_text.specs.PlainWallet.{PlainWallet};
+ghost use Rattle.coin_book.specs.Asked.{Suffices, WatchesWallet};
 ghost use Rattle.coin_book.specs.Events.{ComesTo, Event};
 ghost use Rattle.coin_book.specs.Coins.{Made, coins_of, confirmed_made, made_in};
 ghost use Rattle.coin_book.specs.Faults.{fault_of, points};
@@ -13,6 +14,7 @@ ghost use Rattle.coin_book.specs.History.{Confirmed, History, with_block, with_p
 ghost use Rattle.coin_book.specs.Outputs.{IsCoinOf};
 ghost use Rattle.coin_book.specs.Repeats.{AreApart, IsFirstRepeat};
 ghost use Rattle.coin_book.specs.Spends.{IsSpendOf, spends_of};
+ghost use Rattle.coin_book.specs.Watched.{PlainWatched, WatchedHistory, watches, watches_txid};
 ghost use Rattle.coin_book.specs.declared.coin.Spend.{Spend};
 ghost use Rattle.coin_book.specs.declared.fault.BookFault.{BookFault};
 
@@ -37,11 +39,20 @@ pub fn no_fault_without_repeats()
     ensures { (h : History) → (fault_of h ≡ None) ↔ (AllPairs (λ (a b : OutPoint). a ≢ b) (points (confirmed_made h)) × (length (coins_of h) ≤ 100_000)) }
 {}
 
-/// The law of spends: those of an outpoint are the confirmed transactions with an input that spends it, but for one of
-/// whose txid another stands before it. They stand by rising places, so each once.
+/// The law of spends: those of an outpoint are the confirmed transactions with an input that spends it, but for one before
+/// which another of its txid stands that spends the outpoint too. They stand by rising places, so each once.
 pub fn spends_by_inputs()
     ensures told { (chain : List Confirmed) (o : OutPoint) (s : Spend) → Contains (spends_of chain o) s ↔ IsSpendOf chain o s }
     ensures order { (chain : List Confirmed) (o : OutPoint) → AllPairs (λ (a b : Spend). a.place < b.place) (spends_of chain o) }
+{}
+
+/// The law of what is watched: what a wallet may ask is kept exactly where each outpoint is watched at which a coin stands,
+/// and of each pending transaction the txid and the outpoints that it spends. Watched are those that are listed, or all where
+/// there is no list.
+pub fn watched_set_suffices()
+    ensures whole { (v : WatchedHistory) → Suffices v ↔ WatchesWallet v }
+    ensures points { (w : PlainWatched) (o : OutPoint) → (watches w o ≡ true) ↔ IfSome w.points (λ (os : List OutPoint). Contains os o) }
+    ensures txids { (w : PlainWatched) (txid : List ℕ) → (watches_txid w txid ≡ true) ↔ IfSome w.txids (λ (ts : List (List ℕ)). Contains ts txid) }
 {}
 
 /// The law of coins: those of a transaction are its outputs that pay a listed script, at an index of at most

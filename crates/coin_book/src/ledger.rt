@@ -1,14 +1,13 @@
 //! What is held of confirmed transactions.
 
-ghost use Rattle.std.specs.Prelude.{◌≡◌, ◌++◌, ◌∷◌, [], ◌+◌, List, Err, IfOk, None, OnErr, OnOk, length, map, nat_lt, ◌||◌, if◌then◌else◌};
+ghost use Rattle.std.specs.Prelude.{◌≡◌, ◌++◌, ◌∷◌, [], ◌+◌, Err, IfOk, None, OnErr, OnOk, length, map, nat_lt, ◌&&◌, ◌||◌, if◌then◌else◌};
 ghost use Rattle.std.specs.List.{list_any};
 ghost use Rattle.std.specs.Map.{keys_of};
-ghost use Rattle.indexmap.specs.IndexSet.{contains};
 ghost use Rattle.fund_base.specs.Outpoints.{same_outpoint};
 ghost use Rattle.fund_base.specs.declared.outpoint.OutPoint.{OutPoint};
 ghost use Rattle.coin_book.specs.Spends.{has_input};
 ghost use Rattle.coin_book.specs.Faults.{fault_behind};
-ghost use Rattle.coin_book.specs.Merging.{Meets, StopsShort, entry_of, held_point, spends_in};
+ghost use Rattle.coin_book.specs.Merging.{Meets, StopsShort, entry_of, held_point, is_new, is_spender, spends_in};
 ghost use Rattle.coin_book.specs.declared.coin.Spend.{Spend};
 ghost use Rattle.coin_book.specs.declared.fault.BookFault.TheVariants.{Full, Memory as NoMemory, RepeatCoin};
 
@@ -16,9 +15,10 @@ use crate::coin::Spend;
 use crate::fault::BookFault;
 use crate::held::Held;
 use crate::merging::append_list;
+use crate::watched::Watched;
 use fund_base::{Memory, OutPoint, Txid};
+use indexmap::IndexMap;
 use indexmap::map::Entry;
-use indexmap::{IndexMap, IndexSet};
 use std::alloc::Global;
 use std::slice::from_ref;
 use tx_codec::TxIn;
@@ -32,7 +32,8 @@ pub type Weights = IndexMap<Vec<u8>, u64>;
 /// The spends of each outpoint, in chain order.
 pub type SpendLists = IndexMap<OutPoint, Vec<Spend>>;
 
-/// The coins of confirmed transactions in order, what these spend, and the height of the first of each txid.
+/// The coins of confirmed transactions in order, and so much as is watched of what these spend and of the height of the
+/// first of each txid.
 pub struct Ledger {
     /// The coins by outpoint, in order of creation.
     pub coins: IndexMap<OutPoint, Held>,
@@ -67,26 +68,26 @@ impl Ledger {
         }
     }
 
-    /// A ledger of no transactions, with room for so many that make one coin each and spend one outpoint.
-    pub fn with_room(alloc: Global, count: usize) -> Result<Ledger, Memory>
+    /// A ledger of no transactions, with room for so many coins, and so many outpoints that are spent and heights.
+    pub fn with_room(alloc: Global, coins: usize, others: usize) -> Result<Ledger, Memory>
         ensures coins { IfOk result (λ l. l.coins.entries ≡ []) }
         ensures spends { IfOk result (λ l. l.spends.entries ≡ []) }
         ensures heights { IfOk result (λ l. l.heights.entries ≡ []) }
     {
         let mut ledger = Ledger::new(alloc);
-        ledger.make_room(count)?;
+        ledger.make_room(coins, others)?;
         Ok(ledger)
     }
 
-    /// Makes room for so many coins, outpoints that are spent and heights more.
-    fn make_room(&mut self, count: usize) -> Result<(), Memory>
+    /// Makes room for so many coins more, and for so many outpoints that are spent and heights.
+    fn make_room(&mut self, coins: usize, others: usize) -> Result<(), Memory>
         ensures coins { self.new.coins.entries ≡ self.old.coins.entries }
         ensures spends { self.new.spends.entries ≡ self.old.spends.entries }
         ensures heights { self.new.heights.entries ≡ self.old.heights.entries }
     {
-        self.coins.reserve(count)?;
-        self.spends.reserve(count)?;
-        self.heights.reserve(count)?;
+        self.coins.reserve(coins)?;
+        self.spends.reserve(others)?;
+        self.heights.reserve(others)?;
         Ok(())
     }
 }
@@ -207,66 +208,74 @@ pub fn add_coins(
     Ok(())
 }
 
-/// Adds a spend of one outpoint.
+/// Whether one of the spends is that of the transaction of this txid.
+#[tactic(auto, unfolding(crate::specs::Merging::is_spender))]
+fn is_spender(spends: &[Spend], txid: &Txid) -> bool
+    ensures { result ≡ is_spender spends.now txid.now }
+{
+    spends.iter().any(|spend| spend.txid == *txid)
+}
+
+/// Whether a spend of the outpoint by the transaction of this txid is kept. Where there are none it isn't looked for.
+fn has_spender(spends: &SpendLists, point: &OutPoint, txid: &Txid) -> bool
+    ensures { result ≡ is_spender (spends_in spends.now.entries point.now) txid.now }
+{
+    if spends.is_empty() {
+        false
+    } else {
+        match spends.get(point) {
+            Some(list) => is_spender(list, txid),
+            None => false,
+        }
+    }
+}
+
+/// Whether a spend of the outpoint by the transaction of this txid is to be kept: the outpoint is watched, and none is
+/// kept of that transaction, here or in `base`.
+fn is_new(
+    watched: &Watched,
+    base: &SpendLists,
+    spends: &SpendLists,
+    point: &OutPoint,
+    txid: &Txid,
+) -> bool
+    ensures { result ≡ is_new watched.now base.now.entries spends.now.entries txid.now point.now }
+{
+    watched.has(point) && !(has_spender(base, point, txid) || has_spender(spends, point, txid))
+}
+
+/// Adds a spend of one outpoint where it is to be kept.
 fn add_spend(
     alloc: Global,
     spends: &mut SpendLists,
+    base: &SpendLists,
+    watched: &Watched,
     point: &OutPoint,
     spend: &Spend,
 ) -> Result<(), Memory>
-    ensures { (o : OutPoint) → OnOk result (spends_in spends.new.entries o ≡ spends_in spends.old.entries o ++ (if same_outpoint point.now o then spend.now ∷ [] else [])) }
+    ensures { (o : OutPoint) → OnOk result (spends_in spends.new.entries o ≡ spends_in spends.old.entries o ++ (if same_outpoint point.now o && is_new watched.now base.now.entries spends.old.entries spend.now.txid o then spend.now ∷ [] else [])) }
 {
+    if !is_new(watched, base, spends, point, &spend.txid) {
+        return Ok(());
+    }
     let one = from_ref(spend);
     append_list(alloc, spends, point, one)?;
     Ok(())
 }
 
-/// Adds a spend of an outpoint that isn't among those that are seen, and then is.
-fn add_first(
-    alloc: Global,
-    spends: &mut SpendLists,
-    seen: &mut IndexSet<OutPoint>,
-    point: &OutPoint,
-    spend: &Spend,
-) -> Result<(), Memory>
-    ensures seen { (o : OutPoint) → OnOk result (contains same_outpoint seen.new o ≡ (same_outpoint point.now o || contains same_outpoint seen.old o)) }
-    ensures spends { (o : OutPoint) → OnOk result (spends_in spends.new.entries o ≡ spends_in spends.old.entries o ++ (if contains same_outpoint seen.old point.now then [] else if same_outpoint point.now o then spend.now ∷ [] else [])) }
-{
-    let fresh = seen.insert(*point)?;
-    if fresh {
-        add_spend(alloc, spends, point, spend)
-    } else {
-        Ok(())
-    }
-}
-
-/// Adds the spend of each outpoint that some input spends, once, however many inputs spend it.
-fn add_apart(
-    alloc: Global,
-    spends: &mut SpendLists,
-    inputs: &[TxIn],
-    spend: &Spend,
-) -> Result<(), Memory>
-    ensures { (o : OutPoint) → OnOk result (spends_in spends.new.entries o ≡ spends_in spends.old.entries o ++ (if has_input o inputs.now then spend.now ∷ [] else [])) }
-{
-    let mut seen = IndexSet::with_capacity(alloc, inputs.len())?;
-    for input in inputs {
-        add_first(alloc, spends, &mut seen, &input.prev, spend)?;
-    }
-    Ok(())
-}
-
-/// Adds the spend of each outpoint that an input spends, once. A single input has no other to be told from.
+/// Adds the spend of each outpoint that some input spends, where it is to be kept: once, however many inputs spend it.
 pub fn add_spends(
     alloc: Global,
     spends: &mut SpendLists,
+    base: &SpendLists,
+    watched: &Watched,
     inputs: &[TxIn],
     spend: &Spend,
 ) -> Result<(), Memory>
-    ensures { (o : OutPoint) → OnOk result (spends_in spends.new.entries o ≡ spends_in spends.old.entries o ++ (if has_input o inputs.now then spend.now ∷ [] else [])) }
+    ensures { (o : OutPoint) → OnOk result (spends_in spends.new.entries o ≡ spends_in spends.old.entries o ++ (if has_input o inputs.now && is_new watched.now base.now.entries spends.old.entries spend.now.txid o then spend.now ∷ [] else [])) }
 {
-    match inputs {
-        [input] => add_spend(alloc, spends, &input.prev, spend),
-        _ => add_apart(alloc, spends, inputs, spend),
+    for input in inputs {
+        add_spend(alloc, spends, base, watched, &input.prev, spend)?;
     }
+    Ok(())
 }

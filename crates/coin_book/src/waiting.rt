@@ -1,14 +1,13 @@
 //! The coins of transactions that wait for a block.
 
-ghost use Rattle.std.specs.Prelude.{ℕ, ◌≡◌, ◌+◌, ◌<◌, ◌++◌, ◌∷◌, [], Err, IfErr, IfOk, None, OnErr, OnOk, false, true, bytes_eq, is_some, length, map, nat_le, if◌then◌else◌};
-ghost use Rattle.std.specs.Map.{keys_of, lookup};
+ghost use Rattle.std.specs.Prelude.{◌≡◌, ◌+◌, ◌<◌, ◌++◌, ◌∷◌, [], Err, IfErr, IfOk, None, OnErr, OnOk, false, true, bytes_eq, length, map, nat_le};
+ghost use Rattle.std.specs.Map.{keys_of};
 ghost use Rattle.std.specs.declared.snapshot.Snapshot.{Snapshot};
 ghost use Rattle.indexmap.specs.IndexMap.{insert_all};
 ghost use Rattle.indexmap.specs.IndexSet.{insert_key};
 ghost use Rattle.fund_base.specs.Outpoints.{same_outpoint};
 ghost use Rattle.tx_codec.specs.Transaction.{Transaction};
 ghost use Rattle.tx_codec.specs.Txid.{txid_of};
-ghost use Rattle.coin_book.specs.Coins.{made_in};
 ghost use Rattle.coin_book.specs.Faults.{fault_behind, points};
 ghost use Rattle.coin_book.specs.Invariant.{HoldsCoins, made_waiting, weigher};
 ghost use Rattle.coin_book.specs.Merging.{Meets};

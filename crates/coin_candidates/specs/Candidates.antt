@@ -3,9 +3,10 @@ use Rattle.std.specs.Prelude.{◌≢◌, ◌≤◌, List, length, All, AllPairs}
 use Rattle.coin_candidates.specs.declared.candidate.Candidate.{Candidate}
 use Rattle.fund_base.specs.declared.money.TheConstants.{MAX_MONEY}
 
--- a value within 21,000,000 bitcoin, and a weight that an input can have
+-- a value and a price within 21,000,000 bitcoin, and a weight that an input can have
 pub record IsCandidate (c : Candidate) : Type 0 where
   pub value : c.value ≤ MAX_MONEY
+  pub price : c.price ≤ MAX_MONEY
   pub least_weight : 165 ≤ c.weight
   pub most_weight : c.weight ≤ 400_000
 

@@ -26,6 +26,8 @@ pub struct Candidate {
     pub ancestors: u32,
     /// How many distinct pending transactions rest on it, its own included; 0 if confirmed.
     pub descendants: u32,
+    /// What raises the pending transactions that it rests on to a fee rate, in satoshi; 0 if confirmed.
+    pub price: u64,
 }
 
 impl Candidate {
@@ -44,6 +46,7 @@ impl Candidate {
             safe: self.safe,
             ancestors: self.ancestors,
             descendants: self.descendants,
+            price: self.price,
         })
     }
 

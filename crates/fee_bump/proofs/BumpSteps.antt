@@ -11,7 +11,7 @@ use Rattle.payment_states.specs.declared.state.Payment.{Payment}
 use Rattle.payment_states.specs.declared.state.State.{State}
 use Rattle.payment_states.specs.declared.state.State.TheVariants as state
 use Rattle.payment_facts.proofs.AnySteps.{place_known, place_within}
-use Rattle.payment_states.proofs.Positions.{find_by_place}
+use Rattle.known_fees.proofs.Positions.{find_by_place}
 use Rattle.fee_bump.specs.Bump.{PlainTerms, payment_place, terms_at, terms_of}
 use Rattle.fee_bump.specs.Faults.{fault_of, pending_fault, signal_fault, state_fault}
 use Rattle.fee_bump.specs.declared.fault.BumpFault.{BumpFault}

@@ -27,10 +27,12 @@ use Rattle.payment_states.proofs.LookSteps.{none_is, own_is}
 use Rattle.payment_states.proofs.NumberSteps.{waits, waits_back}
 use Rattle.payment_states.proofs.Order.{found_place}
 use Rattle.payment_states.proofs.ParentSteps.{own_place}
-use Rattle.payment_states.proofs.Positions.{find_by_place}
-use Rattle.fee_bump.specs.Bump.{fee_in, payment_place, replaced_at, worth_of}
+use Rattle.known_fees.proofs.Positions.{find_by_place}
+use Rattle.known_fees.specs.Worth.{fee_in, worth_of}
+use Rattle.fee_bump.specs.Bump.{payment_place, replaced_at}
 use Rattle.fee_bump.specs.Faults.{can_be_replaced, count_fault, fault_of, foreign_in, input_fault, points_of, rate_fault, signal_fault, state_fault}
-use Rattle.fee_bump.specs.Meant.{CanReplace, IsFault, IsFirstForeign, IsKnown, IsNamed, IsOffered, IsReckoned}
+use Rattle.known_fees.specs.Worth.{IsKnown}
+use Rattle.fee_bump.specs.Meant.{CanReplace, IsBumpFault, IsFirstForeign, IsNamed, IsOffered, IsReckoned}
 use Rattle.fee_bump.specs.declared.fault.BumpFault.{BumpFault}
 use Rattle.fee_bump.specs.declared.fault.BumpFault.TheVariants.{NotPending, NotSignalling, ForeignInput, TooManyEvicted, RateBelowIncrement, RateNotHigher, Memory}
 use Rattle.fee_bump.proofs.GoesSteps.{known_back, known_told, may_back, may_told, not_none, not_some, one_replaced, unknown}
@@ -155,7 +157,7 @@ module _ (w : PlainWallet) (h : History) (r : PlainRequest) (rules : IsWallet w)
   past_count : (i : ℕ) → IsReckoned w h r i → length (gone i) ≤ 100 → fault_of w h r ≡ rate_fault r (fee i) (size i)
   past_count i k few = past_inputs i k ∙ ap (λ b. cond b (Some (TooManyEvicted (length (gone i)))) (rate_fault r (fee i) (size i))) (le-ltb 100 (length (gone i)) few)
 
-  pub bump_found : (fault : BumpFault) → fault ≢ Memory → IsFault w h r fault → fault_of w h r ≡ Some fault
+  pub bump_found : (fault : BumpFault) → fault ≢ Memory → IsBumpFault w h r fault → fault_of w h r ≡ Some fault
   unfolding foreign_in
   bump_found (NotPending None) real (txid, asked, none) = by_state txid None asked ((none_is view txid).1 none)
   bump_found (NotPending (Some s)) real (i, n, cause, other) =
@@ -209,7 +211,7 @@ module _ (w : PlainWallet) (h : History) (r : PlainRequest) (rules : IsWallet w)
   -- what a result means, of the payment at a place
   abbrev Told : ℕ → Option BumpFault → Type 0
   Told i None = CanReplace w h r i
-  Told i (Some fault) = fault ≢ Memory → IsFault w h r fault
+  Told i (Some fault) = fault ≢ Memory → IsBumpFault w h r fault
 
   by_rates : (i : ℕ) → IsReckoned w h r i → length (gone i) ≤ 100 → Told i (rate_fault r (fee i) (size i))
   by_rates i k few = by (nat_lt r.rate 1000) (nat_le (r.rate * size i) (1000 * fee i)) refl refl
@@ -291,7 +293,7 @@ module _ (w : PlainWallet) (h : History) (r : PlainRequest) (rules : IsWallet w)
       by (inr none) =
           subst (λ (o : Option BumpFault). Told (payment_place view r) o) (sym (by_state txid None asked none)) (λ real. (txid, asked, (none_is view txid).0 none))
 
-  pub bump_means : (txid : List ℕ) (fault : BumpFault) → r.bump ≡ Some txid → fault ≢ Memory → fault_of w h r ≡ Some fault → IsFault w h r fault
+  pub bump_means : (txid : List ℕ) (fault : BumpFault) → r.bump ≡ Some txid → fault ≢ Memory → fault_of w h r ≡ Some fault → IsBumpFault w h r fault
   bump_means txid fault asked real e = subst (λ (o : Option BumpFault). Told (payment_place view r) o) e (told txid asked) real
 
   pub bump_free : (i : ℕ) → CanReplace w h r i → fault_of w h r ≡ None

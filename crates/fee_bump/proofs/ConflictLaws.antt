@@ -83,15 +83,15 @@ module _ (w : PlainWallet) (h : History) (tip : ℕ) (r : PlainRequest) (txid : 
       by true e = listed_goes k lt e
       by false e =
           let l = (left_exact w h tip gone c rules).0 there in
-          let point : c.coin ≡ l.0.coin = ap (λ (x : Candidate). x.coin) (sym l.4) ∙ (at_height (wallet_without gone w) (history_without gone h) tip l.0 l.0.height (place_in (wallet_without gone w).pending l.0.coin.txid)).point in
+          let point : c.coin ≡ l.0.coin = ap (λ (x : Candidate). x.coin) (sym l.4) ∙ (at_height (wallet_without gone w) (history_without gone h) tip 0 l.0 l.0.height (place_in (wallet_without gone w).pending l.0.coin.txid)).point in
           let m = to_short view keep rules.pending_distinct k lt (ap not e) in
           absurd (l.3.unclaimed m.0 (m.1.short, still_pending view keep rules.pending_distinct dropped m.1 cause) (subst (λ (o : OutPoint). Spends o (tx_at (view_of (wallet_without gone w) (history_without gone h)) m.0)) point (subst (Spends c.coin) (sym m.1.is) spends)))
 
   -- what a preset is spent by is the payment
   preset_own : (c : Candidate) → Contains (terms_of w h tip r).presets c → (k : ℕ) → k < length w.pending → HasCause view k state.Pending → Spends c.coin (tx_at view k) → GoesWith view place k
   preset_own c there k lt cause spends =
-      let found : Any (λ (x : TxIn). x.prev ≡ c.coin) (tx_at view place).inputs × (facts_at w h tip c.coin ≡ Some c) =
-      All-contains (λ (p : Candidate). Any (λ (x : TxIn). x.prev ≡ p.coin) (tx_at view place).inputs × (facts_at w h tip p.coin ≡ Some p)) (terms_of w h tip r).presets c (preset_only w h tip r rules book sound) there in
+      let found : Any (λ (x : TxIn). x.prev ≡ c.coin) (tx_at view place).inputs × (facts_at w h tip r.rate c.coin ≡ Some c) =
+      All-contains (λ (p : Candidate). Any (λ (x : TxIn). x.prev ≡ p.coin) (tx_at view place).inputs × (facts_at w h tip r.rate p.coin ≡ Some p)) (terms_of w h tip r).presets c (preset_only w h tip r rules book sound) there in
       let at = can.reckoned.offered.named.stands in
       let g = can.reckoned.offered.waits in
       let same : place ≡ k =

@@ -37,23 +37,12 @@ use Rattle.payment_states.proofs.FitSteps.{few}
 use Rattle.payment_facts.proofs.LeftSteps.{left_exact, left_fit, makers_left, map_has, stays_in}
 use Rattle.payment_states.proofs.MakerSteps.{at_height, coin_in}
 use Rattle.payment_states.proofs.Paths.{any_has}
-use Rattle.fee_bump.specs.Bump.{add_once, added_of, is_among, once_of}
+use Rattle.known_fees.proofs.ListSteps.{apart_both, apart_head, apart_tail}
+pub use Rattle.known_fees.proofs.OnceSteps.{once_apart}
+use Rattle.fee_bump.specs.Bump.{added_of, is_among}
 use Rattle.fee_bump.proofs.TermLaws.{added_told, given_from, given_has, point_is}
 
 -- ---- lists of different elements
-
-apart_head : {X : Type 0} (R : X → X → Type 0) (x : X) (xs : List X) → AllPairs R (x ∷ xs) → All (R x) xs
-apart_head R x xs h k d below = h 0 (suc k) d (omega arith) (omega (arith, below))
-
-apart_tail : {X : Type 0} (R : X → X → Type 0) (x : X) (xs : List X) → AllPairs R (x ∷ xs) → AllPairs R xs
-apart_tail R x xs h i j d up below = h (suc i) (suc j) d (omega arith) (omega (arith, below))
-
-apart_both : {X : Type 0} (R : X → X → Type 0) (xs ys : List X) → AllPairs R xs → AllPairs R ys → ((a b : X) → Contains xs a → Contains ys b → R a b) → AllPairs R (xs ++ ys)
-apart_both R [] ys hx hy cross = hy
-apart_both R (x ∷ xs) ys hx hy cross =
-    let here : All (R x) (xs ++ ys) =
-    All-append (R x) xs ys (apart_head R x xs hx) (All-weaker (Contains ys) (R x) (λ b there. cross x b (0, omega arith, refl) there) ys (All-contains_itself ys)) in
-    AllPairs-cons R x (xs ++ ys) here (apart_both R xs ys (apart_tail R x xs hx) hy (λ a b first second. cross a b (in_tail x xs a first) second))
 
 -- a test that decides whether two are one
 equal_by : {K : Type 0} (eq : K → K → Bool) → ((a b : K) → Decides (eq a b) (a ≡ b)) → IsEquivalence eq
@@ -75,69 +64,40 @@ mapped_apart f [] h = λ i j d up below. absurd (omega (arith, below))
 mapped_apart {X = X} {Y = Y} f (x ∷ xs) h =
     AllPairs-cons (λ (a b : Y). a ≢ b) (f x) (map f xs) (All-map (λ (b : Y). f x ≢ b) f xs (apart_head (λ (a b : X). f a ≢ f b) x xs h)) (mapped_apart f xs (apart_tail (λ (a b : X). f a ≢ f b) x xs h))
 
--- ---- outpoints, each once
-
-add_apart : (points : List OutPoint) (o : OutPoint) → AllPairs (λ (a b : OutPoint). a ≢ b) points → AllPairs (λ (a b : OutPoint). a ≢ b) (add_once points o)
-add_apart points o apart = by (list_any (same_outpoint o) points) refl
-  where
-    one : AllPairs (λ (a b : OutPoint). a ≢ b) (o ∷ [])
-    one i j d up below = absurd (omega (arith, up, below))
-
-    last : (b : OutPoint) → Contains (o ∷ []) b → o ≡ b
-    last b c = at (cons_cases o [] b c)
-      where
-        at : (o ≡ b) ⊎ Contains [] b → o ≡ b
-        at (inl e) = e
-        at (inr i) = let lt = i.1 in absurd (omega arith)
-
-    by : (b : Bool) → list_any (same_outpoint o) points ≡ b → AllPairs (λ (a b : OutPoint). a ≢ b) (cond b points (points ++ o ∷ []))
-    by true e = apart
-    by false e =
-        apart_both (λ (a b : OutPoint). a ≢ b) points (o ∷ []) apart one
-        (λ a b first second same. true≢false (sym (any_has (same_outpoint o) points a first ((same_outpoint-Decides o a).1 (last b second ∙ sym same))) ∙ e))
-
-fold_apart : (points acc : List OutPoint) → AllPairs (λ (a b : OutPoint). a ≢ b) acc → AllPairs (λ (a b : OutPoint). a ≢ b) (fold add_once acc points)
-fold_apart [] acc apart = apart
-fold_apart (o ∷ points) acc apart = fold_apart points (add_once acc o) (add_apart acc o apart)
-
-pub once_apart : (points : List OutPoint) → AllPairs (λ (a b : OutPoint). a ≢ b) (once_of points)
-unfolding once_of
-once_apart points = fold_apart points [] (λ i j d up below. absurd (omega (arith, below)))
-
 -- ---- coins of one book
 
 abbrev Differ : Candidate → Candidate → Type 0
 Differ a b = a.coin ≢ b.coin
 
 -- what is known at different outpoints is of different coins
-known_apart : (w : PlainWallet) (h : History) (tip : ℕ) (points : List OutPoint) → AllPairs (λ (a b : OutPoint). a ≢ b) points → AllPairs Differ (facts_among w h tip points)
-known_apart w h tip [] apart = λ i j d up below. absurd (omega (arith, below))
-known_apart w h tip (o ∷ points) apart = by (facts_at w h tip o) refl (known_apart w h tip points (apart_tail (λ (a b : OutPoint). a ≢ b) o points apart))
+known_apart : (w : PlainWallet) (h : History) (tip rate : ℕ) (points : List OutPoint) → AllPairs (λ (a b : OutPoint). a ≢ b) points → AllPairs Differ (facts_among w h tip rate points)
+known_apart w h tip rate [] apart = λ i j d up below. absurd (omega (arith, below))
+known_apart w h tip rate (o ∷ points) apart = by (facts_at w h tip rate o) refl (known_apart w h tip rate points (apart_tail (λ (a b : OutPoint). a ≢ b) o points apart))
   where
-    other : (c : Candidate) → facts_at w h tip o ≡ Some c → (d : Candidate) → Contains (facts_among w h tip points) d → Differ c d
+    other : (c : Candidate) → facts_at w h tip rate o ≡ Some c → (d : Candidate) → Contains (facts_among w h tip rate points) d → Differ c d
     other c e d there same =
-        let g = given_from (facts_at w h tip) points d there in
+        let g = given_from (facts_at w h tip rate) points d there in
         All-contains (λ (b : OutPoint). o ≢ b) points g.0 (apart_head (λ (a b : OutPoint). a ≢ b) o points apart) g.1
-        (sym (point_is w h tip o c e) ∙ same ∙ point_is w h tip g.0 d g.2)
+        (sym (point_is w h tip rate o c e) ∙ same ∙ point_is w h tip rate g.0 d g.2)
 
-    by : (r : Option Candidate) → facts_at w h tip o ≡ r → AllPairs Differ (facts_among w h tip points) → AllPairs Differ (cons_option r (facts_among w h tip points))
+    by : (r : Option Candidate) → facts_at w h tip rate o ≡ r → AllPairs Differ (facts_among w h tip rate points) → AllPairs Differ (cons_option r (facts_among w h tip rate points))
     by None e rest = rest
-    by (Some c) e rest = AllPairs-cons Differ c (facts_among w h tip points) (All-weaker (Contains (facts_among w h tip points)) (Differ c) (λ d there. other c e d there) (facts_among w h tip points) (All-contains_itself (facts_among w h tip points))) rest
+    by (Some c) e rest = AllPairs-cons Differ c (facts_among w h tip rate points) (All-weaker (Contains (facts_among w h tip rate points)) (Differ c) (λ d there. other c e d there) (facts_among w h tip rate points) (All-contains_itself (facts_among w h tip rate points))) rest
 
-module _ (w : PlainWallet) (h : History) (tip : ℕ) (rules : IsWallet w) (book : IsBookOf w h) (sound : fault_of h ≡ None) where
+module _ (w : PlainWallet) (h : History) (tip rate : ℕ) (rules : IsWallet w) (book : IsBookOf w h) (sound : fault_of h ≡ None) where
   abbrev points : List OutPoint
   points = map (λ (c : Coin). c.coin) (coins_of h)
 
-  known_held : (o : OutPoint) (c : Candidate) → facts_at w h tip o ≡ Some c → Contains points c.coin
+  known_held : (o : OutPoint) (c : Candidate) → facts_at w h tip rate o ≡ Some c → Contains points c.coin
   unfolding facts_at
   known_held o c known = by (coin_under h o) refl known
     where
-      by : (r : Option Coin) → coin_under h o ≡ r → option_map (candidate_of w h tip) r ≡ Some c → Contains points c.coin
+      by : (r : Option Coin) → coin_under h o ≡ r → option_map (candidate_of w h tip rate) r ≡ Some c → Contains points c.coin
       by None is e = absurd (none-some c e)
       by (Some k) is e =
           let u = under h o k is in
           let there : Contains (coins_of h) k = subst (Contains (coins_of h)) u.coin_is (coin_in h u.made u.there) in
-          let point : c.coin ≡ k.coin = point_is w h tip o c known ∙ u.point in
+          let point : c.coin ≡ k.coin = point_is w h tip rate o c known ∙ u.point in
           subst (Contains points) (sym point) (map_has (λ (c : Coin). c.coin) (coins_of h) k there)
 
   -- a confirmed coin of the shorter list is one of the book
@@ -154,7 +114,7 @@ module _ (w : PlainWallet) (h : History) (tip : ℕ) (rules : IsWallet w) (book 
       record {
         coin = k;
         there = stays_in w h gone tip k rules book sound l.1 l.2;
-        point = ap (λ (x : Candidate). x.coin) (sym l.4) ∙ (at_height (wallet_without gone w) (history_without gone h) tip k k.height (place_in (wallet_without gone w).pending k.coin.txid)).point;
+        point = ap (λ (x : Candidate). x.coin) (sym l.4) ∙ (at_height (wallet_without gone w) (history_without gone h) tip 0 k k.height (place_in (wallet_without gone w).pending k.coin.txid)).point;
         high = l.2;
       }
 
@@ -174,22 +134,22 @@ module _ (w : PlainWallet) (h : History) (tip : ℕ) (rules : IsWallet w) (book 
   -- ---- which of them are presets
 
   -- a coin of the book at one of these outpoints is known among them
-  among_points : (spent : List OutPoint) (c : Candidate) → IsHeld c → list_any (same_outpoint c.coin) spent ≡ is_among (facts_among w h tip spent) c
+  among_points : (spent : List OutPoint) (c : Candidate) → IsHeld c → list_any (same_outpoint c.coin) spent ≡ is_among (facts_among w h tip rate spent) c
   among_points spent c held =
-      same_from_decides (list_any (same_outpoint c.coin) spent) (is_among (facts_among w h tip spent) c) (is_member-Decides same_outpoint-Decides spent c.coin) (there, back)
+      same_from_decides (list_any (same_outpoint c.coin) spent) (is_among (facts_among w h tip rate spent) c) (is_member-Decides same_outpoint-Decides spent c.coin) (there, back)
     where
-      there : is_among (facts_among w h tip spent) c ≡ true → Contains spent c.coin
+      there : is_among (facts_among w h tip rate spent) c ≡ true → Contains spent c.coin
       there e =
-          let f = any_found (λ (p : Candidate). same_outpoint c.coin p.coin) (facts_among w h tip spent) e in
-          let g = given_from (facts_at w h tip) spent f.0 f.1 in
-          subst (Contains spent) (sym ((same_outpoint-Decides c.coin f.0.coin).0 f.2 ∙ point_is w h tip g.0 f.0 g.2)) g.1
+          let f = any_found (λ (p : Candidate). same_outpoint c.coin p.coin) (facts_among w h tip rate spent) e in
+          let g = given_from (facts_at w h tip rate) spent f.0 f.1 in
+          subst (Contains spent) (sym ((same_outpoint-Decides c.coin f.0.coin).0 f.2 ∙ point_is w h tip rate g.0 f.0 g.2)) g.1
 
-      back : Contains spent c.coin → is_among (facts_among w h tip spent) c ≡ true
+      back : Contains spent c.coin → is_among (facts_among w h tip rate spent) c ≡ true
       back in' =
-          let facts : facts_at w h tip c.coin ≡ Some (candidate_of w h tip held.coin) = ap (facts_at w h tip) held.point ∙ own_facts w h tip held.coin rules book sound held.there in
-          any_has (λ (p : Candidate). same_outpoint c.coin p.coin) (facts_among w h tip spent) (candidate_of w h tip held.coin)
-          (given_has (facts_at w h tip) spent c.coin (candidate_of w h tip held.coin) in' facts)
-          ((same_outpoint-Decides c.coin (candidate_of w h tip held.coin).coin).1 (sym (point_is w h tip c.coin (candidate_of w h tip held.coin) facts)))
+          let facts : facts_at w h tip rate c.coin ≡ Some (candidate_of w h tip rate held.coin) = ap (facts_at w h tip rate) held.point ∙ own_facts w h tip rate held.coin rules book sound held.there in
+          any_has (λ (p : Candidate). same_outpoint c.coin p.coin) (facts_among w h tip rate spent) (candidate_of w h tip rate held.coin)
+          (given_has (facts_at w h tip rate) spent c.coin (candidate_of w h tip rate held.coin) in' facts)
+          ((same_outpoint-Decides c.coin (candidate_of w h tip rate held.coin).coin).1 (sym (point_is w h tip rate c.coin (candidate_of w h tip rate held.coin) facts)))
 
   listed_same : (gone : List (List ℕ)) (txid : List ℕ) → list_any (bytes_eq txid) gone ≡ is_listed gone txid
   listed_same gone txid = same_from_decides (list_any (bytes_eq txid) gone) (is_listed gone txid) (is_member-Decides bytes_eq-Decides gone txid) (there, back)
@@ -202,15 +162,15 @@ module _ (w : PlainWallet) (h : History) (tip : ℕ) (rules : IsWallet w) (book 
 
   -- what is chosen by outpoints and txids is what may be added
   pub added_by : (gone : List (List ℕ)) (spent : List OutPoint)
-      → filter (λ (c : Candidate). not (list_any (same_outpoint c.coin) spent) && not (list_any (bytes_eq c.coin.txid) gone)) (confirmed_without_of w h tip gone) ≡ added_of (facts_among w h tip spent) (confirmed_without_of w h tip gone) gone
+      → filter (λ (c : Candidate). not (list_any (same_outpoint c.coin) spent) && not (list_any (bytes_eq c.coin.txid) gone)) (confirmed_without_of w h tip gone) ≡ added_of (facts_among w h tip rate spent) (confirmed_without_of w h tip gone) gone
   added_by gone spent =
       filter_agree_in (λ (c : Candidate). not (list_any (same_outpoint c.coin) spent) && not (list_any (bytes_eq c.coin.txid) gone))
-      (λ (c : Candidate). not (is_among (facts_among w h tip spent) c) && not (is_listed gone c.coin.txid)) (confirmed_without_of w h tip gone)
+      (λ (c : Candidate). not (is_among (facts_among w h tip rate spent) c) && not (is_listed gone c.coin.txid)) (confirmed_without_of w h tip gone)
       (λ c there. (λ k. not (among_points spent c (left_coin gone c there) k) && not (listed_same gone c.coin.txid k)))
 
   module _ (gone : List (List ℕ)) (spent : List OutPoint) (apart : AllPairs (λ (a b : OutPoint). a ≢ b) spent) where
     abbrev presets : List Candidate
-    presets = facts_among w h tip spent
+    presets = facts_among w h tip rate spent
 
     abbrev coins : List Candidate
     coins = confirmed_without_of w h tip gone
@@ -223,14 +183,14 @@ module _ (w : PlainWallet) (h : History) (tip : ℕ) (rules : IsWallet w) (book 
 
     both_apart : AllPairs Differ (presets ++ added)
     both_apart =
-        apart_both Differ presets added (known_apart w h tip spent apart)
+        apart_both Differ presets added (known_apart w h tip rate spent apart)
         (AllPairs-filter Differ (λ (c : Candidate). not (is_among presets c) && not (is_listed gone c.coin.txid)) coins fits.distinct)
         (λ a b first second. All-contains (λ (p : Candidate). p.coin ≢ b.coin) presets a ((added_told presets coins gone b).0 second).1 first)
 
     presets_held : All (λ (c : Candidate). Contains points c.coin) presets
     presets_held =
         All-weaker (Contains presets) (λ (c : Candidate). Contains points c.coin)
-        (λ c there. let g = given_from (facts_at w h tip) spent c there in known_held g.0 c g.2) presets (All-contains_itself presets)
+        (λ c there. let g = given_from (facts_at w h tip rate) spent c there in known_held g.0 c g.2) presets (All-contains_itself presets)
 
     added_held : All (λ (c : Candidate). Contains points c.coin) added
     added_held =
@@ -249,14 +209,14 @@ module _ (w : PlainWallet) (h : History) (tip : ℕ) (rules : IsWallet w) (book 
         omega arith
 
     known_fit : All (λ (c : Candidate). IsCandidate c × HasMaker h c) presets
-    known_fit = all_facts_fit w h tip spent rules book sound
+    known_fit = all_facts_fit w h tip rate spent rules book sound
 
     -- the presets are fit for a plan
     pub presets_fit : AreCandidates presets
     presets_fit = record {
       each = All-weaker (λ (c : Candidate). IsCandidate c × HasMaker h c) IsCandidate (λ c k. k.0) presets known_fit;
       count = let n = length-append presets added in let few = both_few in omega arith;
-      distinct = known_apart w h tip spent apart;
+      distinct = known_apart w h tip rate spent apart;
     }
 
     -- and together with what may be added

@@ -39,9 +39,10 @@ use Rattle.payment_states.proofs.LookSteps.{one_place}
 use Rattle.payment_states.proofs.MakerSteps.{coin_in, found}
 use Rattle.payment_states.proofs.NumberSteps.{waits, waits_back}
 use Rattle.payment_states.proofs.Paths.{any_has}
-use Rattle.fee_bump.specs.Bump.{output_among, replaced_at, worth_of}
+pub use Rattle.known_fees.proofs.KnownSteps.{AreOne, known_back, known_told}
+use Rattle.fee_bump.specs.Bump.{replaced_at}
 use Rattle.fee_bump.specs.Faults.{can_be_replaced, has_signal}
-use Rattle.fee_bump.specs.Meant.{GoesWith, IsKnown, MayBeReplaced}
+use Rattle.fee_bump.specs.Meant.{GoesWith, MayBeReplaced}
 
 -- ---- signals
 
@@ -115,92 +116,6 @@ below_rise w i =
     (AllPairs-filter (λ (a b : ℕ). a < b) (λ k. within (graph w) (length (graph w)) k i) (below (length w.pending)) (below_rises (length w.pending)))
 
 -- ---- what is known
-
-abbrev pub AreOne : List Transaction → Type 0
-AreOne ts = (s t : Transaction) → Contains ts s → Contains ts t → txid_of s ≡ txid_of t → s ≡ t
-
--- a coin is found exactly where one is there
-coin_some : (h : History) (o : OutPoint) → is_some (coin_under h o) ≡ is_coin (coins_of h) o
-coin_some h o =
-    found_some (λ (m : Made). same_outpoint o m.coin.coin) (λ (m : Made). m.coin) (made_of h)
-    ∙ sym (any_map (λ (c : Coin). same_outpoint o c.coin) (λ (m : Made). m.coin) (made_of h))
-
-some_is : {X : Type 0} (r : Option X) → is_some r ≡ true → (x : X) × (r ≡ Some x)
-some_is None e = absurd (true≢false (sym e))
-some_is (Some x) e = (x, refl)
-
-some_of : {X : Type 0} (r : Option X) (x : X) → r ≡ Some x → is_some r ≡ true
-some_of {X = X} r x e = ap (λ (o : Option X). is_some o) e
-
-mapped : {X Y : Type 0} (f : X → Y) (r : Option X) → is_some (option_map f r) ≡ is_some r
-mapped f None = refl
-mapped f (Some x) = refl
-
-or_first : {X : Type 0} (a b : Option X) → is_some a ≡ true → is_some (option_or a b) ≡ true
-or_first None b e = absurd (true≢false (sym e))
-or_first (Some x) b e = refl
-
-or_second : {X : Type 0} (a b : Option X) → is_some b ≡ true → is_some (option_or a b) ≡ true
-or_second None b e = e
-or_second (Some x) b e = refl
-
-or_either : {X : Type 0} (a b : Option X) → is_some (option_or a b) ≡ true → (is_some a ≡ true) ⊎ (is_some b ≡ true)
-or_either None b e = inr e
-or_either (Some x) b e = inl refl
-
--- the output of one of these
-output_told : (ts : List Transaction) (o : OutPoint) → is_some (output_among ts o) ≡ true → (t : Transaction) × Contains ts t × (txid_of t ≡ o.txid) × (o.index < length t.outputs)
-output_told ts o e = by (find test ts) refl e
-  where
-    test : Transaction → Bool
-    test t = bytes_eq o.txid (txid_of t)
-
-    by : (r : Option Transaction) → find test ts ≡ r → is_some (option_and_then (λ (t : Transaction). slice_get t.outputs o.index) r) ≡ true → (t : Transaction) × Contains ts t × (txid_of t ≡ o.txid) × (o.index < length t.outputs)
-    by None is e = absurd (true≢false (sym e))
-    by (Some t) is e =
-        let f = found (Contains ts) test ts t (All-contains_itself ts) is in
-        let x = some_is (slice_get t.outputs o.index) e in
-        (t, f.1, sym ((bytes_eq-Decides o.txid (txid_of t)).0 f.0), slice_get_within t.outputs o.index x.0 x.1)
-
-output_back : (ts : List Transaction) (o : OutPoint) (t : Transaction) → AreOne ts → Contains ts t → txid_of t ≡ o.txid → o.index < length t.outputs → is_some (output_among ts o) ≡ true
-output_back ts o t one there name lt = by (find test ts) refl
-  where
-    test : Transaction → Bool
-    test t = bytes_eq o.txid (txid_of t)
-
-    passes : is_some (option_map (λ (t : Transaction). t) (find test ts)) ≡ true
-    passes = found_some test (λ (t : Transaction). t) ts ∙ any_has test ts t there ((bytes_eq-Decides o.txid (txid_of t)).1 (sym name))
-
-    none : {X : Type 0} (xs : List X) (k : ℕ) → k < length xs → is_some (slice_get xs k) ≡ true
-    none [] k lt = absurd (omega arith)
-    none {X = X} (x ∷ xs) k lt = some_of (slice_get (x ∷ xs) k) (get_or (x ∷ xs) k x) (slice_get-get_or (x ∷ xs) k x lt)
-
-    by : (r : Option Transaction) → find test ts ≡ r → is_some (option_and_then (λ (t : Transaction). slice_get t.outputs o.index) r) ≡ true
-    by None is = absurd (true≢false (sym passes ∙ ap (λ (r : Option Transaction). is_some (option_map (λ (t : Transaction). t) r)) is))
-    by (Some s) is =
-        let f = found (Contains ts) test ts s (All-contains_itself ts) is in
-        let same : s ≡ t = one s t f.1 there (sym ((bytes_eq-Decides o.txid (txid_of s)).0 f.0) ∙ sym name) in
-        none s.outputs o.index (subst (λ (u : Transaction). o.index < length u.outputs) (sym same) lt)
-
-pub known_told : (h : History) (ts : List Transaction) (o : OutPoint) → is_some (worth_of h ts o) ≡ true → IsKnown h ts o
-unfolding worth_of
-known_told h ts o e = by (or_either (option_map (λ (c : Coin). c.value) (coin_under h o)) (option_map (λ (x : TxOut). x.value) (output_among ts o)) e)
-  where
-    by : (is_some (option_map (λ (c : Coin). c.value) (coin_under h o)) ≡ true) ⊎ (is_some (option_map (λ (x : TxOut). x.value) (output_among ts o)) ≡ true) → IsKnown h ts o
-    by (inl a) =
-        let s = some_is (coin_under h o) (sym (mapped (λ (c : Coin). c.value) (coin_under h o)) ∙ a) in
-        let u = under h o s.0 s.1 in
-        inl (s.0, subst (Contains (coins_of h)) u.coin_is (coin_in h u.made u.there), sym u.point)
-    by (inr b) = inr (output_told ts o (sym (mapped (λ (x : TxOut). x.value) (output_among ts o)) ∙ b))
-
-pub known_back : (h : History) (ts : List Transaction) (o : OutPoint) → AreOne ts → IsKnown h ts o → is_some (worth_of h ts o) ≡ true
-unfolding worth_of
-known_back h ts o one (inl k) =
-    or_first (option_map (λ (c : Coin). c.value) (coin_under h o)) (option_map (λ (x : TxOut). x.value) (output_among ts o))
-    (mapped (λ (c : Coin). c.value) (coin_under h o) ∙ coin_some h o ∙ any_has (λ (c : Coin). same_outpoint o c.coin) (coins_of h) k.0 k.1 ((same_outpoint-Decides o k.0.coin).1 (sym k.2)))
-known_back h ts o one (inr k) =
-    or_second (option_map (λ (c : Coin). c.value) (coin_under h o)) (option_map (λ (x : TxOut). x.value) (output_among ts o))
-    (mapped (λ (x : TxOut). x.value) (output_among ts o) ∙ output_back ts o k.0 one k.1 k.2 k.3)
 
 pub unknown : {X : Type 0} (r : Option X) → is_none r ≡ true → is_some r ≡ true → ⊥
 unknown None e s = true≢false (sym s)

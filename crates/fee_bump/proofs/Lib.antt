@@ -9,4 +9,4 @@ pub mod ShorterSteps
 pub mod SizeLaws
 pub mod SumLaws
 pub mod TermLaws
-pub mod WorthSteps
+pub mod TogetherSteps

@@ -1,5 +1,5 @@
 -- What a plan asks of the terms of a replacement.
-use Rattle.std.proofs.Common.{◌≡◌, ◌≢◌, ℕ, ◌+◌, ◌*◌, ◌<◌, ◌≤◌, ◌++◌, ◌&&◌, not, Bool, true, false, cond, List, length, map, filter, Some, None, sym, subst, arith, All, Contains}
+use Rattle.std.proofs.Common.{◌≡◌, ◌≢◌, ℕ, ◌+◌, ◌≤◌, ◌++◌, ◌&&◌, not, Bool, true, false, List, length, map, filter, Some, None, sym, subst, arith, All, Contains}
 use Rattle.std.specs.Prelude.{nat_le, nat_lt, if◌then◌else◌}
 use Rattle.std.proofs.lemmas.List.{length-append}
 use Rattle.std.proofs.lemmas.List.Elements.{All-contains, All-contains_itself, All-filter, All-weaker}
@@ -24,7 +24,8 @@ use Rattle.payment_facts.specs.LeftOut.{confirmed_without_of}
 use Rattle.payment_states.specs.Makers.{HasMaker}
 use Rattle.payment_states.specs.PendingView.{is_listed, tx_at, view_of}
 use Rattle.payment_facts.proofs.LeftSteps.{left_fit}
-use Rattle.fee_bump.specs.Bump.{bare_load, burden_at, fee_in, fees_in, is_among, least_vsize, payment_place, presets_at, replaced_at, replaced_txids, spent_by, terms_of, weight_of}
+use Rattle.known_fees.specs.Worth.{fee_in, spent_by}
+use Rattle.fee_bump.specs.Bump.{bare_load, burden_at, fees_in, is_among, least_vsize, payment_place, presets_at, replaced_at, replaced_txids, terms_of, weight_of}
 use Rattle.fee_bump.specs.Faults.{fault_of}
 use Rattle.fee_bump.specs.Meant.{CanReplace}
 use Rattle.fee_bump.proofs.CauseLaws.{bump_clear}
@@ -92,15 +93,15 @@ module _ (w : PlainWallet) (h : History) (tip : ℕ) (r : PlainRequest) (rules :
 
   pub terms_fit : AreCandidates ((terms_of w h tip r).presets ++ (terms_of w h tip r).candidates)
   unfolding terms_of presets_at
-  terms_fit = both_fit w h tip rules book sound (replaced_txids (view_of w h) place) (spent_by (tx_at (view_of w h) place)) (once_apart (map (λ (i : TxIn). i.prev) inputs))
+  terms_fit = both_fit w h tip r.rate rules book sound (replaced_txids (view_of w h) place) (spent_by (tx_at (view_of w h) place)) (once_apart (map (λ (i : TxIn). i.prev) inputs))
 
   pub terms_made : All (HasMaker h) ((terms_of w h tip r).presets ++ (terms_of w h tip r).candidates)
   unfolding terms_of presets_at
-  terms_made = both_made w h tip rules book sound (replaced_txids (view_of w h) place) (spent_by (tx_at (view_of w h) place)) (once_apart (map (λ (i : TxIn). i.prev) inputs))
+  terms_made = both_made w h tip r.rate rules book sound (replaced_txids (view_of w h) place) (spent_by (tx_at (view_of w h) place)) (once_apart (map (λ (i : TxIn). i.prev) inputs))
 
   pub presets_alone_fit : AreCandidates (terms_of w h tip r).presets
   unfolding terms_of presets_at
-  presets_alone_fit = presets_fit w h tip rules book sound (replaced_txids (view_of w h) place) (spent_by (tx_at (view_of w h) place)) (once_apart (map (λ (i : TxIn). i.prev) inputs))
+  presets_alone_fit = presets_fit w h tip r.rate rules book sound (replaced_txids (view_of w h) place) (spent_by (tx_at (view_of w h) place)) (once_apart (map (λ (i : TxIn). i.prev) inputs))
 
   pub terms_together : length (terms_of w h tip r).presets + length (terms_of w h tip r).candidates ≤ 100_000
   terms_together = let fit = terms_fit in let few = fit.count in let n = length-append (terms_of w h tip r).presets (terms_of w h tip r).candidates in omega (arith, few, n)
@@ -109,7 +110,7 @@ module _ (w : PlainWallet) (h : History) (tip : ℕ) (r : PlainRequest) (rules :
   gone = replaced_txids (view_of w h) place
 
   abbrev test : Candidate → Bool
-  test c = not (is_among (presets_at w h tip place) c) && not (is_listed gone c.coin.txid)
+  test c = not (is_among (presets_at w h tip r.rate place) c) && not (is_listed gone c.coin.txid)
 
   pub candidates_alone_fit : AreCandidates (terms_of w h tip r).candidates
   unfolding terms_of
@@ -127,7 +128,7 @@ module _ (w : PlainWallet) (h : History) (tip : ℕ) (r : PlainRequest) (rules :
   pub presets_aside : (c d : Candidate) → Contains (terms_of w h tip r).presets c → Contains (terms_of w h tip r).candidates d → c.coin ≢ d.coin
   unfolding terms_of
   presets_aside c d first second =
-      All-contains (λ (p : Candidate). p.coin ≢ d.coin) (presets_at w h tip place) c ((added_told (presets_at w h tip place) (confirmed_without_of w h tip gone) gone d).0 second).1 first
+      All-contains (λ (p : Candidate). p.coin ≢ d.coin) (presets_at w h tip r.rate place) c ((added_told (presets_at w h tip r.rate place) (confirmed_without_of w h tip gone) gone d).0 second).1 first
 
   pub terms_burden : (txid : List ℕ) → r.bump ≡ Some txid → fault_of w h r ≡ None → (terms_of w h tip r).burden ≤ 1_000_000_000_000_000_000
   unfolding terms_of

@@ -34,9 +34,12 @@ use Rattle.payment_facts.proofs.LeftSteps.{filter_in, in_filter, map_from, map_h
 use Rattle.payment_states.proofs.MakerSteps.{at_height}
 use Rattle.payment_states.proofs.Order.{order_from_rule}
 use Rattle.payment_states.proofs.Paths.{any_has, decides, no_later}
-use Rattle.fee_bump.specs.Bump.{add_once, added_of, is_among, once_of, payment_place, presets_at, replaced_at, spent_by, terms_of}
+use Rattle.known_fees.specs.Worth.{spent_by}
+use Rattle.known_fees.proofs.OnceSteps.{once_from, once_has}
+use Rattle.fee_bump.specs.Bump.{added_of, is_among, payment_place, presets_at, replaced_at, terms_of}
 use Rattle.fee_bump.specs.Faults.{fault_of, points_of}
-use Rattle.fee_bump.specs.Meant.{CanReplace, GoesWith, IsKnown}
+use Rattle.known_fees.specs.Worth.{IsKnown}
+use Rattle.fee_bump.specs.Meant.{CanReplace, GoesWith}
 use Rattle.fee_bump.proofs.CauseLaws.{bump_clear}
 use Rattle.fee_bump.proofs.GoesSteps.{own_replaced, replaced_place}
 
@@ -55,70 +58,6 @@ spends_none w apart rule i lt =
         let j_in = g.stands in
         let le : i ≤ j = no_later (graph w) order ((decides (graph w) j i order (omega arith)).0 (tests w apart rule j i g.stands g.descends)) (omega arith) in
         All-contains (λ (x : TxIn). x.prev.txid ≢ txid_of (tx_at w j)) (tx_at w i).inputs x (rule i j no_tx le g.stands) in' (sym same ∙ ap txid_of (sym is))
-
--- ---- outpoints, each once
-
-add_keeps : (points : List OutPoint) (o p : OutPoint) → Contains points p → Contains (add_once points o) p
-add_keeps points o p there = by (list_any (same_outpoint o) points)
-  where
-    by : (b : Bool) → Contains (cond b points (points ++ o ∷ [])) p
-    by true = there
-    by false = Contains-append_left points (o ∷ []) p there
-
-last_there : {X : Type 0} (xs : List X) (x : X) → Contains (xs ++ x ∷ []) x
-last_there [] x = (0, omega arith, refl)
-last_there (y ∷ xs) x = in_tail y (xs ++ x ∷ []) x (last_there xs x)
-
-add_has : (points : List OutPoint) (o : OutPoint) → Contains (add_once points o) o
-add_has points o = by (list_any (same_outpoint o) points) refl
-  where
-    by : (b : Bool) → list_any (same_outpoint o) points ≡ b → Contains (cond b points (points ++ o ∷ [])) o
-    by true e = let f = any_found (same_outpoint o) points e in subst (Contains points) (sym ((same_outpoint-Decides o f.0).0 f.2)) f.1
-    by false e = last_there points o
-
-fold_keeps : (points acc : List OutPoint) (p : OutPoint) → Contains acc p → Contains (fold add_once acc points) p
-fold_keeps [] acc p there = there
-fold_keeps (o ∷ points) acc p there = fold_keeps points (add_once acc o) p (add_keeps acc o p there)
-
-fold_has : (points acc : List OutPoint) (p : OutPoint) → Contains points p → Contains (fold add_once acc points) p
-fold_has [] acc p c = let lt = c.1 in absurd (omega arith)
-fold_has (o ∷ points) acc p c = by (cons_cases o points p c) (λ h. fold_has points (add_once acc o) p h)
-  where
-    by : (o ≡ p) ⊎ Contains points p → (Contains points p → Contains (fold add_once (add_once acc o) points) p) → Contains (fold add_once (add_once acc o) points) p
-    by (inl e) rest = fold_keeps points (add_once acc o) p (subst (Contains (add_once acc o)) e (add_has acc o))
-    by (inr h) rest = rest h
-
-fold_from : (points acc : List OutPoint) (p : OutPoint) → Contains (fold add_once acc points) p → Contains acc p ⊎ Contains points p
-fold_from [] acc p c = inl c
-fold_from (o ∷ points) acc p c = by (fold_from points (add_once acc o) p c)
-  where
-    head : (b : Bool) → Contains (cond b acc (acc ++ o ∷ [])) p → Contains acc p ⊎ Contains (o ∷ points) p
-    head true h = inl h
-    head false h = at (Contains-append_cases acc (o ∷ []) p h)
-      where
-        last : (o ≡ p) ⊎ Contains [] p → Contains acc p ⊎ Contains (o ∷ points) p
-        last (inl e) = inr (0, omega arith, e)
-        last (inr i) = let lt = i.1 in absurd (omega arith)
-
-        at : Contains acc p ⊎ Contains (o ∷ []) p → Contains acc p ⊎ Contains (o ∷ points) p
-        at (inl i) = inl i
-        at (inr i) = last (cons_cases o [] p i)
-
-    by : Contains (add_once acc o) p ⊎ Contains points p → Contains acc p ⊎ Contains (o ∷ points) p
-    by (inl h) = head (list_any (same_outpoint o) acc) h
-    by (inr h) = inr (in_tail o points p h)
-
-pub once_has : (points : List OutPoint) (p : OutPoint) → Contains points p → Contains (once_of points) p
-unfolding once_of
-once_has points p c = fold_has points [] p c
-
-pub once_from : (points : List OutPoint) (p : OutPoint) → Contains (once_of points) p → Contains points p
-unfolding once_of
-once_from points p c = by (fold_from points [] p c)
-  where
-    by : Contains [] p ⊎ Contains points p → Contains points p
-    by (inl h) = let lt = h.1 in absurd (omega arith)
-    by (inr h) = h
 
 -- ---- coins of outpoints
 
@@ -150,15 +89,15 @@ given_from {X = X} {Y = Y} f (z ∷ xs) y c = by (f z) refl c (λ h. given_from 
     by (Some v) e h rest = at v e (cons_cases v (filter_map f xs) y h) rest
 
 -- what is known of a coin is known of the one at that outpoint
-pub point_is : (w : PlainWallet) (h : History) (tip : ℕ) (o : OutPoint) (c : Candidate) → facts_at w h tip o ≡ Some c → c.coin ≡ o
+pub point_is : (w : PlainWallet) (h : History) (tip rate : ℕ) (o : OutPoint) (c : Candidate) → facts_at w h tip rate o ≡ Some c → c.coin ≡ o
 unfolding facts_at
-point_is w h tip o c e = by (coin_under h o) refl e
+point_is w h tip rate o c e = by (coin_under h o) refl e
   where
-    by : (r : Option Coin) → coin_under h o ≡ r → option_map (candidate_of w h tip) r ≡ Some c → c.coin ≡ o
+    by : (r : Option Coin) → coin_under h o ≡ r → option_map (candidate_of w h tip rate) r ≡ Some c → c.coin ≡ o
     by None is e = absurd (none-some c e)
     by (Some k) is e =
         let u = under h o k is in
-        ap (λ (x : Candidate). x.coin) (sym (same_Some (candidate_of w h tip k) c e)) ∙ (at_height w h tip k k.height (place_in w.pending k.coin.txid)).point ∙ sym u.point
+        ap (λ (x : Candidate). x.coin) (sym (same_Some (candidate_of w h tip rate k) c e)) ∙ (at_height w h tip rate k k.height (place_in w.pending k.coin.txid)).point ∙ sym u.point
 
 -- ---- what may be added
 
@@ -226,23 +165,23 @@ module _ (w : PlainWallet) (h : History) (tip : ℕ) (r : PlainRequest) (rules :
   abbrev payment : Transaction
   payment = tx_at (view_of w h) place
 
-  pub preset_only : All (λ (c : Candidate). Any (λ (x : TxIn). x.prev ≡ c.coin) payment.inputs × (facts_at w h tip c.coin ≡ Some c)) (terms_of w h tip r).presets
+  pub preset_only : All (λ (c : Candidate). Any (λ (x : TxIn). x.prev ≡ c.coin) payment.inputs × (facts_at w h tip r.rate c.coin ≡ Some c)) (terms_of w h tip r).presets
   unfolding terms_of presets_at
   preset_only =
-      All-weaker (Contains (facts_among w h tip (spent_by payment))) (λ (c : Candidate). Any (λ (x : TxIn). x.prev ≡ c.coin) payment.inputs × (facts_at w h tip c.coin ≡ Some c)) each
-      (facts_among w h tip (spent_by payment)) (All-contains_itself (facts_among w h tip (spent_by payment)))
+      All-weaker (Contains (facts_among w h tip r.rate (spent_by payment))) (λ (c : Candidate). Any (λ (x : TxIn). x.prev ≡ c.coin) payment.inputs × (facts_at w h tip r.rate c.coin ≡ Some c)) each
+      (facts_among w h tip r.rate (spent_by payment)) (All-contains_itself (facts_among w h tip r.rate (spent_by payment)))
     where
-      each : (c : Candidate) → Contains (facts_among w h tip (spent_by payment)) c → Any (λ (x : TxIn). x.prev ≡ c.coin) payment.inputs × (facts_at w h tip c.coin ≡ Some c)
+      each : (c : Candidate) → Contains (facts_among w h tip r.rate (spent_by payment)) c → Any (λ (x : TxIn). x.prev ≡ c.coin) payment.inputs × (facts_at w h tip r.rate c.coin ≡ Some c)
       each c there =
-          let g = given_from (facts_at w h tip) (spent_by payment) c there in
+          let g = given_from (facts_at w h tip r.rate) (spent_by payment) c there in
           let m = map_from (λ (i : TxIn). i.prev) payment.inputs g.0 (once_from (map (λ (i : TxIn). i.prev) payment.inputs) g.0 g.1) in
-          let point = point_is w h tip g.0 c g.2 in
-          ((m.1.0, m.0, m.1.1, m.1.2, m.2 ∙ sym point), ap (facts_at w h tip) point ∙ g.2)
+          let point = point_is w h tip r.rate g.0 c g.2 in
+          ((m.1.0, m.0, m.1.1, m.1.2, m.2 ∙ sym point), ap (facts_at w h tip r.rate) point ∙ g.2)
 
   pub preset_spent : (txid : List ℕ) → r.bump ≡ Some txid → fault_of w h r ≡ None → All (λ (x : TxIn). Any (λ (c : Candidate). c.coin ≡ x.prev) (terms_of w h tip r).presets) payment.inputs
   unfolding terms_of presets_at
   preset_spent txid asked clear =
-      All-weaker (Contains payment.inputs) (λ (x : TxIn). Any (λ (c : Candidate). c.coin ≡ x.prev) (facts_among w h tip (spent_by payment))) each payment.inputs (All-contains_itself payment.inputs)
+      All-weaker (Contains payment.inputs) (λ (x : TxIn). Any (λ (c : Candidate). c.coin ≡ x.prev) (facts_among w h tip r.rate (spent_by payment))) each payment.inputs (All-contains_itself payment.inputs)
     where
       can : CanReplace w h r place
       can = bump_clear w h r rules txid asked clear
@@ -250,17 +189,17 @@ module _ (w : PlainWallet) (h : History) (tip : ℕ) (r : PlainRequest) (rules :
       own : Contains (replaced_at (view_of w h) place) payment
       own = own_replaced (view_of w h) rules.pending_distinct rules.parents place can.reckoned.offered.named.stands can.reckoned.offered.waits
 
-      from_known : (x : TxIn) → Contains payment.inputs x → IsKnown h (replaced_at (view_of w h) place) x.prev → Any (λ (c : Candidate). c.coin ≡ x.prev) (facts_among w h tip (spent_by payment))
+      from_known : (x : TxIn) → Contains payment.inputs x → IsKnown h (replaced_at (view_of w h) place) x.prev → Any (λ (c : Candidate). c.coin ≡ x.prev) (facts_among w h tip r.rate (spent_by payment))
       from_known x there (inl (k, in_book, same)) =
-          let facts : facts_at w h tip x.prev ≡ Some (candidate_of w h tip k) = ap (facts_at w h tip) (sym same) ∙ own_facts w h tip k rules book sound in_book in
+          let facts : facts_at w h tip r.rate x.prev ≡ Some (candidate_of w h tip r.rate k) = ap (facts_at w h tip r.rate) (sym same) ∙ own_facts w h tip r.rate k rules book sound in_book in
           let spent = once_has (map (λ (i : TxIn). i.prev) payment.inputs) x.prev (map_has (λ (i : TxIn). i.prev) payment.inputs x there) in
-          let g = given_has (facts_at w h tip) (spent_by payment) x.prev (candidate_of w h tip k) spent facts in
-          (g.0, candidate_of w h tip k, g.1, g.2, point_is w h tip x.prev (candidate_of w h tip k) facts)
+          let g = given_has (facts_at w h tip r.rate) (spent_by payment) x.prev (candidate_of w h tip r.rate k) spent facts in
+          (g.0, candidate_of w h tip r.rate k, g.1, g.2, point_is w h tip r.rate x.prev (candidate_of w h tip r.rate k) facts)
       from_known x there (inr (t, in', same, lt)) =
           let none = All-contains (λ (x : TxIn). All (λ (t : Transaction). txid_of t ≢ x.prev.txid) (replaced_at (view_of w h) place)) payment.inputs x (spends_none (view_of w h) rules.pending_distinct rules.parents place can.reckoned.offered.named.stands) there in
           absurd (All-contains (λ (t : Transaction). txid_of t ≢ x.prev.txid) (replaced_at (view_of w h) place) t none in' same)
 
-      each : (x : TxIn) → Contains payment.inputs x → Any (λ (c : Candidate). c.coin ≡ x.prev) (facts_among w h tip (spent_by payment))
+      each : (x : TxIn) → Contains payment.inputs x → Any (λ (c : Candidate). c.coin ≡ x.prev) (facts_among w h tip r.rate (spent_by payment))
       each x there =
           from_known x there
           (All-contains (IsKnown h (replaced_at (view_of w h) place)) (points_of (replaced_at (view_of w h) place)) x.prev can.reckoned.known

@@ -1,25 +1,20 @@
 -- A replacement by fee (BIP 125): what is replaced, and what its replacement is made from.
-use Rattle.std.specs.Prelude.{ℕ, pos, ◌+◌, ◌-◌, ◌&&◌, not, Bool, false, List, [], ◌++◌, ◌∷◌, length, map, filter, find, fold, min, sum_by, slice_get, unwrap_or, bytes_eq, Option, option_map, option_and_then, if◌then◌else◌}
+use Rattle.std.specs.Prelude.{ℕ, pos, ◌+◌, ◌-◌, ◌&&◌, not, Bool, false, List, [], length, map, filter, min, sum_by, unwrap_or}
 use Rattle.std.specs.List.{list_any}
-use Rattle.std.specs.Option.{option_or}
 use Rattle.fund_base.specs.Outpoints.{same_outpoint}
 use Rattle.coin_candidates.specs.declared.candidate.Candidate.{Candidate}
-use Rattle.fund_base.specs.declared.outpoint.OutPoint.{OutPoint}
 use Rattle.tx_codec.specs.Transaction.{Transaction}
 use Rattle.tx_codec.specs.Txid.{txid_of}
 use Rattle.tx_codec.specs.Weight.{weight_of as text_weight}
-use Rattle.tx_codec.specs.declared.tx.TxIn.{TxIn}
-use Rattle.tx_codec.specs.declared.tx.TxOut.{TxOut}
 use Rattle.fee_rates.specs.Fee.{fee_of, vsize_of}
 use Rattle.fee_rates.specs.Output.{output_size_of}
 use Rattle.fee_rates.specs.Terms.{base_of}
-use Rattle.fee_rates.specs.declared.terms.Load.{Load}
+use Rattle.fee_rates.specs.declared.terms.PaymentLoad.{PaymentLoad}
 use Rattle.wallet_text.specs.PlainWallet.{PlainWallet}
 use Rattle.request_text.specs.PlainRequest.{PlainRequest}
 use Rattle.request_text.specs.declared.request.Recipient.{Recipient}
-use Rattle.coin_book.specs.AtOutpoint.{coin_under}
 use Rattle.coin_book.specs.History.{History}
-use Rattle.coin_book.specs.declared.coin.Coin.{Coin}
+use Rattle.known_fees.specs.Worth.{fee_in, spent_by}
 use Rattle.payment_facts.specs.AnyCoin.{facts_among}
 use Rattle.payment_facts.specs.LeftOut.{confirmed_without_of}
 use Rattle.payment_facts.specs.Pendings.{pending_below}
@@ -35,38 +30,7 @@ payment_place w r = unwrap_or (place_in w.pending (unwrap_or r.bump [])) (length
 unfoldable pub replaced_at : PendingView → ℕ → List Transaction
 replaced_at w i = map (tx_at w) (pending_below w i)
 
--- ---- what outpoints are worth
-
--- outpoints in order, each where it stands first
-abbrev pub add_once : List OutPoint → OutPoint → List OutPoint
-add_once points o = if list_any (same_outpoint o) points then points else points ++ o ∷ []
-
-unfoldable pub once_of : List OutPoint → List OutPoint
-once_of points = fold add_once [] points
-
--- the outpoints that a transaction spends, each once
-abbrev pub spent_by : Transaction → List OutPoint
-spent_by t = once_of (map (λ (i : TxIn). i.prev) t.inputs)
-
--- the output that an outpoint names, of one of these transactions
-abbrev pub output_among : List Transaction → OutPoint → Option TxOut
-output_among ts o = option_and_then (λ (t : Transaction). slice_get t.outputs o.index) (find (λ (t : Transaction). bytes_eq o.txid (txid_of t)) ts)
-
--- What an outpoint is worth in satoshi, where that is known: the value of the coin there, or else of the output of one of
--- these transactions.
-unfoldable pub worth_of : History → List Transaction → OutPoint → Option ℕ
-worth_of h ts o = option_or (option_map (λ (c : Coin). c.value) (coin_under h o)) (option_map (λ (x : TxOut). x.value) (output_among ts o))
-
 -- ---- fees
-
--- what a transaction spends, each outpoint counted once
-abbrev pub value_spent : History → List Transaction → Transaction → ℕ
-value_spent h ts t = sum_by (λ o. unwrap_or (worth_of h ts o) 0) (spent_by t)
-
--- The fee of a transaction, in satoshi: what it spends, less its outputs; at least 0 and at most 21,000,000 bitcoin. What it
--- spends are coins and outputs of the transactions that go with it.
-unfoldable pub fee_in : History → List Transaction → Transaction → ℕ
-fee_in h ts t = min 2_100_000_000_000_000 (value_spent h ts t - sum_by (λ (x : TxOut). x.value) t.outputs)
 
 -- the fees of all of these together
 abbrev pub fees_in : History → List Transaction → ℕ
@@ -80,7 +44,7 @@ abbrev pub incremental : ℕ
 incremental = 1000
 
 -- a payment of the request's recipients from so many coins, without what these bring
-abbrev pub bare_load : PlainRequest → (coins : ℕ) → Load
+abbrev pub bare_load : PlainRequest → (coins : ℕ) → PaymentLoad
 bare_load r coins = record {
   paid = 0;
   outputs = min (sum_by (λ (q : Recipient). output_size_of q.script) r.recipients) 1_000_000_000;
@@ -134,16 +98,16 @@ added_of presets coins replaced = filter (λ (c : Candidate). not (is_among pres
 abbrev pub replaced_txids : PendingView → ℕ → List (List ℕ)
 replaced_txids w i = map txid_of (replaced_at w i)
 
--- the inputs of the payment at a place, as coins
-unfoldable pub presets_at : PlainWallet → History → (tip : ℕ) → ℕ → List Candidate
-presets_at w h tip i = facts_among w h tip (spent_by (tx_at (view_of w h) i))
+-- the inputs of the payment at a place, as coins, with their prices at a rate
+unfoldable pub presets_at : PlainWallet → History → (tip rate : ℕ) → ℕ → List Candidate
+presets_at w h tip rate i = facts_among w h tip rate (spent_by (tx_at (view_of w h) i))
 
 -- the terms of a replacement of the payment at a place
 abbrev pub terms_at : PlainWallet → History → (tip : ℕ) → PlainRequest → ℕ → PlainTerms
 terms_at w h tip r i = record {
-  presets = presets_at w h tip i;
-  candidates = added_of (presets_at w h tip i) (confirmed_without_of w h tip (replaced_txids (view_of w h) i)) (replaced_txids (view_of w h) i);
-  burden = burden_at (fees_in h (replaced_at (view_of w h) i)) (least_vsize r (presets_at w h tip i)) r.rate;
+  presets = presets_at w h tip r.rate i;
+  candidates = added_of (presets_at w h tip r.rate i) (confirmed_without_of w h tip (replaced_txids (view_of w h) i)) (replaced_txids (view_of w h) i);
+  burden = burden_at (fees_in h (replaced_at (view_of w h) i)) (least_vsize r (presets_at w h tip r.rate i)) r.rate;
   replaced = replaced_txids (view_of w h) i;
   old_fee = fee_in h (replaced_at (view_of w h) i) (tx_at (view_of w h) i);
   old_vsize = vsize_of (text_weight (tx_at (view_of w h) i));

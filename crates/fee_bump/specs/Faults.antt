@@ -1,5 +1,5 @@
 -- Why a payment isn't replaced: the first cause.
-use Rattle.std.specs.Prelude.{ℕ, ◌*◌, Bool, List, [], length, map, find, is_none, nat_le, nat_lt, unwrap_or, Option, Some, None, option_map, if◌then◌else◌}
+use Rattle.std.specs.Prelude.{ℕ, ◌*◌, Bool, List, [], length, map, nat_le, nat_lt, unwrap_or, Option, Some, None, option_map, if◌then◌else◌}
 use Rattle.std.specs.List.{flat_map, list_any}
 use Rattle.std.specs.Option.{option_or}
 use Rattle.fund_base.specs.declared.outpoint.OutPoint.{OutPoint}
@@ -15,7 +15,9 @@ use Rattle.payment_states.specs.Payments.{payments_of, state_of}
 use Rattle.payment_facts.specs.Pendings.{pending_above}
 use Rattle.payment_states.specs.PendingView.{PendingView, tx_at, view_of}
 use Rattle.payment_states.specs.declared.state.State.{State}
-use Rattle.fee_bump.specs.Bump.{fee_in, payment_place, replaced_at, worth_of}
+use Rattle.known_fees.specs.Worth.{fee_in}
+use Rattle.known_fees.specs.Worth.{first_foreign}
+use Rattle.fee_bump.specs.Bump.{payment_place, replaced_at}
 use Rattle.fee_bump.specs.declared.fault.BumpFault.{BumpFault}
 use Rattle.fee_bump.specs.declared.fault.BumpFault.TheVariants.{NotPending, NotSignalling, ForeignInput, TooManyEvicted, RateBelowIncrement, RateNotHigher}
 
@@ -31,11 +33,7 @@ can_be_replaced w i = list_any (λ j. has_signal (tx_at w j)) (pending_above w i
 abbrev pub points_of : List Transaction → List OutPoint
 points_of ts = flat_map (λ (t : Transaction). map (λ (i : TxIn). i.prev) t.inputs) ts
 
--- the first of these outpoints that is neither a coin's nor that of an output of one of the transactions
-abbrev pub first_foreign : History → List Transaction → List OutPoint → Option OutPoint
-first_foreign h ts points = find (λ o. is_none (worth_of h ts o)) points
-
--- the first such outpoint of their inputs
+-- the first outpoint of their inputs that is neither a coin's nor that of an output of one of the transactions
 unfoldable pub foreign_in : History → List Transaction → Option OutPoint
 foreign_in h ts = first_foreign h ts (points_of ts)
 

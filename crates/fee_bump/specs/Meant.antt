@@ -1,5 +1,5 @@
 -- What is replaced, and why a payment isn't, in words of inputs, of the chain and of ways from child to parent (BIP 125).
-use Rattle.std.specs.Prelude.{ℕ, ◌≡◌, ◌≢◌, ◌*◌, ◌≤◌, ◌<◌, ◌⊎◌, ◌++◌, List, ◌∷◌, length, All, Contains, Some, None}
+use Rattle.std.specs.Prelude.{ℕ, ◌≡◌, ◌≢◌, ◌*◌, ◌≤◌, ◌<◌, ◌++◌, List, ◌∷◌, length, All, Some, None}
 use Rattle.fund_base.specs.declared.outpoint.OutPoint.{OutPoint}
 use Rattle.tx_codec.specs.Signals.{Signals}
 use Rattle.tx_codec.specs.Transaction.{Transaction}
@@ -8,13 +8,13 @@ use Rattle.tx_codec.specs.Weight.{weight_of}
 use Rattle.fee_rates.specs.Fee.{vsize_of}
 use Rattle.wallet_text.specs.PlainWallet.{PlainWallet}
 use Rattle.request_text.specs.PlainRequest.{PlainRequest}
-use Rattle.coin_book.specs.Coins.{coins_of}
 use Rattle.coin_book.specs.History.{History}
-use Rattle.coin_book.specs.declared.coin.Coin.{Coin}
 use Rattle.payment_states.specs.Causes.{HasCause, IsKin}
 use Rattle.payment_states.specs.PendingView.{PendingView, tx_at, view_of}
 use Rattle.payment_states.specs.declared.state.State.TheVariants as state
-use Rattle.fee_bump.specs.Bump.{fee_in, replaced_at}
+use Rattle.known_fees.specs.Worth.{fee_in}
+use Rattle.known_fees.specs.Worth.{IsKnown}
+use Rattle.fee_bump.specs.Bump.{replaced_at}
 use Rattle.fee_bump.specs.Faults.{points_of}
 use Rattle.fee_bump.specs.declared.fault.BumpFault.{BumpFault}
 use Rattle.fee_bump.specs.declared.fault.BumpFault.TheVariants.{NotPending, NotSignalling, ForeignInput, TooManyEvicted, RateBelowIncrement, RateNotHigher, Memory}
@@ -40,13 +40,7 @@ pub record IsNamed (w : PendingView) (r : PlainRequest) (i : ℕ) : Type 0 where
 
 -- ---- what is known of outpoints
 
--- a coin is there, or it names an output of one of these transactions
-abbrev pub IsKnown : History → List Transaction → OutPoint → Type 0
-IsKnown h ts o =
-    ((c : Coin) × Contains (coins_of h) c × (c.coin ≡ o))
-    ⊎ ((t : Transaction) × Contains ts t × (txid_of t ≡ o.txid) × (o.index < length t.outputs))
-
--- the first outpoint of an input of these of which neither is so
+-- the first outpoint of an input of these that isn't known
 pub record IsFirstForeign (h : History) (ts : List Transaction) (o : OutPoint) : Type 0 where
   pub front : List OutPoint
   pub rest : List OutPoint
@@ -72,17 +66,17 @@ pub record IsReckoned (w : PlainWallet) (h : History) (r : PlainRequest) (i : �
 -- is the first outpoint that is spent and not known. Otherwise, too many evicted: this many go together, more than 100.
 -- Otherwise, rate below increment: the rate is below 1,000. Otherwise, rate not higher: it isn't above that of this fee and
 -- this virtual size, which are the payment's.
-abbrev pub IsFault : PlainWallet → History → PlainRequest → BumpFault → Type 0
-IsFault w h r (NotPending None) = (txid : List ℕ) × (r.bump ≡ Some txid) × All (λ (t : Transaction). txid_of t ≢ txid) w.pending
-IsFault w h r (NotPending (Some s)) = (i : ℕ) × IsNamed (view_of w h) r i × HasCause (view_of w h) i s × (s ≢ state.Pending)
-IsFault w h r NotSignalling = (i : ℕ) × IsNamed (view_of w h) r i × HasCause (view_of w h) i state.Pending × (MayBeReplaced (view_of w h) i → ⊥)
-IsFault w h r (ForeignInput o) = (i : ℕ) × IsOffered (view_of w h) r i × IsFirstForeign h (replaced_at (view_of w h) i) o
-IsFault w h r (TooManyEvicted n) = (i : ℕ) × IsReckoned w h r i × (n ≡ length (replaced_at (view_of w h) i)) × (100 < n)
-IsFault w h r RateBelowIncrement = (i : ℕ) × IsReckoned w h r i × (length (replaced_at (view_of w h) i) ≤ 100) × (r.rate < 1000)
-IsFault w h r (RateNotHigher fee vsize) =
+abbrev pub IsBumpFault : PlainWallet → History → PlainRequest → BumpFault → Type 0
+IsBumpFault w h r (NotPending None) = (txid : List ℕ) × (r.bump ≡ Some txid) × All (λ (t : Transaction). txid_of t ≢ txid) w.pending
+IsBumpFault w h r (NotPending (Some s)) = (i : ℕ) × IsNamed (view_of w h) r i × HasCause (view_of w h) i s × (s ≢ state.Pending)
+IsBumpFault w h r NotSignalling = (i : ℕ) × IsNamed (view_of w h) r i × HasCause (view_of w h) i state.Pending × (MayBeReplaced (view_of w h) i → ⊥)
+IsBumpFault w h r (ForeignInput o) = (i : ℕ) × IsOffered (view_of w h) r i × IsFirstForeign h (replaced_at (view_of w h) i) o
+IsBumpFault w h r (TooManyEvicted n) = (i : ℕ) × IsReckoned w h r i × (n ≡ length (replaced_at (view_of w h) i)) × (100 < n)
+IsBumpFault w h r RateBelowIncrement = (i : ℕ) × IsReckoned w h r i × (length (replaced_at (view_of w h) i) ≤ 100) × (r.rate < 1000)
+IsBumpFault w h r (RateNotHigher fee vsize) =
     (i : ℕ) × IsReckoned w h r i × (length (replaced_at (view_of w h) i) ≤ 100) × (1000 ≤ r.rate)
     × (fee ≡ fee_in h (replaced_at (view_of w h) i) (tx_at (view_of w h) i)) × (vsize ≡ vsize_of (weight_of (tx_at (view_of w h) i))) × (r.rate * vsize ≤ 1000 * fee)
-IsFault w h r Memory = Unit {0}
+IsBumpFault w h r Memory = Unit {0}
 
 -- Nothing keeps the payment at place i from being replaced.
 pub record CanReplace (w : PlainWallet) (h : History) (r : PlainRequest) (i : ℕ) : Type 0 where

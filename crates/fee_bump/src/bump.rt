@@ -1,6 +1,6 @@
 //! The terms of a replacement, or why there are none.
 
-ghost use Rattle.std.specs.Prelude.{◌≡◌, ◌≢◌, ◌<◌, ◌≤◌, ◌++◌, ◌&&◌, [], Ok, Err, IfErr, IfOk, OnOk, All, IsSome, None, Some, bytes_eq, filter, if◌then◌else◌, length, map, not, option_map, slice_index_or, sum_by, unwrap_or};
+ghost use Rattle.std.specs.Prelude.{◌≡◌, ◌≢◌, ◌<◌, ◌≤◌, ◌++◌, ◌&&◌, ℕ, [], Ok, Err, IfErr, IfOk, OnOk, All, IsSome, None, Some, bytes_eq, filter, if◌then◌else◌, length, map, not, option_map, slice_index_or, sum_by, unwrap_or};
 ghost use Rattle.std.specs.Option.{option_or};
 ghost use Rattle.indexmap.specs.IndexSet.{contains};
 ghost use Rattle.coin_candidates.specs.Candidates.{AreCandidates};
@@ -17,7 +17,8 @@ ghost use Rattle.tx_codec.specs.Transaction.{Transaction};
 ghost use Rattle.tx_codec.specs.Txid.{txid_of};
 ghost use Rattle.tx_codec.specs.Weight.{weight_of};
 ghost use Rattle.tx_codec.specs.declared.tx.TxOut.{TxOut};
-ghost use Rattle.fee_bump.specs.Bump.{added_of, fee_in, replaced_at, terms_at, terms_of};
+ghost use Rattle.known_fees.specs.Worth.{fee_in};
+ghost use Rattle.fee_bump.specs.Bump.{added_of, replaced_at, terms_at, terms_of};
 ghost use Rattle.fee_bump.specs.Faults.{count_fault, fault_of, foreign_in, input_fault, pending_fault, signal_fault};
 ghost use Rattle.fee_bump.specs.declared.fault.BumpFault.TheVariants as faults;
 
@@ -26,13 +27,14 @@ use crate::fault::BumpFault;
 use crate::rate::{check_higher, check_increment};
 use crate::replaced::{can_be_replaced, replaced, txid_set, txids};
 use crate::terms::BumpTerms;
-use crate::worth::{fee_in, fees_in, foreign, spent_by};
-use coin_book::Book;
+use crate::together::{fees_in, foreign};
+use coin_book::{Book, Known};
 use coin_candidates::Candidate;
 use fee_rates::vsize;
 use fund_base::{MAX_MONEY, Memory, OutPoint, Txid};
 use indexmap::IndexSet;
-use payment_facts::{confirmed_without, facts_of_coins};
+use known_fees::{fee_in, spent_by};
+use payment_facts::{known_facts, known_without};
 use payment_states::{State, States};
 use request_text::Request;
 use std::alloc::Global;
@@ -79,7 +81,7 @@ fn at(txs: &[Tx], place: usize) -> &Tx
 /// are left out.
 fn may_be_added(
     alloc: Global,
-    book: &Book,
+    book: &Known<'_>,
     wallet: &Wallet,
     tip: u32,
     points: &IndexSet<OutPoint>,
@@ -89,11 +91,11 @@ fn may_be_added(
     requires book { IsBookOf wallet.now book.now }
     requires tip { tip < 4294967295 }
     requires gone { gone.now.keys ≡ names.now }
-    ensures { IfOk result (λ v. v.items ≡ added_of (facts_among wallet.now book.now tip points.now.keys) (confirmed_without_of wallet.now book.now tip names.now) names.now) }
+    ensures { (rate : ℕ) → IfOk result (λ v. v.items ≡ added_of (facts_among wallet.now book.now tip rate points.now.keys) (confirmed_without_of wallet.now book.now tip names.now) names.now) }
 {
-    book.len();
+    book.keeps_rules();
     wallet.pending.len();
-    let coins = confirmed_without(alloc, book, wallet, tip, names)?;
+    let coins = known_without(alloc, book, wallet, tip, names)?;
     let candidates = added(alloc, coins, points, gone)?;
     Ok(candidates)
 }
@@ -102,7 +104,7 @@ fn may_be_added(
 /// the others are its Pending descendants.
 fn terms_for(
     alloc: Global,
-    book: &Book,
+    book: &Known<'_>,
     wallet: &Wallet,
     states: &States,
     tip: u32,
@@ -130,10 +132,19 @@ fn terms_for(
     ensures makers { IfOk result (λ t. All (HasMaker book.now) (t.presets ++ t.candidates)) }
     ensures burden { IfOk result (λ t. t.burden ≤ 1_000_000_000_000_000_000) }
 {
-    book.len();
+    book.keeps_rules();
+    request.keeps_rules();
     let payment = at(&wallet.pending, place);
     let points = spent_by(alloc, payment)?;
-    let presets = facts_of_coins(alloc, book, wallet, states, tip, points.as_slice())?;
+    let presets = known_facts(
+        alloc,
+        book,
+        wallet,
+        states,
+        tip,
+        points.as_slice(),
+        request.rate,
+    )?;
     let candidates = may_be_added(alloc, book, wallet, tip, &points, &names, gone)?;
     let fees = fees_in(alloc, book, txs, gone)?;
     let burden = burden(request, &presets, fees);
@@ -152,7 +163,7 @@ fn terms_for(
 /// and the rate is at least the incremental one.
 fn terms(
     alloc: Global,
-    book: &Book,
+    book: &Known<'_>,
     wallet: &Wallet,
     states: &States,
     tip: u32,
@@ -201,7 +212,7 @@ fn terms(
 /// The terms of a replacement of the payment at a place, which is Pending and may be replaced, or why there are none.
 fn replacing(
     alloc: Global,
-    book: &Book,
+    book: &Known<'_>,
     wallet: &Wallet,
     states: &States,
     tip: u32,
@@ -266,7 +277,7 @@ fn check_signals(can_be_replaced: bool) -> Result<(), BumpFault>
 /// The terms of a replacement of the payment at a place, which is Pending, or why there are none.
 fn waiting(
     alloc: Global,
-    book: &Book,
+    book: &Known<'_>,
     wallet: &Wallet,
     states: &States,
     tip: u32,
@@ -286,6 +297,46 @@ fn waiting(
 {
     check_signals(can_be_replaced(alloc, book, wallet, states, place)?)?;
     replacing(alloc, book, wallet, states, tip, request, place)
+}
+
+/// The same as [`bump_terms`], by a book that is lent.
+pub fn known_terms(
+    alloc: Global,
+    book: &Known<'_>,
+    wallet: &Wallet,
+    states: &States,
+    tip: u32,
+    request: &Request,
+) -> Result<BumpTerms, BumpFault>
+    requires book { IsBookOf wallet.now book.now }
+    requires states { states.now ≡ payments_of wallet.now book.now }
+    requires tip { tip < 4294967295 }
+    requires bump { IsSome request.now.bump }
+    ensures terms { IfOk result (λ t. t ≡ terms_of wallet.now book.now tip request.now) }
+    // Each fault comes exactly where it is the first cause.
+    ensures fault { IfErr result (λ e. e ≢ faults.Memory → fault_of wallet.now book.now request.now ≡ Some e) }
+    ensures none { OnOk result (fault_of wallet.now book.now request.now ≡ None) }
+    ensures short { result ≡ Err faults.Memory → state_of (payments_of wallet.now book.now) (unwrap_or request.now.bump []) ≡ Some State.Pending }
+    // What a plan asks of its coins: there is a preset, and presets and candidates are at most 100,000 together, each
+    // outpoint once.
+    ensures some { IfOk result (λ t. 0 < length t.presets) }
+    ensures fit { IfOk result (λ t. AreCandidates (t.presets ++ t.candidates)) }
+    ensures makers { IfOk result (λ t. All (HasMaker book.now) (t.presets ++ t.candidates)) }
+    ensures burden { IfOk result (λ t. t.burden ≤ 1_000_000_000_000_000_000) }
+{
+    book.keeps_rules();
+    wallet.pending.len();
+    let Some(txid) = request.bump else {
+        unreachable!()
+    };
+    let Some(place) = states.place(&txid) else {
+        return Err(BumpFault::NotPending(None));
+    };
+    match pending_fault(states.state(&txid)) {
+        Some(fault) => return Err(fault),
+        None => {}
+    }
+    waiting(alloc, book, wallet, states, tip, request, place)
 }
 
 /// The terms of a replacement of the payment that the request names, or why there are none.
@@ -329,17 +380,6 @@ pub fn bump_terms(
     ensures makers { IfOk result (λ t. All (HasMaker book.now) (t.presets ++ t.candidates)) }
     ensures burden { IfOk result (λ t. t.burden ≤ 1_000_000_000_000_000_000) }
 {
-    book.len();
-    wallet.pending.len();
-    let Some(txid) = request.bump else {
-        unreachable!()
-    };
-    let Some(place) = states.place(&txid) else {
-        return Err(BumpFault::NotPending(None));
-    };
-    match pending_fault(states.state(&txid)) {
-        Some(fault) => return Err(fault),
-        None => {}
-    }
-    waiting(alloc, book, wallet, states, tip, request, place)
+    let known = book.known();
+    known_terms(alloc, &known, wallet, states, tip, request)
 }

@@ -1,44 +1,17 @@
 //! What a replacement pays beside the fee of its rate.
 
-ghost use Rattle.std.specs.Prelude.{◌≡◌, ◌≤◌, length, min, sum_by};
+ghost use Rattle.std.specs.Prelude.{◌≡◌, ◌≤◌};
 ghost use Rattle.coin_candidates.specs.Candidates.{AreCandidates};
-ghost use Rattle.fee_rates.specs.Output.{output_size_of};
 ghost use Rattle.fee_rates.specs.Terms.{AreRates, IsLoad, base_of};
-ghost use Rattle.request_text.specs.declared.request.Recipient.{Recipient};
 ghost use Rattle.fee_bump.specs.Bump.{bare_load, burden_at, least_vsize, weight_of};
 
 use coin_candidates::Candidate;
-use fee_rates::{Load, Rates, Terms, fee, output_size, vsize};
-use request_text::{Recipient, Request};
+use fee_rates::{PaymentLoad, Rates, Terms, fee, vsize};
+use request_text::{Request, outputs_count, outputs_size};
 
 /// The rate by which a replacement pays for its own size, in satoshi per 1,000 virtual bytes (Bitcoin Core,
 /// `DEFAULT_INCREMENTAL_RELAY_FEE`).
 pub const INCREMENTAL: u64 = 1000;
-
-/// What counts for a greater sum of sizes and a greater number of recipients: no payment of so many is within its weight.
-const MOST_COUNTED: u64 = 1_000_000_000;
-
-/// The sizes of the recipients' outputs together, in bytes.
-fn outputs_size(recipients: &[Recipient]) -> u64
-    ensures value { result ≡ min (sum_by (λ (q : Recipient). output_size_of q.script) recipients.now) 1_000_000_000 }
-    ensures most { result ≤ MOST_COUNTED }
-{
-    let mut size = 0;
-    for recipient in recipients {
-        size = output_size(&recipient.script)
-            .saturating_add(size)
-            .min(MOST_COUNTED);
-    }
-    size
-}
-
-/// The number of the recipients.
-fn count(recipients: &[Recipient]) -> u64
-    ensures value { result ≡ min (length recipients.now) 1_000_000_000 }
-    ensures most { result ≤ MOST_COUNTED }
-{
-    (recipients.len() as u64).min(MOST_COUNTED)
-}
 
 /// Rates of nothing, since a weight depends on none.
 fn no_rates() -> Rates
@@ -53,14 +26,14 @@ fn no_rates() -> Rates
 }
 
 /// A payment of the request's recipients from so many coins, without what these bring.
-fn bare_load(request: &Request, coins: u64) -> Load
+fn bare_load(request: &Request, coins: u64) -> PaymentLoad
     ensures value { result ≡ bare_load request.now coins }
     ensures fit { IsLoad result }
 {
-    Load {
+    PaymentLoad {
         paid: 0,
         outputs: outputs_size(&request.recipients),
-        count: count(&request.recipients),
+        count: outputs_count(&request.recipients),
         coins,
         preset_effective: 0,
         preset_weight: 0,

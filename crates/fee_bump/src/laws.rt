@@ -23,9 +23,10 @@ ghost use Rattle.payment_states.specs.Makers.{HasMaker};
 ghost use Rattle.payment_facts.specs.Pendings.{pending_below};
 ghost use Rattle.payment_states.specs.PendingView.{PendingView, tx_at, view_of};
 ghost use Rattle.payment_states.specs.declared.state.State.TheVariants as state;
-ghost use Rattle.fee_bump.specs.Bump.{burden_at, fees_in, incremental, least_vsize, payment_place, replaced_at, spent_by, terms_of};
+ghost use Rattle.known_fees.specs.Worth.{spent_by};
+ghost use Rattle.fee_bump.specs.Bump.{burden_at, fees_in, incremental, least_vsize, payment_place, replaced_at, terms_of};
 ghost use Rattle.fee_bump.specs.Faults.{fault_of};
-ghost use Rattle.fee_bump.specs.Meant.{CanReplace, GoesWith, IsFault, MayBeReplaced};
+ghost use Rattle.fee_bump.specs.Meant.{CanReplace, GoesWith, IsBumpFault, MayBeReplaced};
 ghost use Rattle.fee_bump.specs.declared.fault.BumpFault.{BumpFault};
 
 /// The law of what is replaced: the transactions are exactly the payment, where it is Pending, and those that descend from
@@ -41,12 +42,12 @@ pub fn replaced_by_ways()
 /// The law of why a payment isn't replaced: what is worked out is the cause that is there, each in its order. None is worked
 /// out exactly where nothing keeps the payment from being replaced.
 pub fn faults_have_one_cause()
-    ensures fault { (w : PlainWallet) (h : History) (r : PlainRequest) (txid : List ℕ) (fault : BumpFault) → IsWallet w → r.bump ≡ Some txid → fault ≢ BumpFault.Memory → (IsFault w h r fault ↔ (fault_of w h r ≡ Some fault)) }
+    ensures fault { (w : PlainWallet) (h : History) (r : PlainRequest) (txid : List ℕ) (fault : BumpFault) → IsWallet w → r.bump ≡ Some txid → fault ≢ BumpFault.Memory → (IsBumpFault w h r fault ↔ (fault_of w h r ≡ Some fault)) }
     ensures none { (w : PlainWallet) (h : History) (r : PlainRequest) (txid : List ℕ) → IsWallet w → r.bump ≡ Some txid → ((fault_of w h r ≡ None) ↔ CanReplace w h r (payment_place (view_of w h) r)) }
 {}
 
 /// The law of the terms: where nothing is foreign, the presets are the coins that the payment's inputs spend, each once, with
-/// what is known of them, and there is one at least. The candidates are those of the confirmed coins that could be spent if
+/// what is known of them at the request's rate, and there is one at least. The candidates are those of the confirmed coins that could be spent if
 /// what is replaced had never been written down, that are no presets and no outputs of what is replaced. So each is an output
 /// of a confirmed transaction (BIP 125, 'Implementation Details', rule 2).
 pub fn terms_by_rules()
@@ -54,7 +55,7 @@ pub fn terms_by_rules()
         All (λ (x : TxIn). Any (λ (c : Candidate). c.coin ≡ x.prev) (terms_of w h tip r).presets) (tx_at (view_of w h) (payment_place (view_of w h) r)).inputs }
     ensures some { (w : PlainWallet) (h : History) (tip : ℕ) (r : PlainRequest) (txid : List ℕ) → IsWallet w → IsBookOf w h → book_fault h ≡ None → r.bump ≡ Some txid → fault_of w h r ≡ None → 0 < length (terms_of w h tip r).presets }
     ensures only { (w : PlainWallet) (h : History) (tip : ℕ) (r : PlainRequest) → IsWallet w → IsBookOf w h → book_fault h ≡ None →
-        All (λ (c : Candidate). Any (λ (x : TxIn). x.prev ≡ c.coin) (tx_at (view_of w h) (payment_place (view_of w h) r)).inputs × (facts_at w h tip c.coin ≡ Some c)) (terms_of w h tip r).presets }
+        All (λ (c : Candidate). Any (λ (x : TxIn). x.prev ≡ c.coin) (tx_at (view_of w h) (payment_place (view_of w h) r)).inputs × (facts_at w h tip r.rate c.coin ≡ Some c)) (terms_of w h tip r).presets }
     ensures added { (w : PlainWallet) (h : History) (tip : ℕ) (r : PlainRequest) (c : Candidate) →
         (Contains (terms_of w h tip r).candidates c ↔ (Contains (confirmed_without_of w h tip (terms_of w h tip r).replaced) c × All (λ (p : Candidate). p.coin ≢ c.coin) (terms_of w h tip r).presets × All (λ (txid : List ℕ). txid ≢ c.coin.txid) (terms_of w h tip r).replaced)) }
     ensures confirmed { (w : PlainWallet) (h : History) (tip : ℕ) (r : PlainRequest) → IsWallet w → IsBookOf w h → book_fault h ≡ None →
@@ -88,12 +89,6 @@ pub fn replacements_pay_more()
         fees_in h (replaced_at (view_of w h) (payment_place (view_of w h) r)) + fee_of incremental size < (terms_of w h tip r).burden + fee_of r.rate size }
     ensures rate { (w : PlainWallet) (h : History) (tip : ℕ) (r : PlainRequest) (txid : List ℕ) (fee size : ℕ) → IsWallet w → r.bump ≡ Some txid → fault_of w h r ≡ None → 0 < size → fee_of r.rate size ≤ fee →
         (terms_of w h tip r).old_fee * size < fee * (terms_of w h tip r).old_vsize }
-{}
-
-/// The law of outpoints that are counted once: what a transaction spends are the outpoints of its inputs, each once.
-pub fn spent_once()
-    ensures each { (t : Transaction) (o : OutPoint) → (Contains (spent_by t) o ↔ Any (λ (x : TxIn). x.prev ≡ o) t.inputs) }
-    ensures once { (t : Transaction) → AllPairs (λ (a b : OutPoint). a ≢ b) (spent_by t) }
 {}
 
 /// The law of what a plan asks of the terms: presets and candidates are together at most 100,000 coins that a payment can

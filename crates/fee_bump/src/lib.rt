@@ -9,12 +9,12 @@ mod laws;
 mod rate;
 mod replaced;
 mod terms;
-mod worth;
+mod together;
 
-pub use bump::bump_terms;
+pub use bump::{bump_terms, known_terms};
 pub use fault::BumpFault;
 pub use laws::{
     burdens_pay_for_replacing, conflicts_are_replaced, faults_have_one_cause, replaced_by_ways,
-    replacements_pay_more, spent_once, terms_by_rules, terms_fit_a_plan,
+    replacements_pay_more, terms_by_rules, terms_fit_a_plan,
 };
 pub use terms::BumpTerms;

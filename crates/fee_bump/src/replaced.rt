@@ -4,12 +4,13 @@ ghost use Rattle.std.specs.Prelude.{◌≡◌, ◌<◌, IfOk, All, length, map, 
 ghost use Rattle.std.specs.List.{list_any};
 ghost use Rattle.tx_codec.specs.Txid.{txid_of};
 ghost use Rattle.wallet_text.specs.WalletRules.{AreDistinct};
+ghost use Rattle.payment_states.specs.BookOf.{IsBookOf};
 ghost use Rattle.payment_states.specs.Payments.{payments_of};
 ghost use Rattle.payment_states.specs.PendingView.{no_tx, view_of};
 ghost use Rattle.fee_bump.specs.Bump.{replaced_at};
 ghost use Rattle.fee_bump.specs.Faults.{can_be_replaced, has_signal};
 
-use coin_book::Book;
+use coin_book::Known;
 use fund_base::{Memory, Txid};
 use indexmap::IndexSet;
 use payment_facts::{pending_ancestors, pending_descendants};
@@ -42,11 +43,12 @@ fn any_signals(txs: &[Tx], places: &[usize]) -> bool
 /// is out of memory.
 pub fn can_be_replaced(
     alloc: Global,
-    book: &Book,
+    book: &Known<'_>,
     wallet: &Wallet,
     states: &States,
     place: usize,
 ) -> Result<bool, Memory>
+    requires book { IsBookOf wallet.now book.now }
     requires states { states.now ≡ payments_of wallet.now book.now }
     requires place { place < length wallet.now.pending }
     ensures { IfOk result (λ b. b ≡ can_be_replaced (view_of wallet.now book.now) place) }
@@ -71,11 +73,12 @@ fn copies(alloc: Global, txs: &[Tx], places: &[usize]) -> Result<Vec<Tx>, Memory
 /// The transaction at a place of the pending list and its Pending descendants, in list order. The error is out of memory.
 pub fn replaced(
     alloc: Global,
-    book: &Book,
+    book: &Known<'_>,
     wallet: &Wallet,
     states: &States,
     place: usize,
 ) -> Result<Vec<Tx>, Memory>
+    requires book { IsBookOf wallet.now book.now }
     requires states { states.now ≡ payments_of wallet.now book.now }
     requires place { place < length wallet.now.pending }
     ensures value { IfOk result (λ v. v.items ≡ replaced_at (view_of wallet.now book.now) place) }

@@ -7,8 +7,8 @@ use std::marker::Model;
 /// What a replacement is made from.
 #[derive(Drop)]
 pub struct BumpTerms {
-    /// The inputs of the payment that is replaced, as coins, each once, in the order of its inputs. Each replacement spends
-    /// them.
+    /// The inputs of the payment that is replaced, as coins, each once, in the order of its inputs, with their prices at the
+    /// request's rate. Each replacement spends them.
     pub presets: Vec<Candidate>,
     /// What may be added: confirmed coins, in order of creation, that could be spent if what is replaced had never been
     /// written down. None is a preset or an output of what is replaced.

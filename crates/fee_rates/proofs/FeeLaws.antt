@@ -54,6 +54,21 @@ weighed_parts {X = X} weight r base (x ∷ xs) =
       sum_by-cons (λ (y : X). input_fee_of r (weight y)) x xs,
     )
 
+-- sizes together
+pub each_parts : {X : Type 0} (size : X → ℕ) (r whole : ℕ) (xs : List X) → fee_of r (whole + sum_by size xs) ≤ fee_of r whole + sum_by (λ x. fee_of r (size x)) xs
+each_parts size r whole [] = omega (arith, fee_below r (whole + 0) r whole (omega arith) (omega arith))
+each_parts {X = X} size r whole (x ∷ xs) =
+    omega (
+      arith,
+      each_parts size r (whole + size x) xs,
+      fee_parts r whole (size x),
+      fee_below r (whole + sum_by size (x ∷ xs)) r (whole + size x + sum_by size xs) (omega arith) (omega (arith, sum_by-cons size x xs)),
+      sum_by-cons (λ (y : X). fee_of r (size y)) x xs,
+    )
+
+pub sizes_parts : (r size : ℕ) (sizes : List ℕ) → fee_of r (size + sum sizes) ≤ fee_of r size + sum_by (fee_of r) sizes
+sizes_parts r size sizes = each_parts (λ (n : ℕ). n) r size sizes
+
 pub payment_parts : (r base : ℕ) (weights : List ℕ) → input_fee_of r (base + sum weights) ≤ input_fee_of r base + sum_by (input_fee_of r) weights
 payment_parts r base weights = weighed_parts (λ (w : ℕ). w) r base weights
 

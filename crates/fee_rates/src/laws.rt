@@ -6,7 +6,7 @@ ghost use Rattle.fund_base.specs.CompactSize.{prefixed};
 ghost use Rattle.fee_rates.specs.Fee.{fee_of, vsize_of, input_fee_of};
 ghost use Rattle.fee_rates.specs.Output.{output_size_of};
 ghost use Rattle.fee_rates.specs.Terms.{TermsAgree, terms_of};
-ghost use Rattle.fee_rates.specs.declared.terms.Load.{Load};
+ghost use Rattle.fee_rates.specs.declared.terms.PaymentLoad.{PaymentLoad};
 ghost use Rattle.fee_rates.specs.declared.terms.Rates.{Rates};
 
 /// The law of higher rates: a higher rate, a larger size and a greater weight have no lower fee.
@@ -33,6 +33,12 @@ pub fn fee_of_parts()
         input_fee_of r (base + sum weights + 4 * size) ≤ input_fee_of r base + sum_by (input_fee_of r) weights + fee_of r size }
 {}
 
+/// The law of many parts: a size and others together have no higher fee than each of them by itself.
+#[tactic(auto, using(crate::proofs::FeeLaws::sizes_parts))]
+pub fn fee_of_all()
+    ensures { (r size : ℕ) (sizes : List ℕ) → fee_of r (size + sum sizes) ≤ fee_of r size + sum_by (fee_of r) sizes }
+{}
+
 /// The law of output sizes: the size of an output is the length of its text, whatever its value.
 #[tactic(auto, using(crate::proofs::CompactLaws::output_text_length))]
 pub fn output_text_size()
@@ -40,9 +46,10 @@ pub fn output_text_size()
 {}
 
 /// The law of terms: the payments without change and those with one meet with no gap between them, the change that is
-/// aimed at is no less than the least one, and a payment without presets chooses a coin. The least change is the least
-/// amount that is more than its spending costs and no dust. Coins are within a limit exactly where the payment weighs at
+/// aimed at is no less than the least one, and a payment without presets chooses a coin. A target above
+/// 1,000,000,000,000,000,000 counts as that. The least change is the least amount that is more than its spending costs and
+/// no dust. Coins are within a limit exactly where the payment weighs at
 /// most 400,000 weight units.
 pub fn terms_meet()
-    ensures { (r : Rates) (l : Load) → TermsAgree r l (terms_of r l) }
+    ensures { (r : Rates) (l : PaymentLoad) → TermsAgree r l (terms_of r l) }
 {}

@@ -8,6 +8,6 @@ mod outputs;
 mod terms;
 
 pub use fees::{MAX_RATE, effective, fee, input_fee, vsize};
-pub use laws::{fee_of_parts, fee_rises, fee_splits, output_text_size, terms_meet};
+pub use laws::{fee_of_all, fee_of_parts, fee_rises, fee_splits, output_text_size, terms_meet};
 pub use outputs::{dust, is_program, output_size};
-pub use terms::{Load, MAX_WEIGHT, Rates, Terms};
+pub use terms::{PaymentLoad, Rates, Terms};

@@ -1,14 +1,14 @@
 //! The amounts and weights that a search for coins has to meet.
 
-ghost use Rattle.std.specs.Prelude.{◌≡◌, ◌+◌, ◌≤◌, ◌≤ℤ◌, ◌+ℤ◌, pos, neg_ℤ, length};
-ghost use Rattle.fund_base.specs.CompactSize.{compact};
-ghost use Rattle.fee_rates.specs.Terms.{AreRates, IsLoad, TermsAgree, base_of, big_of, change_fee_of, change_least_of, change_limit_of, change_spend_of, hi_of, plain_limit_of, raw_of, small_of, target_of, terms_of};
+ghost use Rattle.std.specs.Prelude.{◌≡◌, ◌+◌, ◌≤◌, ◌≤ℤ◌, pos, neg_ℤ};
+ghost use Rattle.fee_rates.specs.Terms.{AreRates, IsLoad, TermsAgree, asked_of, base_of, big_of, change_fee_of, change_least_of, change_limit_of, change_spend_of, hi_of, plain_limit_of, raw_of, small_of, target_of, terms_of};
 
 use crate::fees::{fee, input_fee, vsize};
 use crate::outputs::compact_len;
+use fund_base::MAX_WEIGHT;
 
-/// The greatest weight of a payment, in weight units (Bitcoin Core, `MAX_STANDARD_TX_WEIGHT`).
-pub const MAX_WEIGHT: u64 = 400_000;
+/// The greatest target, in satoshi: a greater one counts as this. No coins bring it.
+const MOST_TARGET: i128 = 1_000_000_000_000_000_000;
 
 /// The rates of a request, in satoshi per 1,000 virtual bytes, and the change that it aims at.
 #[derive(Clone, Copy, PartialEq, Eq)]
@@ -25,7 +25,7 @@ pub struct Rates {
 
 /// What a payment is to carry, before coins are chosen for it.
 #[derive(Clone, Copy, PartialEq, Eq)]
-pub struct Load {
+pub struct PaymentLoad {
     /// What the recipients get together, in satoshi.
     pub paid: u64,
     /// The sum of the sizes of the recipients' outputs, in bytes. A caller with more than 1,000,000,000 says
@@ -35,7 +35,7 @@ pub struct Load {
     pub count: u64,
     /// How many coins the payment could have as inputs at most, presets among them.
     pub coins: u64,
-    /// The sum of the presets' effective values, in satoshi. The presets are the inputs that are given and not chosen.
+    /// What the presets bring, in satoshi: the sum of their effective values, less their prices. The presets are the inputs that are given and not chosen.
     pub preset_effective: i128,
     /// The sum of the presets' weights, in weight units.
     pub preset_weight: u64,
@@ -56,7 +56,7 @@ pub struct Load {
 pub struct Terms {
     /// The weight of the payment without its inputs and without change.
     pub base: u64,
-    /// What the chosen coins have to bring at least.
+    /// What the chosen coins have to bring at least; at most 1,000,000,000,000,000,000, which stands for more.
     pub target: i128,
     /// What they may bring at most if there is no change.
     pub hi: i128,
@@ -77,7 +77,7 @@ pub struct Terms {
 }
 
 /// The weight of a payment without its inputs and without change.
-fn base(load: &Load) -> u64
+fn base(load: &PaymentLoad) -> u64
     requires outputs { load.now.outputs ≤ 1_000_000_000 }
     requires count { load.now.count ≤ 1_000_000_000 }
     ensures value { result ≡ base_of load.now }
@@ -89,7 +89,7 @@ fn base(load: &Load) -> u64
 }
 
 /// What coins have to bring, however little it is.
-fn raw(rates: &Rates, load: &Load) -> i128
+fn raw(rates: &Rates, load: &PaymentLoad) -> i128
     requires rates { AreRates rates.now }
     requires load { IsLoad load.now }
     ensures value { result ≡ raw_of rates.now load.now }
@@ -100,11 +100,11 @@ fn raw(rates: &Rates, load: &Load) -> i128
     (load.paid + fee + load.burden) as i128 - load.preset_effective
 }
 
-/// What coins have to bring at least.
-fn target(rates: &Rates, load: &Load) -> i128
+/// What coins have to bring, and at least 1 where there are no presets.
+fn asked(rates: &Rates, load: &PaymentLoad) -> i128
     requires rates { AreRates rates.now }
     requires load { IsLoad load.now }
-    ensures value { result ≡ target_of rates.now load.now }
+    ensures value { result ≡ asked_of rates.now load.now }
     ensures low { neg_ℤ (pos 1_000_000_000_000_000_000_000) ≤ℤ result }
     ensures high { result ≤ℤ pos 1_002_000_000_000_000_000_000 }
 {
@@ -112,12 +112,23 @@ fn target(rates: &Rates, load: &Load) -> i128
     if load.has_presets { raw } else { raw.max(1) }
 }
 
+/// What coins have to bring at least, as it counts.
+fn target(rates: &Rates, load: &PaymentLoad) -> i128
+    requires rates { AreRates rates.now }
+    requires load { IsLoad load.now }
+    ensures value { result ≡ target_of rates.now load.now }
+    ensures low { neg_ℤ (pos 1_000_000_000_000_000_000_000) ≤ℤ result }
+    ensures high { result ≤ℤ pos 1_000_000_000_000_000_000 }
+{
+    asked(rates, load).min(MOST_TARGET)
+}
+
 impl Terms {
     /// The terms of a payment. The rates are at most [`crate::MAX_RATE`], `paid` and `change_target` at most
     /// [`fund_base::MAX_MONEY`], sizes and the count at most 1,000,000,000, the presets' weight at most 40,000,000,000
     /// and that of the change's input at most 400,000, the burden at most 10^18, and the presets' effective value from
     /// -10^21 to 10^21.
-    pub fn new(rates: &Rates, load: &Load) -> Terms
+    pub fn new(rates: &Rates, load: &PaymentLoad) -> Terms
         requires rates { AreRates rates.now }
         requires load { IsLoad load.now }
 
@@ -139,7 +150,7 @@ impl Terms {
         // Bounds, for the sums of those who call.
         ensures base_most { result.base ≤ 5_000_000_000 }
         ensures target_low { neg_ℤ (pos 1_000_000_000_000_000_000_000) ≤ℤ result.target }
-        ensures target_high { result.target ≤ℤ pos 1_002_000_000_000_000_000_000 }
+        ensures target_high { result.target ≤ℤ pos 1_000_000_000_000_000_000 }
         ensures big_high { result.big ≤ℤ pos 1_021_000_000_000_000_000_000 }
         ensures change_fee_most { result.change_fee ≤ 100_000_000_000_000 }
         ensures change_spend_most { result.change_spend ≤ 10_000_000_000 }

@@ -8,7 +8,7 @@ use Rattle.fund_steps.proofs.PresetLaws.{all_eligible, is_missing}
 use Rattle.fund_steps.specs.Amounts.{value_of}
 use Rattle.fund_steps.specs.Listed.{listed_in}
 use Rattle.fund_steps.specs.Faults.{by_missing, crowded_among, fault_of, kept_in}
-use Rattle.fund_steps.specs.Plan.{HasEligible, HasNone, IsFault, IsFirstMissing, IsPlan, IsRoomy, IsWithin, KeepsGroups, PlainPlan, coins_in, ladder_in}
+use Rattle.fund_steps.specs.Plan.{HasEligible, HasNone, IsPlanFault, IsFirstMissing, IsPlan, IsRoomy, IsWithin, KeepsGroups, PlainPlan, coins_in, ladder_in}
 use Rattle.fund_steps.specs.Selection.{first_missing, unlisted}
 use Rattle.fund_steps.specs.declared.fault.PlanFault.{PlanFault}
 use Rattle.fund_steps.specs.declared.fault.PlanFault.TheVariants.{Total, NotEligible, TooMany, Memory}
@@ -89,7 +89,7 @@ within_fault p within =
 eligible_fault : (p : PlainPlan) → IsWithin p → All (HasEligible p) p.request.coins → fault_of p ≡ crowded_among p (ladder_in p)
 eligible_fault p within eligible = within_fault p within ∙ ap (by_missing p) (none_missing p (first_missing (listed_in p) p.request.coins) refl eligible)
 
-pub fault_found : (p : PlainPlan) (fault : PlanFault) → IsFault p fault → fault ≢ Memory → fault_of p ≡ Some fault
+pub fault_found : (p : PlainPlan) (fault : PlanFault) → IsPlanFault p fault → fault ≢ Memory → fault_of p ≡ Some fault
 fault_found p (Total sum) h real =
     let over : 2_100_000_000_000_000 < value_of (coins_in p) = subst (λ (n : ℕ). 2_100_000_000_000_000 < n) h.0 h.1 in
     cond-true (nat_lt 2_100_000_000_000_000 (value_of (coins_in p))) (Some (Total (value_of (coins_in p)))) (by_missing p (first_missing (listed_in p) p.request.coins)) (lt-ltb 2_100_000_000_000_000 (value_of (coins_in p)) over)

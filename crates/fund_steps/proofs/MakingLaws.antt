@@ -9,7 +9,7 @@ use Rattle.std.proofs.lemmas.List.Folds.{flat_map-map, fold-map}
 use Rattle.closing_log.specs.declared.log.Stage.{Stage}
 use Rattle.closing_log.specs.declared.log.Stage.TheVariants as stage
 use Rattle.fee_rates.specs.Terms.{terms_of}
-use Rattle.fee_rates.specs.declared.terms.Load.{Load}
+use Rattle.fee_rates.specs.declared.terms.PaymentLoad.{PaymentLoad}
 use Rattle.fee_rates.specs.declared.terms.Rates.{Rates}
 use Rattle.fee_rates.specs.declared.terms.Terms.{Terms}
 use Rattle.coin_candidates.specs.declared.candidate.Candidate.{Candidate}
@@ -23,7 +23,7 @@ use Rattle.pick_problem.specs.Problem.{IsProblem, PlainProblem}
 use Rattle.pick_problem.specs.declared.item.Item.{Item}
 use Rattle.search_run.specs.Step.{FitsStage, IsStep, PlainStep}
 use Rattle.fund_steps.specs.Basis.{Basis, basis_of, given_in, load_alone}
-use Rattle.fund_steps.specs.Kept.{IsKept}
+use Rattle.fund_steps.specs.BasisOf.{IsBasisOf}
 use Rattle.fund_steps.specs.Listed.{burden_in, presets_in}
 use Rattle.fund_steps.specs.Making.{AreSearchable, AreSearched, steps_by, steps_for, steps_with}
 use Rattle.fund_steps.specs.Plan.{PlainPlan}
@@ -98,7 +98,7 @@ seen_by t r [] = refl
 seen_by t r (u ∷ us) = ap (λ (xs : List PlainStep). step_by t r u ∷ xs) (seen_by t r us)
 
 -- and the steps are the pool's
-pub steps_seen : (r : Rates) (l : Load) (us : List Turn) (g : PlainGroups) (row : Row) (items : List Item) (sizes : List ℕ) → items ≡ (pool_in g row).items → sizes ≡ sizes_of (pool_in g row).groups
+pub steps_seen : (r : Rates) (l : PaymentLoad) (us : List Turn) (g : PlainGroups) (row : Row) (items : List Item) (sizes : List ℕ) → items ≡ (pool_in g row).items → sizes ≡ sizes_of (pool_in g row).groups
     → steps_by r l us row.number items sizes ≡ steps_with r l us (record { row = row; pool = pool_in g row })
 steps_seen r l us g row items sizes are have =
     let pool = pool_in g row in
@@ -120,20 +120,20 @@ rows_more f old now new rows i d lt was is =
 
 -- ---- what is made is what is defined
 
-pub load_is_alone : (p : PlainPlan) (presets : List Candidate) (load : Load) → load ≡ load_of p.request p.change presets (burden_in p) → presets ≡ presets_in p → load ≡ load_alone (basis_of p)
+pub load_is_alone : (p : PlainPlan) (presets : List Candidate) (load : PaymentLoad) → load ≡ load_of p.request p.change presets (burden_in p) → presets ≡ presets_in p → load ≡ load_alone (basis_of p)
 load_is_alone p presets load is same = is ∙ ap (λ (cs : List Candidate). load_of p.request p.change cs (burden_in p)) same
 
-pub kept_alone : (p : PlainPlan) (presets rest : List Candidate) (rates : Rates) (load : Load) → IsKept p presets rest rates load → presets_of rates load ≡ given_in (basis_of p)
+pub kept_alone : (p : PlainPlan) (presets rest : List Candidate) (rates : Rates) (load : PaymentLoad) → IsBasisOf p presets rest rates load → presets_of rates load ≡ given_in (basis_of p)
 kept_alone p presets rest rates load h =
     ap (λ (r : Rates). presets_of r load) h.rates_are ∙ ap (presets_of (rates_of p.request)) (load_is_alone p presets load h.load_is h.presets_are)
 
-pub steps_are : (b : Basis) (load : Load) (rest : List Candidate) (turns : List Turn) → load ≡ load_alone b → rest ≡ b.rest → turns ≡ turns_for b.request load →
+pub steps_are : (b : Basis) (load : PaymentLoad) (rest : List Candidate) (turns : List Turn) → load ≡ load_alone b → rest ≡ b.rest → turns ≡ turns_for b.request load →
     flat_map (steps_for b.request load rest turns) (ladder_of b.request.zero_conf b.request.include_unsafe) ≡ steps_of b
 unfolding steps_of
 steps_are b load rest turns same others us =
     let rows = ladder_of b.request.zero_conf b.request.include_unsafe in
     ap (λ (ts : List Turn). flat_map (steps_for b.request load rest ts) rows) us
-    ∙ ap (λ (l : Load). flat_map (steps_for b.request l rest (turns_for b.request l)) rows) same
+    ∙ ap (λ (l : PaymentLoad). flat_map (steps_for b.request l rest (turns_for b.request l)) rows) same
     ∙ ap (λ (cs : List Candidate). flat_map (steps_for b.request (load_alone b) cs (turns_for b.request (load_alone b))) rows) others
     ∙ sym (flat_map-map (steps_at b) (row_in b) rows)
 

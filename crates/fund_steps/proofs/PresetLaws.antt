@@ -14,7 +14,7 @@ use Rattle.fund_base.proofs.OutpointLaws.{same_outpoint-Decides}
 use Rattle.request_text.specs.PlainRequest.{IsRequest, PlainRequest}
 use Rattle.wallet_text.specs.WalletRules.{IsWatch}
 use Rattle.fund_steps.specs.Listed.{AreListed, is_preset, listed_in}
-use Rattle.fund_steps.specs.Plan.{HasEligible, IsBumpFor, IsEligible, IsFault, IsFirstCrowded, IsFirstMissing, IsPlan, IsRoomy, IsWithin, PlainPlan, ladder_in, may_be_listed}
+use Rattle.fund_steps.specs.Plan.{HasEligible, IsBumpFor, IsEligible, IsPlanFault, IsFirstCrowded, IsFirstMissing, IsPlan, IsRoomy, IsWithin, PlainPlan, ladder_in, may_be_listed}
 use Rattle.fund_steps.specs.Selection.{first_missing, has_coin, is_listed}
 use Rattle.fund_steps.specs.declared.fault.PlanFault.{PlanFault}
 use Rattle.fund_steps.specs.declared.fault.PlanFault.TheVariants.{Total, NotEligible, TooMany, Memory}
@@ -158,17 +158,17 @@ plan_is p r bump w cs within none roomy = record { request = r; bump = bump; cha
 -- ---- faults as they are told
 
 -- the first listed coin that isn't eligible
-missing_told : (p : PlainPlan) (o : Option OutPoint) (e : PlanFault) → option_map NotEligible o ≡ Some e → IsWithin p → o ≡ first_missing (listed_in p) p.request.coins → IsFault p e
+missing_told : (p : PlainPlan) (o : Option OutPoint) (e : PlanFault) → option_map NotEligible o ≡ Some e → IsWithin p → o ≡ first_missing (listed_in p) p.request.coins → IsPlanFault p e
 missing_told p None e is few found = absurd cc
-missing_told p (Some point) e is few found = subst (IsFault p) (same_Some (NotEligible point) e is) (few, is_missing p point (sym found))
+missing_told p (Some point) e is few found = subst (IsPlanFault p) (same_Some (NotEligible point) e is) (few, is_missing p point (sym found))
 
-pub told_missing : (p : PlainPlan) (o : Option OutPoint) (e : PlanFault) → (e ≢ Memory → option_map NotEligible o ≡ Some e) → IsWithin p → o ≡ first_missing (listed_in p) p.request.coins → IsFault p e
+pub told_missing : (p : PlainPlan) (o : Option OutPoint) (e : PlanFault) → (e ≢ Memory → option_map NotEligible o ≡ Some e) → IsWithin p → o ≡ first_missing (listed_in p) p.request.coins → IsPlanFault p e
 told_missing p o (Total sum) is few found = missing_told p o (Total sum) (is (λ h. absurd cc)) few found
 told_missing p o (NotEligible point) is few found = missing_told p o (NotEligible point) (is (λ h. absurd cc)) few found
 told_missing p o (TooMany number n) is few found = missing_told p o (TooMany number n) (is (λ h. absurd cc)) few found
 told_missing p o Memory is few found = few
 
 -- the first row that keeps too many groups
-pub told_crowded : (p : PlainPlan) (o : Option Crowded) (e : PlanFault) → option_map (λ (c : Crowded). TooMany c.number c.groups) o ≡ Some e → IsWithin p → All (HasEligible p) p.request.coins → IfSome o (λ c. IsFirstCrowded p c.number c.groups) → IsFault p e
+pub told_crowded : (p : PlainPlan) (o : Option Crowded) (e : PlanFault) → option_map (λ (c : Crowded). TooMany c.number c.groups) o ≡ Some e → IsWithin p → All (HasEligible p) p.request.coins → IfSome o (λ c. IsFirstCrowded p c.number c.groups) → IsPlanFault p e
 told_crowded p None e is few all first = absurd cc
-told_crowded p (Some c) e is few all first = subst (IsFault p) (same_Some (TooMany c.number c.groups) e is) (few, all, first)
+told_crowded p (Some c) e is few all first = subst (IsPlanFault p) (same_Some (TooMany c.number c.groups) e is) (few, all, first)

@@ -4,7 +4,7 @@ use Rattle.std.proofs.Common.{refl, sym, ap, subst, ◌∙◌, arith, add-one, d
 use Rattle.std.proofs.lemmas.List.{take-append-drop, take_all}
 use Rattle.std.proofs.lemmas.List.Elements.{All-filter}
 use Rattle.std.proofs.lemmas.List.Kept.{AllPairs-filter}
-use Rattle.fee_rates.specs.declared.terms.Load.{Load}
+use Rattle.fee_rates.specs.declared.terms.PaymentLoad.{PaymentLoad}
 use Rattle.fee_rates.specs.declared.terms.Rates.{Rates}
 use Rattle.coin_candidates.specs.Candidates.{AreCandidates, IsCandidate}
 use Rattle.coin_candidates.specs.declared.candidate.Candidate.{Candidate}
@@ -33,7 +33,7 @@ pub row_many : (r : PlainRequest) (coins : List Candidate) (row : Row) (g : Plai
 row_many r coins row g n is many = subst (λ (x : PlainGroups). KeepsManyOf x row n) is many
 
 -- and its steps are those of its pool of these coins
-pub row_made : (q : PlainRequest) (l : Load) (coins : List Candidate) (us : List Turn) (row : Row) (g : PlainGroups) (r : Rates) (now new : List PlainStep) → g ≡ groups_for q coins → r ≡ rates_of q → new ≡ now ++ steps_with r l us (record { row = row; pool = pool_in g row }) → new ≡ now ++ steps_for q l coins us row
+pub row_made : (q : PlainRequest) (l : PaymentLoad) (coins : List Candidate) (us : List Turn) (row : Row) (g : PlainGroups) (r : Rates) (now new : List PlainStep) → g ≡ groups_for q coins → r ≡ rates_of q → new ≡ now ++ steps_with r l us (record { row = row; pool = pool_in g row }) → new ≡ now ++ steps_for q l coins us row
 row_made q l coins us row g r now new is same made =
     made
     ∙ ap (λ (x : PlainGroups). now ++ steps_with r l us (record { row = row; pool = pool_in x row })) is

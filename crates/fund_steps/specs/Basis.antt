@@ -1,7 +1,7 @@
 -- What the steps of a plan are made from.
 use Rattle.std.specs.Prelude.{ℕ, List}
 use Rattle.coin_candidates.specs.declared.candidate.Candidate.{Candidate}
-use Rattle.fee_rates.specs.declared.terms.Load.{Load}
+use Rattle.fee_rates.specs.declared.terms.PaymentLoad.{PaymentLoad}
 use Rattle.request_text.specs.PlainRequest.{PlainRequest}
 use Rattle.wallet_text.specs.declared.wallet.Watch.{Watch}
 use Rattle.fund_steps.specs.Listed.{burden_in, presets_in}
@@ -25,7 +25,7 @@ abbrev pub basis_of : PlainPlan → Basis
 basis_of p = record { request = p.request; change = p.change; presets = presets_in p; rest = unlisted p.request.coins p.candidates; burden = burden_in p }
 
 -- what a payment from the presets alone is to carry
-abbrev pub load_alone : Basis → Load
+abbrev pub load_alone : Basis → PaymentLoad
 load_alone b = load_of b.request b.change b.presets b.burden
 
 -- whether the presets alone pay, and how

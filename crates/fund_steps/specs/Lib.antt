@@ -1,7 +1,7 @@
 pub mod Amounts
 pub mod Basis
+pub mod BasisOf
 pub mod Faults
-pub mod Kept
 pub mod Listed
 pub mod Making
 pub mod Plan

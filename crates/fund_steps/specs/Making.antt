@@ -1,7 +1,7 @@
 -- What steps are made from, row by row.
-use Rattle.std.specs.Prelude.{ℕ, pos, neg_ℤ, ◌<◌, ◌≤◌, ◌≤ℤ◌, ◌≡◌, List, length, map, sum, sum_by, All}
+use Rattle.std.specs.Prelude.{ℕ, pos, ◌<◌, ◌≤◌, ◌≤ℤ◌, ◌≡◌, List, length, map, sum, sum_by, All}
 use Rattle.fee_rates.specs.Terms.{AreRates, IsLoad, target_of, terms_of}
-use Rattle.fee_rates.specs.declared.terms.Load.{Load}
+use Rattle.fee_rates.specs.declared.terms.PaymentLoad.{PaymentLoad}
 use Rattle.fee_rates.specs.declared.terms.Rates.{Rates}
 use Rattle.fee_rates.specs.declared.terms.Terms.{Terms}
 use Rattle.coin_candidates.specs.declared.candidate.Candidate.{Candidate}
@@ -30,10 +30,9 @@ pub record AreSearchable (t : Terms) : Type 0 where
   pub change_spend : t.change_spend ≤ 200_000_000_000_000
 
 -- the presets' load and the stages of each row: coins have to bring something wherever there is a stage
-pub record AreReady (r : Rates) (l : Load) (us : List Turn) : Type 0 where
+pub record AreReady (r : Rates) (l : PaymentLoad) (us : List Turn) : Type 0 where
   pub rates : AreRates r
   pub load : IsLoad l
-  pub low : neg_ℤ (pos 1_000_000_000_000_000) ≤ℤ l.preset_effective
   pub dust : l.change_dust ≤ 31_000
   pub coins : l.coins ≤ 100_000
   pub stages : All (λ (u : Turn). HasSteps u.stage) us
@@ -63,13 +62,13 @@ abbrev pub KeepsManyOf : PlainGroups → Row → ℕ → Type 0
 KeepsManyOf g row n = CountsKept g.group row g.rate g.candidates n × (10_000 < n)
 
 -- the steps of a row with such items and sizes
-abbrev pub steps_by : Rates → Load → List Turn → ℕ → List Item → List ℕ → List PlainStep
+abbrev pub steps_by : Rates → PaymentLoad → List Turn → ℕ → List Item → List ℕ → List PlainStep
 steps_by r l us number items sizes = map (step_with (terms_of r (load_with l (sum sizes))) number items sizes) us
 
 -- the steps of a row with a pool
-abbrev pub steps_with : Rates → Load → List Turn → PlainRow → List PlainStep
+abbrev pub steps_with : Rates → PaymentLoad → List Turn → PlainRow → List PlainStep
 steps_with r l us row = map (step_by (terms_of r (load_with l (sum_by (λ (g : List Candidate). length g) row.pool.groups))) row) us
 
 -- the same of a request's row, by its pool of these coins
-abbrev pub steps_for : PlainRequest → Load → List Candidate → List Turn → Row → List PlainStep
+abbrev pub steps_for : PlainRequest → PaymentLoad → List Candidate → List Turn → Row → List PlainStep
 steps_for q l cs us row = steps_with (rates_of q) l us (record { row = row; pool = pool_of q.group row q.rate q.long_term cs })

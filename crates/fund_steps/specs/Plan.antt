@@ -105,11 +105,11 @@ pub record IsFirstCrowded (p : PlainPlan) (number n : ℕ) : Type 0 where
 -- which is more than 21,000,000 bitcoin. Not eligible: they aren't, and this is the first listed outpoint at which no
 -- eligible coin is. Too many: each has one, and this is the first row of the ladder that keeps more than 10,000 groups.
 -- Memory: the coins aren't worth more, since that is tested before any memory is taken.
-abbrev pub IsFault : PlainPlan → PlanFault → Type 0
-IsFault p (Total sum) = (sum ≡ value_of (coins_in p)) × (2_100_000_000_000_000 < sum)
-IsFault p (NotEligible point) = IsWithin p × IsFirstMissing p point
-IsFault p (TooMany number n) = IsWithin p × All (HasEligible p) p.request.coins × IsFirstCrowded p number n
-IsFault p Memory = IsWithin p
+abbrev pub IsPlanFault : PlainPlan → PlanFault → Type 0
+IsPlanFault p (Total sum) = (sum ≡ value_of (coins_in p)) × (2_100_000_000_000_000 < sum)
+IsPlanFault p (NotEligible point) = IsWithin p × IsFirstMissing p point
+IsPlanFault p (TooMany number n) = IsWithin p × All (HasEligible p) p.request.coins × IsFirstCrowded p number n
+IsPlanFault p Memory = IsWithin p
 
 -- The rules that each plan keeps: those of its parts, and that no fault is there.
 pub record IsPlan (p : PlainPlan) : Type 0 where

@@ -19,7 +19,7 @@ pub record IsChoice (pool : PlainPool) (places : List ℕ) : Type 0 where
 abbrev pub coins_at : PlainPool → List ℕ → List Candidate
 coins_at pool places = flat_map (λ j. slice_index_or pool.groups j []) places
 
--- what they bring beyond the fees of their inputs
+-- what they bring beyond the fees of their inputs and their prices
 abbrev pub brought : Basis → PlainRow → List ℕ → ℕ
 brought b r places = value_of b.request.rate (coins_at r.pool places)
 

@@ -4,7 +4,7 @@ use Rattle.std.specs.List.{flat_map}
 use Rattle.closing_log.specs.declared.log.Stage.{Stage}
 use Rattle.closing_log.specs.declared.log.Stage.TheVariants as stage
 use Rattle.fee_rates.specs.Terms.{target_of, terms_of}
-use Rattle.fee_rates.specs.declared.terms.Load.{Load}
+use Rattle.fee_rates.specs.declared.terms.PaymentLoad.{PaymentLoad}
 use Rattle.fee_rates.specs.declared.terms.Rates.{Rates}
 use Rattle.fee_rates.specs.declared.terms.Terms.{Terms}
 use Rattle.coin_candidates.specs.declared.candidate.Candidate.{Candidate}
@@ -42,11 +42,11 @@ abbrev pub sizes_of : List (List Candidate) → List ℕ
 sizes_of groups = map (λ (g : List Candidate). length g) groups
 
 -- with so many coins more
-abbrev pub load_with : Load → ℕ → Load
+abbrev pub load_with : PaymentLoad → ℕ → PaymentLoad
 load_with l n = record l { coins = l.coins + n }
 
 -- What a payment from the presets and from a row's pool is to carry. As coins that it could have all of them count.
-abbrev pub load_in : Basis → PlainRow → Load
+abbrev pub load_in : Basis → PlainRow → PaymentLoad
 load_in b r = load_with (load_alone b) (sum_by (λ (g : List Candidate). length g) r.pool.groups)
 
 abbrev pub terms_in : Basis → PlainRow → Terms
@@ -84,7 +84,7 @@ abbrev pub step_by : Terms → PlainRow → Turn → PlainStep
 step_by t r u = step_with t r.row.number r.pool.items (sizes_of r.pool.groups) u
 
 -- There are presets, and they bring all that is needed: no coin is added, and nothing is searched for.
-abbrev pub is_met : Rates → Load → Bool
+abbrev pub is_met : Rates → PaymentLoad → Bool
 is_met r l = l.has_presets && int_le (target_of r l) (pos 0)
 
 abbrev pub is_given : Basis → Bool
@@ -95,7 +95,7 @@ abbrev pub is_high : PlainRequest → Bool
 is_high q = nat_lt (3 * q.long_term) q.rate
 
 -- the stages of each row, none where the presets bring all that is needed
-abbrev pub turns_for : PlainRequest → Load → List Turn
+abbrev pub turns_for : PlainRequest → PaymentLoad → List Turn
 turns_for q l = if is_met (rates_of q) l then [] else turns_of q.method (is_high q)
 
 abbrev pub turns_in : Basis → List Turn

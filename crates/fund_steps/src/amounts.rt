@@ -2,7 +2,7 @@
 
 ghost use Rattle.std.specs.Prelude.{◌≡◌, ◌≤◌, ◌<◌, ◌++◌, ◌^◌, ◌≤ℤ◌, ◌-ℤ◌, pos, neg_ℤ, IfSome};
 ghost use Rattle.coin_candidates.specs.Candidates.{AreCandidates};
-ghost use Rattle.fund_steps.specs.Amounts.{AreWithin, fees_of, value_of, weight_of};
+ghost use Rattle.fund_steps.specs.Amounts.{AreWithin, charges_of, fees_of, prices_of, value_of, weight_of};
 ghost use Rattle.fund_steps.specs.Plan.{coins_with};
 
 use crate::bump::BumpInput;
@@ -74,15 +74,36 @@ pub fn fees(rate: u64, coins: &[Candidate]) -> u64
     fees
 }
 
-/// What the coins are worth together less what their inputs pay for themselves at this rate, in satoshi.
+/// The prices of the coins together, in satoshi.
+#[tactic(auto, using(crate::proofs::SumLaws::prices_within))]
+fn prices(coins: &[Candidate]) -> u128
+    requires { AreWithin coins.now }
+    ensures value { result ≡ prices_of coins.now }
+    ensures most { result ≤ 210_000_000_000_000_000_000 }
+{
+    coins.iter().map(|coin| u128::from(coin.price)).sum()
+}
+
+/// What the coins take for themselves together at this rate, in satoshi: the fees of their inputs, and their prices.
+#[tactic(auto, using(crate::proofs::SumLaws::charges_are))]
+pub fn charges(rate: u64, coins: &[Candidate]) -> u128
+    requires rate { rate ≤ MAX_RATE }
+    requires coins { AreWithin coins.now }
+    ensures value { result ≡ charges_of rate coins.now }
+    ensures most { result ≤ 210_001_000_000_000_000_000 }
+{
+    u128::from(fees(rate, coins)) + prices(coins)
+}
+
+/// What the coins are worth together less what they take for themselves at this rate, in satoshi.
 pub fn effective(rate: u64, coins: &[Candidate]) -> i128
     requires rate { rate ≤ MAX_RATE }
     requires coins { AreWithin coins.now }
-    ensures value { result ≡ pos (value_of coins.now) -ℤ pos (fees_of rate coins.now) }
-    ensures low { neg_ℤ (pos 1_000_000_000_000_000) ≤ℤ result }
+    ensures value { result ≡ pos (value_of coins.now) -ℤ pos (charges_of rate coins.now) }
+    ensures low { neg_ℤ (pos 210_001_000_000_000_000_000) ≤ℤ result }
     ensures high { result ≤ℤ pos MAX_MONEY }
 {
     let value = value(coins);
-    let fees = fees(rate, coins);
-    i128::from(value) - i128::from(fees)
+    let charges = charges(rate, coins);
+    i128::from(value) - charges as i128
 }

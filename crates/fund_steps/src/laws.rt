@@ -6,7 +6,7 @@ ghost use Rattle.search_run.specs.Answer.{AreWhole, IsAnswer};
 ghost use Rattle.search_run.specs.Step.{AreSteps};
 ghost use Rattle.fund_steps.specs.Basis.{Basis, given_in};
 ghost use Rattle.fund_steps.specs.Faults.{fault_of};
-ghost use Rattle.fund_steps.specs.Plan.{IsFault, IsPlan, PlainPlan};
+ghost use Rattle.fund_steps.specs.Plan.{IsPlanFault, IsPlan, PlainPlan};
 ghost use Rattle.fund_steps.specs.Reached.{NothingDoes};
 ghost use Rattle.fund_steps.specs.Searches.{is_given, rows_in, steps_of};
 ghost use Rattle.fund_steps.specs.declared.presets.Presets.TheVariants.{Short};
@@ -15,7 +15,7 @@ ghost use Rattle.fund_steps.specs.declared.fault.PlanFault.{PlanFault};
 /// The law of a plan's fault: one that keeps a plan from being made is the one that is worked out, and of a plan that
 /// keeps its rules none is. A call does nothing.
 pub fn faults_are_found()
-    ensures fault { (p : PlainPlan) (fault : PlanFault) → IsFault p fault → fault ≢ PlanFault.Memory → fault_of p ≡ Some fault }
+    ensures fault { (p : PlainPlan) (fault : PlanFault) → IsPlanFault p fault → fault ≢ PlanFault.Memory → fault_of p ≡ Some fault }
     ensures none { (p : PlainPlan) → IsPlan p → fault_of p ≡ None }
 {}
 

@@ -6,8 +6,8 @@
 mod amounts;
 mod bump;
 mod fault;
-mod funds;
 mod laws;
+mod plan_basis;
 mod pools;
 mod presets;
 mod row_steps;
@@ -15,11 +15,11 @@ mod selection;
 mod terms;
 mod turns;
 
-pub use amounts::{effective, fees, value, weight};
+pub use amounts::{charges, effective, fees, value, weight};
 pub use bump::BumpInput;
 pub use fault::PlanFault;
-pub use funds::{Funds, Prepared};
 pub use laws::{faults_are_found, no_answer_where_nothing_does, steps_stand_in_columns};
+pub use plan_basis::{PlanBasis, Prepared};
 pub use presets::{Presets, presets_alone};
 pub use selection::in_order;
 pub use terms::{load, paid, rates};

@@ -18,7 +18,7 @@ use crate::row_steps::add_steps;
 use crate::terms::rates;
 use crate::turns::Turn;
 use coin_candidates::Candidate;
-use fee_rates::{Load, Rates};
+use fee_rates::{PaymentLoad, Rates};
 use fund_base::Memory;
 use output_groups::{Groups, PoolFault, Row, ladder};
 use request_text::Request;
@@ -40,7 +40,7 @@ fn add_row(
     alloc: Global,
     rates: &Rates,
     groups: &Groups,
-    load: &Load,
+    load: &PaymentLoad,
     turns: &[Turn],
     row: &Row,
     steps: &mut Vec<Step>,
@@ -79,7 +79,7 @@ pub fn add_rows(
     alloc: Global,
     request: &Request,
     coins: &[Candidate],
-    load: &Load,
+    load: &PaymentLoad,
     turns: &[Turn],
     steps: &mut Vec<Step>,
 ) -> Result<Option<Crowded>, Memory>

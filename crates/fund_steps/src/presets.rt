@@ -4,8 +4,8 @@ ghost use Rattle.std.specs.Prelude.{◌≡◌, ◌≤ℤ◌, ◌+ℤ◌, ◌-ℤ
 ghost use Rattle.fee_rates.specs.Terms.{AreRates, IsLoad};
 ghost use Rattle.fund_steps.specs.Presets.{presets_of};
 
-use fee_rates::{Load, MAX_WEIGHT, Rates, Terms};
-use fund_base::MAX_MONEY;
+use fee_rates::{PaymentLoad, Rates, Terms};
+use fund_base::{MAX_MONEY, MAX_WEIGHT};
 
 /// Whether given coins pay, and how.
 #[derive(Clone, Copy, PartialEq, Eq)]
@@ -47,7 +47,7 @@ fn change_left(terms: &Terms) -> u64
 /// less than the least change takes, otherwise with change where they bring that much; in either case if the
 /// payment weighs at most 400,000 weight units.
 #[tactic(auto, unfolding(crate::specs::Presets::presets_of))]
-pub fn presets_alone(rates: &Rates, load: &Load) -> Presets
+pub fn presets_alone(rates: &Rates, load: &PaymentLoad) -> Presets
     requires rates { AreRates rates.now }
     requires load { IsLoad load.now }
     requires worth { load.now.preset_effective ≤ℤ pos MAX_MONEY }

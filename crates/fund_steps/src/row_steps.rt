@@ -12,7 +12,7 @@ ghost use Rattle.fund_steps.specs.declared.turns.Turn.{Turn};
 
 use crate::turns::Turn;
 use closing_log::Stage;
-use fee_rates::{Load, Rates, Terms};
+use fee_rates::{PaymentLoad, Rates, Terms};
 use fund_base::Memory;
 use output_groups::{Row, RowItems};
 use pick_problem::{Item, Kind, Problem};
@@ -131,7 +131,7 @@ fn step(terms: &Terms, row: &Row, seen: &Shared, turn: &Turn) -> Result<Step, Me
 }
 
 /// The terms of a payment from the presets and from a row's pool: all coins of both count.
-fn row_terms(rates: &Rates, load: &Load, seen: &RowItems) -> Terms
+fn row_terms(rates: &Rates, load: &PaymentLoad, seen: &RowItems) -> Terms
     requires rates { AreRates rates.now }
     requires load { IsLoad load.now }
     requires few { load.now.coins ≤ 100_000 }
@@ -141,7 +141,7 @@ fn row_terms(rates: &Rates, load: &Load, seen: &RowItems) -> Terms
     let coins = coins(&seen.sizes);
     Terms::new(
         rates,
-        &Load {
+        &PaymentLoad {
             coins: load.coins + coins,
             ..*load
         },
@@ -173,7 +173,7 @@ fn add_each(
 pub fn add_steps(
     alloc: Global,
     rates: &Rates,
-    load: &Load,
+    load: &PaymentLoad,
     row: &Row,
     seen: RowItems,
     turns: &[Turn],

@@ -1,24 +1,18 @@
 //! What a request has to pay for, where its coins are given.
 
-ghost use Rattle.std.specs.Prelude.{◌≡◌, ◌≤◌, ◌≤ℤ◌, pos, neg_ℤ, sum_by, length, min};
-ghost use Rattle.fee_rates.specs.Output.{output_size_of};
+ghost use Rattle.std.specs.Prelude.{◌≡◌, ◌≤◌, ◌≤ℤ◌, pos};
 ghost use Rattle.fee_rates.specs.Terms.{AreRates, IsLoad};
 ghost use Rattle.request_text.specs.PlainRequest.{paid_to};
-ghost use Rattle.request_text.specs.declared.request.Recipient.{Recipient};
 ghost use Rattle.wallet_text.specs.WalletRules.{IsWatch};
 ghost use Rattle.fund_steps.specs.Amounts.{AreWithin};
 ghost use Rattle.fund_steps.specs.Terms.{load_of, rates_of};
 
 use crate::amounts::{effective, weight};
 use coin_candidates::Candidate;
-use fee_rates::{Load, Rates, dust, output_size};
+use fee_rates::{PaymentLoad, Rates, dust, output_size};
 use fund_base::MAX_MONEY;
-use request_text::{Recipient, Request};
+use request_text::{Request, outputs_count, outputs_size};
 use wallet_text::Watch;
-
-/// What counts for a greater sum of sizes and a greater number of recipients: no payment of so many is within its
-/// weight.
-const MOST_COUNTED: u64 = 1_000_000_000;
 
 /// The rates of a request.
 pub fn rates(request: &Request) -> Rates
@@ -47,32 +41,10 @@ pub fn paid(request: &Request) -> u64
         .sum()
 }
 
-/// The sizes of the recipients' outputs together, in bytes.
-fn outputs_size(recipients: &[Recipient]) -> u64
-    ensures value { result ≡ min (sum_by (λ (q : Recipient). output_size_of q.script) recipients.now) 1_000_000_000 }
-    ensures most { result ≤ MOST_COUNTED }
-{
-    let mut size = 0;
-    for recipient in recipients {
-        size = output_size(&recipient.script)
-            .saturating_add(size)
-            .min(MOST_COUNTED);
-    }
-    size
-}
-
-/// The number of the recipients.
-fn count(recipients: &[Recipient]) -> u64
-    ensures value { result ≡ min (length recipients.now) 1_000_000_000 }
-    ensures most { result ≤ MOST_COUNTED }
-{
-    (recipients.len() as u64).min(MOST_COUNTED)
-}
-
 /// The payment of a request from coins, beside which none is chosen, as its fee is reckoned. The burden is what it pays
 /// beside that fee, in satoshi.
 #[tactic(auto, using(crate::proofs::SumLaws::weights_within), unfolding(crate::specs::Terms::load_of))]
-pub fn load(request: &Request, change: &Watch, coins: &[Candidate], burden: u64) -> Load
+pub fn load(request: &Request, change: &Watch, coins: &[Candidate], burden: u64) -> PaymentLoad
     requires change { IsWatch change.now }
     requires coins { AreWithin coins.now }
     requires burden { burden ≤ 1_000_000_000_000_000_000 }
@@ -80,15 +52,14 @@ pub fn load(request: &Request, change: &Watch, coins: &[Candidate], burden: u64)
     ensures fit { IsLoad result }
     ensures worth { result.preset_effective ≤ℤ pos MAX_MONEY }
     // bounds, for those who make steps
-    ensures low { neg_ℤ (pos 1_000_000_000_000_000) ≤ℤ result.preset_effective }
     ensures dust { result.change_dust ≤ 31_000 }
     ensures few { result.coins ≤ 100_000 }
 {
     request.keeps_rules();
-    Load {
+    PaymentLoad {
         paid: paid(request),
         outputs: outputs_size(&request.recipients),
-        count: count(&request.recipients),
+        count: outputs_count(&request.recipients),
         coins: coins.len() as u64,
         preset_effective: effective(request.rate, coins),
         preset_weight: weight(coins),

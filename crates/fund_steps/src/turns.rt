@@ -8,7 +8,7 @@ ghost use Rattle.fund_steps.specs.Turns.{HasSteps, turns_of};
 
 use crate::terms::rates;
 use closing_log::Stage;
-use fee_rates::{Load, Terms};
+use fee_rates::{PaymentLoad, Terms};
 use request_text::{Method, Request};
 
 /// A stage of a row, and whether it is the last one of its column.
@@ -97,7 +97,7 @@ fn turns(method: Method, high: bool) -> &'static [Turn]
 
 /// The stages of each row of a request, for presets of this load. There are none with `manual`, and none where there are
 /// presets and these bring all that is needed.
-pub fn row_turns(request: &Request, load: &Load) -> &'static [Turn]
+pub fn row_turns(request: &Request, load: &PaymentLoad) -> &'static [Turn]
     requires { IsLoad load.now }
     ensures value { result.now ≡ turns_for request.now load.now }
     ensures stages { All (λ u. HasSteps u.stage) result.now }

@@ -46,6 +46,7 @@ with_script script = record {
   safe = false;
   ancestors = 0;
   descendants = 0;
+  price = 0;
 }
 
 pays_as_ties : (script : List ℕ) (c : Candidate) → pays_to script c ≡ ties script_lt (with_script script) c

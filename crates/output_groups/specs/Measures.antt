@@ -1,5 +1,5 @@
 -- What a coin, and a group of coins, counts for.
-use Rattle.std.specs.Prelude.{◌≡◌, ◌<◌, ◌≤◌, true, All, length, ℕ, ℤ, pos, ◌-◌, ◌+ℤ◌, ◌-ℤ◌, min, max, Bool, List, [], ◌∷◌, fold, sum_by, int_lt, if◌then◌else◌}
+use Rattle.std.specs.Prelude.{◌≡◌, ◌<◌, ◌≤◌, true, All, length, ℕ, ℤ, pos, ◌+◌, ◌-◌, ◌+ℤ◌, ◌-ℤ◌, min, max, Bool, List, [], ◌∷◌, fold, sum_by, int_lt, if◌then◌else◌}
 use Rattle.std.specs.Ordering.{is_lt}
 use Rattle.std.specs.List.{list_all}
 use Rattle.coin_candidates.specs.Candidates.{IsCandidate}
@@ -8,17 +8,25 @@ use Rattle.coin_candidates.specs.declared.candidate.Candidate.{Candidate}
 use Rattle.fund_base.specs.declared.outpoint.OutPoint.{OutPoint}
 use Rattle.fee_rates.specs.Fee.{input_fee_of, effective_of}
 
+-- what a coin takes for itself when it is spent at the rate: the fee of its input, and its price
+abbrev pub charge_of : ℕ → Candidate → ℕ
+charge_of rate c = input_fee_of rate c.weight + c.price
+
+-- what is left of it then: its effective value less its price
+abbrev pub net_of : ℕ → Candidate → ℤ
+net_of rate c = effective_of c.value rate c.weight -ℤ pos c.price
+
 -- whether a coin brings something when it is spent at the rate
 abbrev pub is_useful : ℕ → Candidate → Bool
-is_useful rate c = int_lt (pos 0) (effective_of c.value rate c.weight)
+is_useful rate c = int_lt (pos 0) (net_of rate c)
 
--- what a useful coin brings: its effective value
+-- what a useful coin brings
 abbrev pub gain : ℕ → Candidate → ℕ
-gain rate c = c.value - input_fee_of rate c.weight
+gain rate c = c.value - charge_of rate c
 
--- what a coin's input costs above what it would cost at the long-term rate
+-- what a coin's input costs above what it would cost at the long-term rate, and the coin's price
 abbrev pub coin_cost : ℕ → ℕ → Candidate → ℤ
-coin_cost rate long_term c = pos (input_fee_of rate c.weight) -ℤ pos (input_fee_of long_term c.weight)
+coin_cost rate long_term c = (pos (input_fee_of rate c.weight) -ℤ pos (input_fee_of long_term c.weight)) +ℤ pos c.price
 
 -- the sums over a group
 abbrev pub value_of : ℕ → List Candidate → ℕ

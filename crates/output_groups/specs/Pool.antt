@@ -63,7 +63,7 @@ pub record CountsKept (group : Bool) (row : Row) (rate : ℕ) (cs : List Candida
   pub are_kept : AreKept group row rate cs kept
   pub count : length kept ≡ n
 
--- the cause of a fault: more than 10,000 groups are kept, namely n; want of memory has none
-abbrev pub IsDue : Bool → Row → ℕ → List Candidate → PoolFault → Type 0
-IsDue group row rate cs (TooMany n) = CountsKept group row rate cs n × (10_000 < n)
-IsDue group row rate cs Memory = Unit {0}
+-- the cause of a fault: more than 10,000 groups are kept, namely n; being out of memory has none
+abbrev pub IsPoolFault : Bool → Row → ℕ → List Candidate → PoolFault → Type 0
+IsPoolFault group row rate cs (TooMany n) = CountsKept group row rate cs n × (10_000 < n)
+IsPoolFault group row rate cs Memory = Unit {0}

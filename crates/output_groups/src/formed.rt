@@ -5,7 +5,7 @@ ghost use Rattle.output_groups.specs.Formed.{IsMeasured, keeps_formed};
 ghost use Rattle.output_groups.specs.Measures.{IsGroup};
 ghost use Rattle.output_groups.specs.Order.{formed_cmp, item_cmp};
 
-use crate::lent::Lent;
+use crate::coin_refs::CoinRef;
 use crate::measures::{
     ancestors, cost, depth, descendants, is_mine, is_safe, least, value, weight,
 };
@@ -19,7 +19,7 @@ pub struct Formed<'a> {
     /// What a search sees of it.
     pub item: Item,
     /// Its coin with the least outpoint.
-    pub least: Lent<'a>,
+    pub least: CoinRef<'a>,
     /// How many pending ancestors its coins have, added up.
     pub ancestors: u64,
     /// The least depth of its coins.
@@ -40,7 +40,7 @@ pub struct Formed<'a> {
 
 /// The group of these coins, the first of which stands at `start`.
 pub fn group_of<'a>(
-    coins: &[Lent<'a>],
+    coins: &[CoinRef<'a>],
     start: u32,
     partial: bool,
     rate: u64,
@@ -61,7 +61,7 @@ pub fn group_of<'a>(
     };
     Formed {
         item,
-        least: Lent::new(least(coins)),
+        least: CoinRef::new(least(coins)),
         ancestors: ancestors(coins),
         depth: depth(coins),
         descendants: descendants(coins),

@@ -7,12 +7,12 @@ ghost use Rattle.coin_candidates.specs.Candidates.{IsCandidate};
 ghost use Rattle.coin_candidates.specs.declared.candidate.Candidate.{Candidate};
 ghost use Rattle.output_groups.specs.Formed.{AreUseful, IsFormed, part_in};
 ghost use Rattle.output_groups.specs.Measures.{is_useful};
-ghost use Rattle.output_groups.specs.Forming.{AreParts, IsGrouping, alone, hundred, of_script, part_at, parts_of};
+ghost use Rattle.output_groups.specs.Forming.{IsGrouping, alone, hundred, of_script, part_at, parts_of};
 ghost use Rattle.output_groups.specs.Order.{formed_cmp};
 ghost use Rattle.output_groups.specs.Runs.{IsRun, run_of, script_of};
 
+use crate::coin_refs::CoinRef;
 use crate::formed::{Formed, group_of, order};
-use crate::lent::Lent;
 use crate::measures::is_useful;
 use coin_candidates::Candidate;
 use fund_base::Memory;
@@ -23,7 +23,7 @@ pub fn useful<'a>(
     alloc: Global,
     candidates: &'a [Candidate],
     rate: u64,
-) -> Result<Vec<Lent<'a>>, Memory>
+) -> Result<Vec<CoinRef<'a>>, Memory>
     requires rate { rate ≤ 100_000_000 }
     requires candidates { All IsCandidate candidates.now }
     ensures { IfOk result (λ v. v.items ≡ filter (is_useful rate) candidates.now) }
@@ -31,14 +31,14 @@ pub fn useful<'a>(
     let mut useful = Vec::new(alloc);
     for candidate in candidates {
         if is_useful(rate, candidate) {
-            useful.push(Lent::new(candidate))?;
+            useful.push(CoinRef::new(candidate))?;
         }
     }
     Ok(useful)
 }
 
 /// Sorts the coins by script; those of one script stay in their order.
-pub fn sort_by_script(coins: &mut Vec<Lent>) -> Result<(), Memory>
+pub fn sort_by_script(coins: &mut Vec<CoinRef>) -> Result<(), Memory>
     ensures sorted { OnOk result (IsSortedByKey script_of (slice_cmp nat_cmp) coins.new.items) }
     ensures moved { IsPermutation coins.old.items coins.new.items }
     ensures same { (script : List ℕ) → of_script script coins.new.items ≡ of_script script coins.old.items }
@@ -50,7 +50,7 @@ pub fn sort_by_script(coins: &mut Vec<Lent>) -> Result<(), Memory>
 /// Each coin as a group by itself, in their order.
 pub fn singles<'a>(
     alloc: Global,
-    coins: &[Lent<'a>],
+    coins: &[CoinRef<'a>],
     rate: u64,
     long_term: u64,
 ) -> Result<Vec<Formed<'a>>, Memory>
@@ -68,7 +68,7 @@ pub fn singles<'a>(
 }
 
 /// The coin at a place as a group by itself.
-fn single<'a>(coins: &[Lent<'a>], place: usize, rate: u64, long_term: u64) -> Formed<'a>
+fn single<'a>(coins: &[CoinRef<'a>], place: usize, rate: u64, long_term: u64) -> Formed<'a>
     requires rate { rate ≤ 100_000_000 }
     requires long_term { long_term ≤ 100_000_000 }
     requires coins { AreUseful rate coins.now }
@@ -88,7 +88,7 @@ fn single<'a>(coins: &[Lent<'a>], place: usize, rate: u64, long_term: u64) -> Fo
 /// The groups of coins that stand sorted by script.
 pub fn cut<'a>(
     alloc: Global,
-    coins: &[Lent<'a>],
+    coins: &[CoinRef<'a>],
     rate: u64,
     long_term: u64,
 ) -> Result<Vec<Formed<'a>>, Memory>
@@ -110,7 +110,7 @@ pub fn cut<'a>(
 }
 
 /// Where the coins end that pay to the same script as the one at `start`, and stand behind it without a gap.
-fn end_of_run(coins: &[Lent], start: usize) -> usize
+fn end_of_run(coins: &[CoinRef], start: usize) -> usize
     requires { start < length coins.now }
     ensures { IsRun coins.now start result }
 {
@@ -122,7 +122,7 @@ fn end_of_run(coins: &[Lent], start: usize) -> usize
 }
 
 /// Whether the coins pay to one script.
-fn pay_alike(a: &Lent, b: &Lent) -> bool
+fn pay_alike(a: &CoinRef, b: &CoinRef) -> bool
     ensures { result ≡ bytes_eq (script_of a.now) (script_of b.now) }
 {
     a.coin().script.bytes() == b.coin().script.bytes()
@@ -131,7 +131,7 @@ fn pay_alike(a: &Lent, b: &Lent) -> bool
 /// Appends the groups of the coins from `start` up to `end`, which all pay to one script.
 fn add_run<'a>(
     groups: &mut Vec<Formed<'a>>,
-    coins: &[Lent<'a>],
+    coins: &[CoinRef<'a>],
     start: usize,
     end: usize,
     rate: u64,
@@ -154,7 +154,7 @@ fn add_run<'a>(
 
 /// The group at a place of those of the coins from `start` up to `end`.
 fn hundred_at<'a>(
-    coins: &[Lent<'a>],
+    coins: &[CoinRef<'a>],
     start: usize,
     end: usize,
     place: usize,
@@ -183,14 +183,14 @@ fn hundred_at<'a>(
 }
 
 /// Whether it has fewer than 100 coins where the run has a full hundred.
-fn is_partial(hundred: &[Lent], run: &[Lent]) -> bool
+fn is_partial(hundred: &[CoinRef], run: &[CoinRef]) -> bool
     ensures { result ≡ (nat_lt (length hundred.now) 100 && nat_le 100 (length run.now)) }
 {
     hundred.len() < 100 && run.len() >= 100
 }
 
 /// The hundred at a place, or what there is of it.
-fn hundred<'b, 'a>(coins: &'b [Lent<'a>], place: usize) -> &'b [Lent<'a>]
+fn hundred<'b, 'a>(coins: &'b [CoinRef<'a>], place: usize) -> &'b [CoinRef<'a>]
     requires { 100 * place ≤ length coins.now }
     ensures { result.now ≡ hundred coins.now place }
 {
@@ -198,7 +198,7 @@ fn hundred<'b, 'a>(coins: &'b [Lent<'a>], place: usize) -> &'b [Lent<'a>]
 }
 
 /// The first `most` coins, or all where there are fewer.
-fn front<'b, 'a>(coins: &'b [Lent<'a>], most: usize) -> &'b [Lent<'a>]
+fn front<'b, 'a>(coins: &'b [CoinRef<'a>], most: usize) -> &'b [CoinRef<'a>]
     ensures { result.now ≡ take most coins.now }
 {
     if coins.len() <= most {

@@ -1,6 +1,6 @@
 //! The groups that candidates form, made once for all rows.
 
-ghost use Rattle.std.specs.Prelude.{◌≡◌, ◌+◌, ◌++◌, ◌<◌, ◌≤◌, ℕ, List, IfOk, IfErr, OnOk, All, filter, map, length};
+ghost use Rattle.std.specs.Prelude.{◌≡◌, ◌≢◌, ◌+◌, ◌++◌, ◌<◌, ◌≤◌, ℕ, List, Err, IfOk, IfErr, OnOk, All, filter, map, length};
 ghost use Rattle.coin_candidates.specs.Candidates.{AreCandidates};
 ghost use Rattle.coin_candidates.specs.declared.candidate.Candidate.{Candidate};
 ghost use Rattle.pick_problem.specs.Pool.{AreItems};
@@ -9,15 +9,16 @@ ghost use Rattle.output_groups.specs.Formed.{AreUseful, IsFormed, coins_at, keep
 ghost use Rattle.output_groups.specs.Forming.{AreParts};
 ghost use Rattle.output_groups.specs.Places.{members};
 ghost use Rattle.output_groups.specs.PlainGroups.{pool_in};
-ghost use Rattle.output_groups.specs.Pool.{CountsKept, IsDue};
+ghost use Rattle.output_groups.specs.Pool.{CountsKept, IsPoolFault};
+ghost use Rattle.output_groups.specs.declared.fault.PoolFault.TheVariants as faults;
 ghost use Rattle.output_groups.specs.declared.formed.Formed.{Formed};
 
+use crate::coin_refs::CoinRef;
 use crate::fault::PoolFault;
 use crate::formed::Formed;
 use crate::forming::{cut, singles, sort, sort_by_script, useful};
 use crate::group::Group;
 use crate::kept::Kept;
-use crate::lent::Lent;
 use crate::row_pool::RowPool;
 use crate::rows::Row;
 use coin_candidates::Candidate;
@@ -35,7 +36,7 @@ pub struct Groups<'a> {
     rate: u64,
     long_term: u64,
     // the candidates that bring something, those of one script together where groups are by scripts
-    coins: Vec<Lent<'a>>,
+    coins: Vec<CoinRef<'a>>,
     formed: Vec<Formed<'a>>,
 }
 
@@ -95,7 +96,8 @@ impl<'a> Groups<'a> {
         ensures value { IfOk result (λ n. n ≡ length (pool_in self.now row.now).groups) }
         ensures most { IfOk result (λ n. n ≤ 10_000) }
         ensures few { IfOk result (λ _. (n : ℕ) → CountsKept self.now.group row.now self.now.rate self.now.candidates n → n ≤ 10_000) }
-        ensures many { IfErr result (λ e. IsDue self.now.group row.now self.now.rate self.now.candidates e) }
+        ensures many { IfErr result (λ e. IsPoolFault self.now.group row.now self.now.rate self.now.candidates e) }
+        ensures never { result ≢ Err faults.Memory }
     {
         let count = count_kept(&self.formed, row);
         if count > MOST_GROUPS {
@@ -106,14 +108,15 @@ impl<'a> Groups<'a> {
 
     /// What a search sees of the row's pool, group by group in its order.
     ///
-    /// The error is [`PoolFault::TooMany`] where the row keeps more than 10,000 groups, with their number, or want of memory.
+    /// The error is [`PoolFault::TooMany`] where the row keeps more than 10,000 groups, with their number, or out of memory.
     pub fn items(&self, alloc: Global, row: &Row) -> Result<RowItems, PoolFault>
         ensures items { IfOk result (λ p. p.items.items ≡ (pool_in self.now row.now).items) }
         ensures sizes { IfOk result (λ p. p.sizes.items ≡ map (λ (g : List Candidate). length g) (pool_in self.now row.now).groups) }
         ensures fit { IfOk result (λ p. AreItems p.items.items) }
         ensures small { IfOk result (λ p. All (λ n. n ≤ 100) p.sizes.items) }
         ensures few { IfOk result (λ _. (n : ℕ) → CountsKept self.now.group row.now self.now.rate self.now.candidates n → n ≤ 10_000) }
-        ensures many { IfErr result (λ e. IsDue self.now.group row.now self.now.rate self.now.candidates e) }
+        ensures many { IfErr result (λ e. IsPoolFault self.now.group row.now self.now.rate self.now.candidates e) }
+        ensures short { result ≡ Err faults.Memory → (n : ℕ) → CountsKept self.now.group row.now self.now.rate self.now.candidates n → n ≤ 10_000 }
     {
         let count = self.count(row)?;
         let items = kept_items(alloc, &self.formed, row, count)?;
@@ -122,12 +125,13 @@ impl<'a> Groups<'a> {
 
     /// The row's pool, with a copy of each coin of its groups.
     ///
-    /// The error is [`PoolFault::TooMany`] where the row keeps more than 10,000 groups, with their number, or want of memory.
+    /// The error is [`PoolFault::TooMany`] where the row keeps more than 10,000 groups, with their number, or out of memory.
     pub fn pool(&self, alloc: Global, row: &Row) -> Result<RowPool, PoolFault>
         ensures value { IfOk result (λ p. p ≡ pool_in self.now row.now) }
         ensures items { IfOk result (λ p. AreItems p.items) }
         ensures few { IfOk result (λ _. (n : ℕ) → CountsKept self.now.group row.now self.now.rate self.now.candidates n → n ≤ 10_000) }
-        ensures many { IfErr result (λ e. IsDue self.now.group row.now self.now.rate self.now.candidates e) }
+        ensures many { IfErr result (λ e. IsPoolFault self.now.group row.now self.now.rate self.now.candidates e) }
+        ensures short { result ≡ Err faults.Memory → (n : ℕ) → CountsKept self.now.group row.now self.now.rate self.now.candidates n → n ≤ 10_000 }
     {
         let count = self.count(row)?;
         let pool = kept_groups(alloc, &self.coins, &self.formed, row, count)?;
@@ -154,7 +158,7 @@ impl<'a> Groups<'a> {
 /// The groups of the coins, in some order. With `group` the coins are brought together by script.
 fn form<'a>(
     alloc: Global,
-    coins: &mut Vec<Lent<'a>>,
+    coins: &mut Vec<CoinRef<'a>>,
     rate: u64,
     long_term: u64,
     group: bool,
@@ -205,7 +209,7 @@ fn kept_items(alloc: Global, formed: &[Formed], row: &Row, count: usize) -> Resu
 /// The groups that the row keeps, with their items.
 fn kept_groups(
     alloc: Global,
-    coins: &[Lent],
+    coins: &[CoinRef],
     formed: &[Formed],
     row: &Row,
     count: usize,
@@ -226,7 +230,7 @@ fn kept_groups(
 }
 
 /// The group with a copy of each coin.
-fn copied(alloc: Global, coins: &[Lent], one: &Formed) -> Result<Group, Memory>
+fn copied(alloc: Global, coins: &[CoinRef], one: &Formed) -> Result<Group, Memory>
     requires { one.now.start + one.now.size ≤ length coins.now }
     ensures { IfOk result (λ g. g ≡ coins_at coins.now one.now) }
 {
@@ -236,7 +240,7 @@ fn copied(alloc: Global, coins: &[Lent], one: &Formed) -> Result<Group, Memory>
 }
 
 /// Appends a copy of each coin, in their order.
-fn add_copies(alloc: Global, copies: &mut Vec<Candidate>, coins: &[Lent]) -> Result<(), Memory>
+fn add_copies(alloc: Global, copies: &mut Vec<Candidate>, coins: &[CoinRef]) -> Result<(), Memory>
     ensures { OnOk result (copies.new.items ≡ copies.old.items ++ coins.now) }
 {
     for lent in coins {
@@ -247,7 +251,7 @@ fn add_copies(alloc: Global, copies: &mut Vec<Candidate>, coins: &[Lent]) -> Res
 }
 
 /// A copy of each coin, in their order.
-fn copies(alloc: Global, coins: &[Lent]) -> Result<Vec<Candidate>, Memory>
+fn copies(alloc: Global, coins: &[CoinRef]) -> Result<Vec<Candidate>, Memory>
     ensures { IfOk result (λ v. v.items ≡ coins.now) }
 {
     let mut copies = Vec::with_capacity(alloc, coins.len())?;
@@ -276,7 +280,7 @@ fn kept<'b, 'a>(
 fn add_group(
     alloc: Global,
     members: &mut Vec<Candidate>,
-    coins: &[Lent],
+    coins: &[CoinRef],
     one: &Formed,
 ) -> Result<(), Memory>
     requires { one.now.start + one.now.size ≤ length coins.now }
@@ -289,7 +293,7 @@ fn add_group(
 /// A copy of each coin of the groups at these places, which rise.
 fn members(
     alloc: Global,
-    coins: &[Lent],
+    coins: &[CoinRef],
     kept: &[Kept],
     places: &[u32],
 ) -> Result<Vec<Candidate>, Memory>

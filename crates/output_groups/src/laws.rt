@@ -1,8 +1,8 @@
 //! Laws of pools. A call of any of them does nothing.
 
-ghost use Rattle.std.specs.Prelude.{◌≡◌, ◌≢◌, ◌<◌, ◌↔◌, ◌+ℤ◌, ℕ, pos, List, Bool, All, Contains, IsTrue, filter, fold, length};
+ghost use Rattle.std.specs.Prelude.{◌≡◌, ◌≢◌, ◌<◌, ◌↔◌, ◌+◌, ◌+ℤ◌, ℕ, pos, true, List, Bool, All, Contains, IsTrue, filter, fold, length};
 ghost use Rattle.std.specs.declared.cmp.Ordering.TheVariants.{Equal, Less};
-ghost use Rattle.fee_rates.specs.Fee.{effective_of};
+ghost use Rattle.fee_rates.specs.Fee.{input_fee_of};
 ghost use Rattle.coin_candidates.specs.Candidates.{AreCandidates};
 ghost use Rattle.fund_base.specs.Outpoints.{outpoint_cmp};
 ghost use Rattle.coin_candidates.specs.declared.candidate.Candidate.{Candidate};
@@ -10,7 +10,7 @@ ghost use Rattle.output_groups.specs.Counting.{kept_count};
 ghost use Rattle.output_groups.specs.Forming.{IsGrouping, of_script, starts_with};
 ghost use Rattle.output_groups.specs.Hundreds.{AreHundreds};
 ghost use Rattle.output_groups.specs.Ladder.{GrowLaxer, IsLaxer, ladder_of};
-ghost use Rattle.output_groups.specs.Measures.{IsGroup, least_of, value_of};
+ghost use Rattle.output_groups.specs.Measures.{IsGroup, is_useful, least_of, net_of, value_of};
 ghost use Rattle.output_groups.specs.PlainPool.{PlainPool};
 ghost use Rattle.output_groups.specs.Pool.{IsPool, CountsKept, group_cmp, keeps};
 ghost use Rattle.output_groups.specs.PoolOf.{pool_of};
@@ -39,10 +39,12 @@ pub fn pool_is_one()
         AreCandidates cs → IsPool group row rate long_term cs p → p ≡ pool_of group row rate long_term cs }
 {}
 
-/// The value of a group is the sum of its coins' effective values.
+/// The value of a group is the sum of its coins' effective values less their prices. A coin brings something exactly where
+/// the fee of its input and its price together are below its value.
 pub fn values_are_effective()
-    ensures { (rate : ℕ) (g : List Candidate) → IsGroup rate g →
-        pos (value_of rate g) ≡ fold (λ s (c : Candidate). s +ℤ effective_of c.value rate c.weight) (pos 0) g }
+    ensures value { (rate : ℕ) (g : List Candidate) → IsGroup rate g →
+        pos (value_of rate g) ≡ fold (λ s (c : Candidate). s +ℤ net_of rate c) (pos 0) g }
+    ensures useful { (rate : ℕ) (c : Candidate) → (is_useful rate c ≡ true) ↔ (input_fee_of rate c.weight + c.price < c.value) }
 {}
 
 /// How many groups a row keeps, counted script by script, is the number of the groups that it keeps, however they are

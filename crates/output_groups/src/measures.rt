@@ -3,28 +3,28 @@
 ghost use Rattle.std.specs.Prelude.{◌≡◌, ◌<◌, ◌≤◌, ◌≤ℤ◌, pos, neg_ℤ, true, length, All, fold};
 ghost use Rattle.coin_candidates.specs.declared.candidate.Candidate.{Candidate};
 ghost use Rattle.coin_candidates.specs.Candidates.{IsCandidate};
-ghost use Rattle.output_groups.specs.Measures.{is_useful, gain, coin_cost, value_of, weight_of, cost_of, ancestors_of, descendants_of, depth_of, is_mine, is_safe, least_of, lesser, IsGroup};
+ghost use Rattle.output_groups.specs.Measures.{charge_of, net_of, is_useful, gain, coin_cost, value_of, weight_of, cost_of, ancestors_of, descendants_of, depth_of, is_mine, is_safe, least_of, lesser, IsGroup};
 
-use crate::lent::Lent;
+use crate::coin_refs::CoinRef;
 use coin_candidates::Candidate;
 use fee_rates::{effective, input_fee};
 
 /// Whether all of the coins are mine.
-pub fn is_mine(coins: &[Lent]) -> bool
+pub fn is_mine(coins: &[CoinRef]) -> bool
     ensures { result ≡ is_mine coins.now }
 {
     coins.iter().all(|lent| lent.coin().mine)
 }
 
 /// Whether all of the coins are safe.
-pub fn is_safe(coins: &[Lent]) -> bool
+pub fn is_safe(coins: &[CoinRef]) -> bool
     ensures { result ≡ is_safe coins.now }
 {
     coins.iter().all(|lent| lent.coin().safe)
 }
 
 /// The least depth of the coins, and 0 without coins.
-pub fn depth(coins: &[Lent]) -> u32
+pub fn depth(coins: &[CoinRef]) -> u32
     ensures { result ≡ depth_of coins.now }
 {
     match coins {
@@ -37,7 +37,7 @@ pub fn depth(coins: &[Lent]) -> u32
 }
 
 /// How many pending ancestors the coins have, added up.
-pub fn ancestors(coins: &[Lent]) -> u64
+pub fn ancestors(coins: &[CoinRef]) -> u64
     requires { length coins.now ≤ 100 }
     ensures { result ≡ ancestors_of coins.now }
 {
@@ -49,7 +49,7 @@ pub fn ancestors(coins: &[Lent]) -> u64
 }
 
 /// The greatest number of pending descendants of the coins.
-pub fn descendants(coins: &[Lent]) -> u32
+pub fn descendants(coins: &[CoinRef]) -> u32
     ensures { result ≡ descendants_of coins.now }
 {
     coins
@@ -58,7 +58,7 @@ pub fn descendants(coins: &[Lent]) -> u32
 }
 
 /// What they bring when they are spent at the rate, in satoshi.
-pub fn value(coins: &[Lent], rate: u64) -> u64
+pub fn value(coins: &[CoinRef], rate: u64) -> u64
     requires rate { rate ≤ 100_000_000 }
     requires group { IsGroup rate coins.now }
     ensures value { result ≡ value_of rate coins.now }
@@ -73,7 +73,7 @@ pub fn value(coins: &[Lent], rate: u64) -> u64
 }
 
 /// What their inputs weigh, in weight units.
-pub fn weight(coins: &[Lent]) -> u64
+pub fn weight(coins: &[CoinRef]) -> u64
     requires some { 0 < length coins.now }
     requires few { length coins.now ≤ 100 }
     requires each { All IsCandidate coins.now }
@@ -88,14 +88,14 @@ pub fn weight(coins: &[Lent]) -> u64
     sum
 }
 
-/// What their inputs cost at the rate above what they would cost at the long-term rate, in satoshi.
-pub fn cost(coins: &[Lent], rate: u64, long_term: u64) -> i64
+/// What their inputs cost at the rate above what they would cost at the long-term rate, and their prices, in satoshi.
+pub fn cost(coins: &[CoinRef], rate: u64, long_term: u64) -> i64
     requires rate { rate ≤ 100_000_000 }
     requires long_term { long_term ≤ 100_000_000 }
     requires group { IsGroup rate coins.now }
     ensures value { result ≡ cost_of rate long_term coins.now }
     ensures low { neg_ℤ (pos 1_000_000_000_000) ≤ℤ result }
-    ensures high { result ≤ℤ pos 1_000_000_000_000 }
+    ensures high { result ≤ℤ pos 210_001_000_000_000_000 }
 {
     let mut sum = 0;
     for lent in coins {
@@ -105,7 +105,7 @@ pub fn cost(coins: &[Lent], rate: u64, long_term: u64) -> i64
 }
 
 /// The one of the coins with the least outpoint.
-pub fn least<'a>(coins: &[Lent<'a>]) -> &'a Candidate
+pub fn least<'a>(coins: &[CoinRef<'a>]) -> &'a Candidate
     requires { 0 < length coins.now }
     ensures { result.now.coin ≡ least_of coins.now }
 {
@@ -116,7 +116,7 @@ pub fn least<'a>(coins: &[Lent<'a>]) -> &'a Candidate
 }
 
 /// The one with the least outpoint of a coin and others.
-fn least_from<'a>(first: &'a Candidate, rest: &[Lent<'a>]) -> &'a Candidate
+fn least_from<'a>(first: &'a Candidate, rest: &[CoinRef<'a>]) -> &'a Candidate
     ensures { result.now.coin ≡ fold (λ m (c : Candidate). lesser m c.coin) first.now.coin rest.now }
 {
     let mut least = first;
@@ -133,13 +133,32 @@ fn lesser<'a>(a: &'a Candidate, b: &'a Candidate) -> &'a Candidate
     if b.coin.cmp(&a.coin).is_lt() { b } else { a }
 }
 
+/// What a coin takes for itself when it is spent at the rate, in satoshi: the fee of its input, and its price.
+pub fn charge(rate: u64, coin: &Candidate) -> u64
+    requires rate { rate ≤ 100_000_000 }
+    requires coin { IsCandidate coin.now }
+    ensures value { result ≡ charge_of rate coin.now }
+    ensures most { result ≤ 2_100_010_000_000_000 }
+{
+    input_fee(rate, coin.weight) + coin.price
+}
+
+/// What is left of it then, in satoshi, and negative where it takes more than it is worth.
+fn net(rate: u64, coin: &Candidate) -> i64
+    requires rate { rate ≤ 100_000_000 }
+    requires coin { IsCandidate coin.now }
+    ensures { result ≡ net_of rate coin.now }
+{
+    effective(coin.value, rate, coin.weight) - coin.price as i64
+}
+
 /// Whether the coin brings something when it is spent at the rate.
 pub fn is_useful(rate: u64, coin: &Candidate) -> bool
     requires rate { rate ≤ 100_000_000 }
     requires coin { IsCandidate coin.now }
     ensures { result ≡ is_useful rate coin.now }
 {
-    effective(coin.value, rate, coin.weight) > 0
+    net(rate, coin) > 0
 }
 
 /// What such a coin brings, in satoshi.
@@ -151,17 +170,18 @@ fn gain(rate: u64, coin: &Candidate) -> u64
     ensures some { 1 ≤ result }
     ensures most { result ≤ 2_100_000_000_000_000 }
 {
-    coin.value - input_fee(rate, coin.weight)
+    coin.value - charge(rate, coin)
 }
 
-/// What its input costs at the rate above what it would cost at the long-term rate, in satoshi.
+/// What its input costs at the rate above what it would cost at the long-term rate, and its price, in satoshi.
 fn coin_cost(rate: u64, long_term: u64, coin: &Candidate) -> i64
     requires rate { rate ≤ 100_000_000 }
     requires long_term { long_term ≤ 100_000_000 }
     requires coin { IsCandidate coin.now }
     ensures value { result ≡ coin_cost rate long_term coin.now }
     ensures low { neg_ℤ (pos 10_000_000_000) ≤ℤ result }
-    ensures high { result ≤ℤ pos 10_000_000_000 }
+    ensures high { result ≤ℤ pos 2_100_010_000_000_000 }
 {
     input_fee(rate, coin.weight) as i64 - input_fee(long_term, coin.weight) as i64
+        + coin.price as i64
 }

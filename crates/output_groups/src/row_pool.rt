@@ -5,7 +5,7 @@ ghost use Rattle.coin_candidates.specs.Candidates.{AreCandidates};
 ghost use Rattle.pick_problem.specs.Pool.{AreItems};
 ghost use Rattle.output_groups.specs.Ladder.{Meets};
 ghost use Rattle.output_groups.specs.Measures.{IsGroup};
-ghost use Rattle.output_groups.specs.Pool.{AreOnce, IsPool, IsDue, CountsKept};
+ghost use Rattle.output_groups.specs.Pool.{AreOnce, IsPool, IsPoolFault, CountsKept};
 ghost use Rattle.output_groups.specs.PoolOf.{pool_of};
 
 use crate::fault::PoolFault;
@@ -36,20 +36,20 @@ impl Model for RowPool {
 
 /// The pool of a row at `rate` and `long_term`, both in satoshi per 1,000 virtual bytes.
 ///
-/// Of the candidates those count whose value is above the fee of their input at `rate`. Without `group` each is a group
-/// by itself. With `group` the coins of one script form groups of 100 in the order of the list, the last with the rest,
-/// and that one is partial if it has fewer than 100 where its script has a full one.
+/// Of the candidates those count whose value is above the fee of their input at `rate` and their price together. Without
+/// `group` each is a group by itself. With `group` the coins of one script form groups of 100 in the order of the list, the
+/// last with the rest, and that one is partial if it has fewer than 100 where its script has a full one.
 ///
 /// A group is kept if the row takes it: its depth is the least of its coins', it is mine or safe if all its coins are,
 /// their ancestors are summed, and of their descendants the greatest number counts.
 ///
-/// Each group has an item: its value, in satoshi, is the sum of its coins' values less the fees of their inputs, its
-/// weight, in weight units, the sum of their inputs' weights, and its cost, in satoshi, what their inputs cost at `rate`
-/// above what they would cost at `long_term`. Groups are in order: value falling, then weight rising, then cost rising,
-/// then least outpoint. The items are such as [`pick_problem::Problem::new`] asks for, and no output stands twice in the
-/// groups.
+/// Each group has an item: its value, in satoshi, is the sum of its coins' values less the fees of their inputs and their
+/// prices, its weight, in weight units, the sum of their inputs' weights, and its cost, in satoshi, what their inputs cost at
+/// `rate` above what they would cost at `long_term`, and their prices. Groups are in order: value falling, then weight rising,
+/// then cost rising, then least outpoint. The items are such as [`pick_problem::Problem::new`] asks for, and no output stands
+/// twice in the groups.
 ///
-/// The error is [`PoolFault::TooMany`] where more than 10,000 groups are kept, with their number, or want of memory.
+/// The error is [`PoolFault::TooMany`] where more than 10,000 groups are kept, with their number, or out of memory.
 pub fn pool(
     alloc: Global,
     candidates: &[Candidate],
@@ -69,7 +69,7 @@ pub fn pool(
     ensures once { IfOk result (λ p. AreOnce candidates.now p.groups) }
     ensures meets { IfOk result (λ p. All (λ g. All (Meets row.now) g) p.groups) }
     ensures few { IfOk result (λ _. (n : ℕ) → CountsKept group row.now rate candidates.now n → n ≤ 10_000) }
-    ensures many { IfErr result (λ e. IsDue group row.now rate candidates.now e) }
+    ensures many { IfErr result (λ e. IsPoolFault group row.now rate candidates.now e) }
 {
     let groups = Groups::new(alloc, candidates, rate, long_term, group)?;
     let pool = groups.pool(alloc, row)?;

@@ -23,7 +23,7 @@ use Rattle.coin_book.specs.History.{History}
 use Rattle.coin_book.specs.declared.coin.Coin.{Coin}
 use Rattle.payment_facts.specs.AnyCoin.{AreFacts, facts_among, facts_at, waiting_at}
 use Rattle.payment_states.specs.BookOf.{IsBookOf}
-use Rattle.payment_states.specs.Candidates.{ancestors, candidate_of, candidates_of, is_candidate, candidate_at, is_safe}
+use Rattle.payment_states.specs.Candidates.{ancestors, candidate_of, candidates_of, is_candidate, candidate_at, is_safe, price_at, prices_in}
 use Rattle.payment_states.specs.Makers.{HasMaker}
 use Rattle.payment_states.specs.ByPlace.{candidate_by, flag_at, number_at, place_among}
 use Rattle.payment_states.specs.Payments.{payments_of}
@@ -76,75 +76,75 @@ own_under w h c rules book sound there = by (coin_under h c.coin) refl
         let u = under h c.coin k e in
         ap (λ (x : Coin). Some x) (one_by_point (coins_of h) k c (coins_apart w h rules book sound) (subst (Contains (coins_of h)) u.coin_is (coin_in h u.made u.there)) there (sym u.point))
 
-pub own_facts : (w : PlainWallet) (h : History) (tip : ℕ) (c : Coin) → IsWallet w → IsBookOf w h → fault_of h ≡ None → Contains (coins_of h) c → facts_at w h tip c.coin ≡ Some (candidate_of w h tip c)
+pub own_facts : (w : PlainWallet) (h : History) (tip rate : ℕ) (c : Coin) → IsWallet w → IsBookOf w h → fault_of h ≡ None → Contains (coins_of h) c → facts_at w h tip rate c.coin ≡ Some (candidate_of w h tip rate c)
 unfolding facts_at
-own_facts w h tip c rules book sound there = ap (λ (r : Option Coin). option_map (candidate_of w h tip) r) (own_under w h c rules book sound there)
+own_facts w h tip rate c rules book sound there = ap (λ (r : Option Coin). option_map (candidate_of w h tip rate) r) (own_under w h c rules book sound there)
 
 mapped_none : {X Y : Type 0} (f : X → Y) (r : Option X) → option_map f r ≡ None → r ≡ None
 mapped_none f None e = refl
 mapped_none f (Some x) e = absurd (none-some (f x) (sym e))
 
-pub none_facts : (w : PlainWallet) (h : History) (tip : ℕ) (o : OutPoint) → (facts_at w h tip o ≡ None) ↔ All (λ (c : Coin). c.coin ≢ o) (coins_of h)
+pub none_facts : (w : PlainWallet) (h : History) (tip rate : ℕ) (o : OutPoint) → (facts_at w h tip rate o ≡ None) ↔ All (λ (c : Coin). c.coin ≢ o) (coins_of h)
 unfolding facts_at
-none_facts w h tip o = (there, back)
+none_facts w h tip rate o = (there, back)
   where
     some_is : is_some (coin_under h o) ≡ list_any (λ (c : Coin). same_outpoint o c.coin) (coins_of h)
     some_is = found_some (test o) (λ (m : Made). m.coin) (made_of h) ∙ sym (any_map (λ (k : Coin). same_outpoint o k.coin) (λ (m : Made). m.coin) (made_of h))
 
-    there : option_map (candidate_of w h tip) (coin_under h o) ≡ None → All (λ (c : Coin). c.coin ≢ o) (coins_of h)
+    there : option_map (candidate_of w h tip rate) (coin_under h o) ≡ None → All (λ (c : Coin). c.coin ≢ o) (coins_of h)
     there e = All-weaker (Contains (coins_of h)) (λ (c : Coin). c.coin ≢ o)
-        (λ c in' same. true≢false (sym (some_is ∙ any_has (λ (c : Coin). same_outpoint o c.coin) (coins_of h) c in' ((same_outpoint-Decides o c.coin).1 (sym same))) ∙ ap (λ (r : Option Coin). is_some r) (mapped_none (candidate_of w h tip) (coin_under h o) e)))
+        (λ c in' same. true≢false (sym (some_is ∙ any_has (λ (c : Coin). same_outpoint o c.coin) (coins_of h) c in' ((same_outpoint-Decides o c.coin).1 (sym same))) ∙ ap (λ (r : Option Coin). is_some r) (mapped_none (candidate_of w h tip rate) (coin_under h o) e)))
         (coins_of h) (All-contains_itself (coins_of h))
 
-    nothing : (r : Option Coin) → is_some r ≡ false → option_map (candidate_of w h tip) r ≡ None
+    nothing : (r : Option Coin) → is_some r ≡ false → option_map (candidate_of w h tip rate) r ≡ None
     nothing None e = refl
     nothing (Some c) e = absurd (true≢false e)
 
-    back : All (λ (c : Coin). c.coin ≢ o) (coins_of h) → option_map (candidate_of w h tip) (coin_under h o) ≡ None
+    back : All (λ (c : Coin). c.coin ≢ o) (coins_of h) → option_map (candidate_of w h tip rate) (coin_under h o) ≡ None
     back all = nothing (coin_under h o) (some_is ∙ list_any_none (λ (c : Coin). same_outpoint o c.coin) (coins_of h)
         (All-weaker (λ (c : Coin). c.coin ≢ o) (λ (c : Coin). same_outpoint o c.coin ≡ false) (λ c ne. false_from_ne_true (same_outpoint o c.coin) (λ e. ne (sym ((same_outpoint-Decides o c.coin).0 e)))) (coins_of h) all))
 
 -- of coins that may be spent the same is known
-pub same_facts : (w : PlainWallet) (h : History) (tip : ℕ) → IsWallet w → IsBookOf w h → fault_of h ≡ None → All (λ (c : Candidate). facts_at w h tip c.coin ≡ Some c) (candidates_of w h tip)
+pub same_facts : (w : PlainWallet) (h : History) (tip rate : ℕ) → IsWallet w → IsBookOf w h → fault_of h ≡ None → All (λ (c : Candidate). facts_at w h tip rate c.coin ≡ Some c) (candidates_of w h tip rate)
 unfolding candidates_of
-same_facts w h tip rules book sound =
-    All-map (λ (c : Candidate). facts_at w h tip c.coin ≡ Some c) (candidate_of w h tip) (filter (is_candidate w h tip) (coins_of h))
-    (all_kept (λ (k : Coin). facts_at w h tip (candidate_of w h tip k).coin ≡ Some (candidate_of w h tip k)) (is_candidate w h tip) (coins_of h)
-    (All-weaker (Contains (coins_of h)) (λ (k : Coin). facts_at w h tip (candidate_of w h tip k).coin ≡ Some (candidate_of w h tip k))
-    (λ k there. ap (facts_at w h tip) (at_height w h tip k k.height (place_in w.pending k.coin.txid)).point ∙ own_facts w h tip k rules book sound there)
+same_facts w h tip rate rules book sound =
+    All-map (λ (c : Candidate). facts_at w h tip rate c.coin ≡ Some c) (candidate_of w h tip rate) (filter (is_candidate w h tip) (coins_of h))
+    (all_kept (λ (k : Coin). facts_at w h tip rate (candidate_of w h tip rate k).coin ≡ Some (candidate_of w h tip rate k)) (is_candidate w h tip) (coins_of h)
+    (All-weaker (Contains (coins_of h)) (λ (k : Coin). facts_at w h tip rate (candidate_of w h tip rate k).coin ≡ Some (candidate_of w h tip rate k))
+    (λ k there. ap (facts_at w h tip rate) (at_height w h tip rate k k.height (place_in w.pending k.coin.txid)).point ∙ own_facts w h tip rate k rules book sound there)
     (coins_of h) (All-contains_itself (coins_of h))))
 
 -- ---- what comes is fit, and has a transaction
 
-pub facts_fit : (w : PlainWallet) (h : History) (tip : ℕ) (o : OutPoint) (c : Candidate) → IsWallet w → IsBookOf w h → fault_of h ≡ None → facts_at w h tip o ≡ Some c → IsCandidate c × HasMaker h c
+pub facts_fit : (w : PlainWallet) (h : History) (tip rate : ℕ) (o : OutPoint) (c : Candidate) → IsWallet w → IsBookOf w h → fault_of h ≡ None → facts_at w h tip rate o ≡ Some c → IsCandidate c × HasMaker h c
 unfolding facts_at
-facts_fit w h tip o c rules book sound e = by (coin_under h o) refl e
+facts_fit w h tip rate o c rules book sound e = by (coin_under h o) refl e
   where
-    by : (r : Option Coin) → coin_under h o ≡ r → option_map (candidate_of w h tip) r ≡ Some c → IsCandidate c × HasMaker h c
+    by : (r : Option Coin) → coin_under h o ≡ r → option_map (candidate_of w h tip rate) r ≡ Some c → IsCandidate c × HasMaker h c
     by None is e = absurd (none-some c e)
     by (Some k) is e =
         let u = under h o k is in
-        let same = same_Some (candidate_of w h tip k) c e in
+        let same = same_Some (candidate_of w h tip rate k) c e in
         subst (λ (x : Candidate). IsCandidate x × HasMaker h x) same
-        (subst (λ (x : Coin). IsCandidate (candidate_of w h tip x) × HasMaker h (candidate_of w h tip x)) u.coin_is (
-          fit_coin w h rules book sound tip u.made u.there,
-          maker_found w h rules book sound u.made (candidate_of w h tip u.made.coin) u.there (at_height w h tip u.made.coin u.made.coin.height (place_in w.pending u.made.coin.coin.txid)),
+        (subst (λ (x : Coin). IsCandidate (candidate_of w h tip rate x) × HasMaker h (candidate_of w h tip rate x)) u.coin_is (
+          fit_coin w h rules book sound tip rate u.made u.there,
+          maker_found w h rules book sound u.made (candidate_of w h tip rate u.made.coin) u.there (at_height w h tip rate u.made.coin u.made.coin.height (place_in w.pending u.made.coin.coin.txid)),
         ))
 
-pub all_facts_fit : (w : PlainWallet) (h : History) (tip : ℕ) (points : List OutPoint) → IsWallet w → IsBookOf w h → fault_of h ≡ None → All (λ (c : Candidate). IsCandidate c × HasMaker h c) (facts_among w h tip points)
-all_facts_fit w h tip points rules book sound = all_abandoned (λ (c : Candidate). IsCandidate c × HasMaker h c) (facts_at w h tip) points (λ o there c e. facts_fit w h tip o c rules book sound e)
+pub all_facts_fit : (w : PlainWallet) (h : History) (tip rate : ℕ) (points : List OutPoint) → IsWallet w → IsBookOf w h → fault_of h ≡ None → All (λ (c : Candidate). IsCandidate c × HasMaker h c) (facts_among w h tip rate points)
+all_facts_fit w h tip rate points rules book sound = all_abandoned (λ (c : Candidate). IsCandidate c × HasMaker h c) (facts_at w h tip rate) points (λ o there c e. facts_fit w h tip rate o c rules book sound e)
 
 -- ---- how a coin stands
 
-pub known_waiting : (w : PlainWallet) (h : History) (tip : ℕ) (c : Coin) → c.height ≡ None → candidate_by h c (waiting_at w h (place_in w.pending c.coin.txid)) ≡ candidate_of w h tip c
-known_waiting w h tip c e = by c.height e
+pub known_waiting : (w : PlainWallet) (h : History) (tip rate : ℕ) (c : Coin) → c.height ≡ None → candidate_by h c (waiting_at w h rate (place_in w.pending c.coin.txid)) ≡ candidate_of w h tip rate c
+known_waiting w h tip rate c e = by c.height e
   where
-    by : (r : Option ℕ) → r ≡ None → candidate_by h c (waiting_at w h (place_in w.pending c.coin.txid)) ≡ candidate_at w h tip c r (place_in w.pending c.coin.txid)
+    by : (r : Option ℕ) → r ≡ None → candidate_by h c (waiting_at w h rate (place_in w.pending c.coin.txid)) ≡ candidate_at w h tip rate c r (place_in w.pending c.coin.txid)
     by None e = refl
     by (Some n) e = absurd (none-some n (sym e))
 
-pub known_deep : (w : PlainWallet) (h : History) (tip height : ℕ) (c : Coin) → c.height ≡ Some height → candidate_by h c (record { depth = tip + 1 - height; safe = true; ancestors = 0; descendants = 0 }) ≡ candidate_of w h tip c
-known_deep w h tip height c e = sym (ap (λ (r : Option ℕ). candidate_at w h tip c r (place_in w.pending c.coin.txid)) e)
+pub known_deep : (w : PlainWallet) (h : History) (tip rate height : ℕ) (c : Coin) → c.height ≡ Some height → candidate_by h c (record { depth = tip + 1 - height; safe = true; ancestors = 0; descendants = 0; price = 0 }) ≡ candidate_of w h tip rate c
+known_deep w h tip rate height c e = sym (ap (λ (r : Option ℕ). candidate_at w h tip rate c r (place_in w.pending c.coin.txid)) e)
 
 -- ---- where its transaction waits
 
@@ -155,16 +155,17 @@ pub place_within : (ts : List Transaction) (txid : List ℕ) (r : Option ℕ) �
 place_within ts txid None e = tt
 place_within ts txid (Some i) e = (found_place ts txid i (sym e)).0
 
-abbrev pub stood : Bool → ℕ → ℕ → Standing
-stood safe ancestors descendants = record { depth = 0; safe = safe; ancestors = ancestors; descendants = descendants }
+abbrev pub stood : Bool → ℕ → ℕ → ℕ → Standing
+stood safe ancestors descendants price = record { depth = 0; safe = safe; ancestors = ancestors; descendants = descendants; price = price }
 
-pub waiting_is : (w : PlainWallet) (h : History) (f : Facts) (place : Option ℕ) (n : ℕ) → AreFacts w h f → IfSome place (λ i. i < length w.pending) → n ≡ option_map_or (ancestors (view_of w h)) place 0
-    → stood (flag_at f.safe.items place) n (number_at f.descendants.items place) ≡ waiting_at w h place
-waiting_is w h f None n k within e = ap (λ m. stood false m 0) e
-waiting_is w h f (Some i) n k within e =
+pub waiting_is : (w : PlainWallet) (h : History) (rate : ℕ) (f : Facts) (prices : List ℕ) (place : Option ℕ) (n : ℕ) → AreFacts w h f → prices ≡ prices_in w h rate → IfSome place (λ i. i < length w.pending) → n ≡ option_map_or (ancestors (view_of w h)) place 0
+    → stood (flag_at f.safe.items place) n (number_at f.descendants.items place) (number_at prices place) ≡ waiting_at w h rate place
+waiting_is w h rate f prices None n k told within e = ap (λ m. stood false m 0 0) e
+waiting_is w h rate f prices (Some i) n k told within e =
+    let priced : slice_index_or prices i 0 ≡ price_at w h rate i = ap (λ (l : List ℕ). slice_index_or l i 0) told ∙ get_or-map_below (price_at w h rate) (length w.pending) i 0 within in
     let safely : slice_index_or f.safe.items i false ≡ is_safe (view_of w h) (coins_of h) i =
     ap (λ (l : List Bool). slice_index_or l i false) k.safe ∙ get_or-map_below (is_safe (view_of w h) (coins_of h)) (length w.pending) i false within in
-    λ j. stood (safely j) (e j) (k.descendants i j)
+    λ j. stood (safely j) (e j) (k.descendants i j) (priced j)
 
 -- ---- out of memory
 

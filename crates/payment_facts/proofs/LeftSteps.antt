@@ -41,6 +41,7 @@ use Rattle.payment_states.proofs.FitSteps.{all_flat, confirmed_there, few, fit_b
 use Rattle.payment_states.proofs.MakerSteps.{at_height, maker_found}
 use Rattle.payment_states.proofs.OfferSteps.{may_be_spent}
 use Rattle.payment_states.proofs.Paths.{any_has}
+pub use Rattle.known_fees.proofs.ListSteps.{map_from, map_has}
 
 -- ---- lists
 
@@ -288,34 +289,34 @@ module _ (gone : List (List ℕ)) where
 
       -- the candidates of the shorter list that are confirmed
       abbrev from_shorter : Coin → Option Candidate
-      from_shorter c = cond (is_confirmed_candidate (wallet_without gone w) (history_without gone h) tip c) (Some (candidate_of (wallet_without gone w) (history_without gone h) tip c)) None
+      from_shorter c = cond (is_confirmed_candidate (wallet_without gone w) (history_without gone h) tip c) (Some (candidate_of (wallet_without gone w) (history_without gone h) tip 0 c)) None
 
       pub unconfirmed : (ts : List Transaction) → All (λ (m : Made). m.coin.height ≡ None) (flat_map (made_in (weight_for h.scripts) None) (filter (is_open h.confirmed) ts))
       unconfirmed ts = all_flat (λ (m : Made). m.coin.height ≡ None) (made_in (weight_for h.scripts) None) (filter (is_open h.confirmed) ts)
           (λ t there. All-weaker (Contains (made_in (weight_for h.scripts) None t)) (λ (m : Made). m.coin.height ≡ None) (λ m c. sym ((coins_are (weight_for h.scripts) None t m).0 c).height_is) (made_in (weight_for h.scripts) None t) (All-contains_itself (made_in (weight_for h.scripts) None t)))
 
       none_shorter : (c : Coin) → c.height ≡ None → from_shorter c ≡ None
-      none_shorter c e = ap (λ (o : Option ℕ). cond (is_some o && is_candidate (wallet_without gone w) (history_without gone h) tip c) (Some (candidate_of (wallet_without gone w) (history_without gone h) tip c)) None) e
+      none_shorter c e = ap (λ (o : Option ℕ). cond (is_some o && is_candidate (wallet_without gone w) (history_without gone h) tip c) (Some (candidate_of (wallet_without gone w) (history_without gone h) tip 0 c)) None) e
 
       pub shorter_are : filter_map from_shorter (map coin (confirmed_made h)) ≡ confirmed_without_of w h tip gone
       unfolding made_of confirmed_without_of
       shorter_are =
           sym (front_alone from_shorter (map coin (confirmed_made h)) (map coin (pending_made (history_without gone h))) (All-map (λ (c : Coin). from_shorter c ≡ None) coin (pending_made (history_without gone h)) (All-weaker (λ (m : Made). m.coin.height ≡ None) (λ (m : Made). from_shorter m.coin ≡ None) (λ m e. none_shorter m.coin e) (pending_made (history_without gone h)) (unconfirmed (left_of gone h.pending)))))
           ∙ ap (filter_map from_shorter) (sym (map-append coin (confirmed_made h) (pending_made (history_without gone h))))
-          ∙ filter_map_if (is_confirmed_candidate (wallet_without gone w) (history_without gone h) tip) (candidate_of (wallet_without gone w) (history_without gone h) tip) (coins_of (history_without gone h))
+          ∙ filter_map_if (is_confirmed_candidate (wallet_without gone w) (history_without gone h) tip) (candidate_of (wallet_without gone w) (history_without gone h) tip 0) (coins_of (history_without gone h))
 
       -- the book has the transaction of each
       pub makers_left : All (HasMaker h) (confirmed_without_of w h tip gone)
       makers_left = subst (λ (l : List Candidate). All (HasMaker h) l) shorter_are
           (all_given_map (confirmed_made h) (λ m there c e.
           subst (HasMaker h) (given_is m c e)
-          (maker_found w h rules book sound m (candidate_of (wallet_without gone w) (history_without gone h) tip m.coin) (confirmed_in h m there) (at_height (wallet_without gone w) (history_without gone h) tip m.coin m.coin.height (place_in (left_of gone w.pending) m.coin.coin.txid)))))
+          (maker_found w h rules book sound m (candidate_of (wallet_without gone w) (history_without gone h) tip 0 m.coin) (confirmed_in h m there) (at_height (wallet_without gone w) (history_without gone h) tip 0 m.coin m.coin.height (place_in (left_of gone w.pending) m.coin.coin.txid)))))
         where
-          given_is : (m : Made) (c : Candidate) → from_shorter m.coin ≡ Some c → candidate_of (wallet_without gone w) (history_without gone h) tip m.coin ≡ c
+          given_is : (m : Made) (c : Candidate) → from_shorter m.coin ≡ Some c → candidate_of (wallet_without gone w) (history_without gone h) tip 0 m.coin ≡ c
           given_is m c e = by (is_confirmed_candidate (wallet_without gone w) (history_without gone h) tip m.coin) e
             where
-              by : (b : Bool) → cond b (Some (candidate_of (wallet_without gone w) (history_without gone h) tip m.coin)) None ≡ Some c → candidate_of (wallet_without gone w) (history_without gone h) tip m.coin ≡ c
-              by true e = same_Some (candidate_of (wallet_without gone w) (history_without gone h) tip m.coin) c e
+              by : (b : Bool) → cond b (Some (candidate_of (wallet_without gone w) (history_without gone h) tip 0 m.coin)) None ≡ Some c → candidate_of (wallet_without gone w) (history_without gone h) tip 0 m.coin ≡ c
+              by true e = same_Some (candidate_of (wallet_without gone w) (history_without gone h) tip 0 m.coin) c e
               by false e = absurd (none-some c e)
 
           all_given_map : (ms : List Made) → ((m : Made) → Contains ms m → (c : Candidate) → from_shorter m.coin ≡ Some c → HasMaker h c) → All (HasMaker h) (filter_map from_shorter (map coin ms))
@@ -340,6 +341,7 @@ module _ (gone : List (List ℕ)) where
             safe = true;
             ancestors = 0;
             descendants = 0;
+            price = 0;
           })) None
 
       -- the coin's transaction is Pending in the shorter list
@@ -348,7 +350,7 @@ module _ (gone : List (List ℕ)) where
 
       -- by its height, and whether the other rules hold
       by_height : (c : Coin) (height place : Option ℕ) (waiting rest : Bool) → comes_from_left h (is_listed gone) c ≡ comes_from_mine (history_without gone h) c
-          → stood c (comes_from_left h (is_listed gone) c) rest height ≡ cond (is_some height && ((is_some height || waiting) && rest)) (Some (candidate_at (wallet_without gone w) (history_without gone h) tip c height place)) None
+          → stood c (comes_from_left h (is_listed gone) c) rest height ≡ cond (is_some height && ((is_some height || waiting) && rest)) (Some (candidate_at (wallet_without gone w) (history_without gone h) tip 0 c height place)) None
       by_height c None place waiting rest e = refl
       by_height c (Some height) place waiting rest e = ap (λ (b : Bool). stood c b rest (Some height)) e
 
@@ -387,21 +389,7 @@ module _ (gone : List (List ℕ)) where
 pub left_fit : (w : PlainWallet) (h : History) (gone : List (List ℕ)) (tip : ℕ) → IsWallet w → IsBookOf w h → fault_of h ≡ None → AreCandidates (confirmed_without_of w h tip gone)
 unfolding confirmed_without_of
 left_fit w h gone tip rules book sound =
-    fit_by (wallet_without gone w) (history_without gone h) (wallet_left gone w rules) (book_left gone w h book) (sound_left gone h sound) tip (is_confirmed_candidate (wallet_without gone w) (history_without gone h) tip)
-
-pub map_has : {X Y : Type 0} (f : X → Y) (xs : List X) (x : X) → Contains xs x → Contains (map f xs) (f x)
-map_has f xs x there =
-    let n = length-map xs f in
-    let lt = there.1 in
-    (there.0, omega arith, get_or_map f xs there.0 (f x) x lt ∙ ap f there.2)
-
-pub map_from : {X Y : Type 0} (f : X → Y) (xs : List X) (y : Y) → Contains (map f xs) y → (x : X) × Contains xs x × (f x ≡ y)
-map_from f [] y c = let lt = c.1 in absurd (omega arith)
-map_from {X = X} {Y = Y} f (x ∷ xs) y c = by (cons_cases (f x) (map f xs) y c) (λ h. map_from f xs y h)
-  where
-    by : (f x ≡ y) ⊎ Contains (map f xs) y → (Contains (map f xs) y → (z : X) × Contains xs z × (f z ≡ y)) → (z : X) × Contains (x ∷ xs) z × (f z ≡ y)
-    by (inl e) rest = (x, (0, omega arith, refl), e)
-    by (inr h) rest = let r = rest h in (r.0, in_tail x xs r.0 r.1, r.2)
+    fit_by (wallet_without gone w) (history_without gone h) (wallet_left gone w rules) (book_left gone w h book) (sound_left gone h sound) tip 0 (is_confirmed_candidate (wallet_without gone w) (history_without gone h) tip)
 
 pub filter_in : {X : Type 0} (p : X → Bool) (xs : List X) (x : X) → Contains (filter p xs) x → Contains xs x × (p x ≡ true)
 filter_in p xs x c = (All-contains (Contains xs) (filter p xs) x (All-filter p (Contains xs) xs (All-contains_itself xs)) c, All-contains (λ y. p y ≡ true) (filter p xs) x (filter_passes p xs) c)
@@ -425,7 +413,7 @@ is_there None ne = absurd (ne refl)
 is_there (Some n) ne = refl
 
 abbrev IsLeft : PlainWallet → History → ℕ → Candidate → Type 0
-IsLeft w h tip c = (k : Coin) × Contains (coins_of h) k × (k.height ≢ None) × MayBeSpent w h tip k × (candidate_of w h tip k ≡ c)
+IsLeft w h tip c = (k : Coin) × Contains (coins_of h) k × (k.height ≢ None) × MayBeSpent w h tip k × (candidate_of w h tip 0 k ≡ c)
 
 are_left : (w : PlainWallet) (h : History) (tip : ℕ) (c : Candidate) → AreDistinct w.pending → ParentsComeFirst w.pending → (Contains (confirmed_candidates w h tip) c ↔ IsLeft w h tip c)
 are_left w h tip c apart rule = (there, back)
@@ -435,7 +423,7 @@ are_left w h tip c apart rule = (there, back)
 
     there : Contains (confirmed_candidates w h tip) c → IsLeft w h tip c
     there in' =
-        let m = map_from (candidate_of w h tip) (filter q (coins_of h)) c in' in
+        let m = map_from (candidate_of w h tip 0) (filter q (coins_of h)) c in' in
         let f = filter_in q (coins_of h) m.0 m.1 in
         let both = and_parts (is_some m.0.height) (is_candidate w h tip m.0) f.1 in
         (m.0, f.0, there_is m.0.height both.0, (may_be_spent w h tip m.0 apart rule).0 both.1, m.2)
@@ -443,7 +431,7 @@ are_left w h tip c apart rule = (there, back)
     back : IsLeft w h tip c → Contains (confirmed_candidates w h tip) c
     back l =
         subst (Contains (confirmed_candidates w h tip)) l.4
-        (map_has (candidate_of w h tip) (filter q (coins_of h)) l.0 (in_filter q (coins_of h) l.0 l.1 (and_from (is_some l.0.height) (is_candidate w h tip l.0) (is_there l.0.height l.2) ((may_be_spent w h tip l.0 apart rule).1 l.3))))
+        (map_has (candidate_of w h tip 0) (filter q (coins_of h)) l.0 (in_filter q (coins_of h) l.0 l.1 (and_from (is_some l.0.height) (is_candidate w h tip l.0) (is_there l.0.height l.2) ((may_be_spent w h tip l.0 apart rule).1 l.3))))
 
 pub left_exact : (w : PlainWallet) (h : History) (tip : ℕ) (gone : List (List ℕ)) (c : Candidate) → IsWallet w → (Contains (confirmed_without_of w h tip gone) c ↔ IsLeft (wallet_without gone w) (history_without gone h) tip c)
 unfolding confirmed_without_of

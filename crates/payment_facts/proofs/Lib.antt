@@ -1,3 +1,5 @@
 pub mod AnySteps
+pub mod HeightSteps
 pub mod LeftSteps
 pub mod PendingSteps
+pub mod PricedFacts

@@ -31,9 +31,9 @@ history_without gone h = record h { pending = left_of gone h.pending }
 abbrev pub is_confirmed_candidate : PlainWallet → History → ℕ → Coin → Bool
 is_confirmed_candidate w h tip c = is_some c.height && is_candidate w h tip c
 
--- the coins that may be spent and are confirmed, in order of creation
+-- the coins that may be spent and are confirmed, in order of creation; the price of each is 0
 abbrev pub confirmed_candidates : PlainWallet → History → ℕ → List Candidate
-confirmed_candidates w h tip = map (candidate_of w h tip) (filter (is_confirmed_candidate w h tip) (coins_of h))
+confirmed_candidates w h tip = map (candidate_of w h tip 0) (filter (is_confirmed_candidate w h tip) (coins_of h))
 
 -- Those that there are as if the pending list had been written without the transactions of these txids. Of outputs of
 -- these none is a coin then.
@@ -69,6 +69,7 @@ left_at h gone tip claimed locked c (Some height) =
       safe = true;
       ancestors = 0;
       descendants = 0;
+      price = 0;
     })
     else None
 

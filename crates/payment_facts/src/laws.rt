@@ -14,18 +14,27 @@ ghost use Rattle.payment_states.specs.BookOf.{IsBookOf};
 ghost use Rattle.payment_states.specs.Candidates.{candidate_of, candidates_of};
 ghost use Rattle.payment_states.specs.Makers.{HasMaker};
 ghost use Rattle.payment_states.specs.Offered.{MayBeSpent};
-ghost use Rattle.payment_facts.specs.AnyCoin.{facts_at};
+ghost use Rattle.payment_states.specs.Prices.{IsPriced};
+ghost use Rattle.payment_facts.specs.AnyCoin.{facts_among, facts_at};
 ghost use Rattle.payment_facts.specs.LeftOut.{confirmed_without_of, history_without, wallet_without};
 
 /// The law of coins that are looked up: each coin of a book is found at its own outpoint, nothing is found elsewhere, and of
 /// a coin that may be spent the same is known. What is found is within the bounds of a candidate, and the history has the
 /// transaction that made it.
 pub fn finds_coins()
-    ensures own { (w : PlainWallet) (h : History) (tip : ℕ) (c : Coin) → IsWallet w → IsBookOf w h → fault_of h ≡ None → Contains (coins_of h) c → facts_at w h tip c.coin ≡ Some (candidate_of w h tip c) }
-    ensures none { (w : PlainWallet) (h : History) (tip : ℕ) (o : OutPoint) → (facts_at w h tip o ≡ None) ↔ All (λ (c : Coin). c.coin ≢ o) (coins_of h) }
-    ensures same { (w : PlainWallet) (h : History) (tip : ℕ) → IsWallet w → IsBookOf w h → fault_of h ≡ None → All (λ (c : Candidate). facts_at w h tip c.coin ≡ Some c) (candidates_of w h tip) }
-    ensures fit { (w : PlainWallet) (h : History) (tip : ℕ) (o : OutPoint) (c : Candidate) → IsWallet w → IsBookOf w h → fault_of h ≡ None → facts_at w h tip o ≡ Some c → IsCandidate c }
-    ensures made { (w : PlainWallet) (h : History) (tip : ℕ) (o : OutPoint) (c : Candidate) → IsWallet w → IsBookOf w h → fault_of h ≡ None → facts_at w h tip o ≡ Some c → HasMaker h c }
+    ensures own { (w : PlainWallet) (h : History) (tip rate : ℕ) (c : Coin) → IsWallet w → IsBookOf w h → fault_of h ≡ None → Contains (coins_of h) c → facts_at w h tip rate c.coin ≡ Some (candidate_of w h tip rate c) }
+    ensures none { (w : PlainWallet) (h : History) (tip rate : ℕ) (o : OutPoint) → (facts_at w h tip rate o ≡ None) ↔ All (λ (c : Coin). c.coin ≢ o) (coins_of h) }
+    ensures same { (w : PlainWallet) (h : History) (tip rate : ℕ) → IsWallet w → IsBookOf w h → fault_of h ≡ None → All (λ (c : Candidate). facts_at w h tip rate c.coin ≡ Some c) (candidates_of w h tip rate) }
+    ensures fit { (w : PlainWallet) (h : History) (tip rate : ℕ) (o : OutPoint) (c : Candidate) → IsWallet w → IsBookOf w h → fault_of h ≡ None → facts_at w h tip rate o ≡ Some c → IsCandidate c }
+    ensures made { (w : PlainWallet) (h : History) (tip rate : ℕ) (o : OutPoint) (c : Candidate) → IsWallet w → IsBookOf w h → fault_of h ≡ None → facts_at w h tip rate o ≡ Some c → HasMaker h c }
+{}
+
+/// The law of the prices of listed coins, and of confirmed ones beside payments that are left out: each is that of the coin's
+/// outpoint, by the whole wallet and book.
+pub fn listed_coins_have_prices()
+    ensures found { (w : PlainWallet) (h : History) (tip rate : ℕ) (o : OutPoint) (c : Candidate) → facts_at w h tip rate o ≡ Some c → IsPriced w h rate c }
+    ensures among { (w : PlainWallet) (h : History) (tip rate : ℕ) (points : List OutPoint) → All (IsPriced w h rate) (facts_among w h tip rate points) }
+    ensures left { (w : PlainWallet) (h : History) (tip rate : ℕ) (gone : List (List ℕ)) → All (IsPriced w h rate) (confirmed_without_of w h tip gone) }
 {}
 
 /// The law of payments that are left out: a wallet whose pending list was written without some transactions keeps the rules
@@ -37,5 +46,5 @@ pub fn left_out_as_never_written()
     ensures book { (w : PlainWallet) (h : History) (gone : List (List ℕ)) → IsBookOf w h → IsBookOf (wallet_without gone w) (history_without gone h) }
     ensures sound { (h : History) (gone : List (List ℕ)) → fault_of h ≡ None → fault_of (history_without gone h) ≡ None }
     ensures exact { (w : PlainWallet) (h : History) (tip : ℕ) (gone : List (List ℕ)) (c : Candidate) → IsWallet w →
-        (Contains (confirmed_without_of w h tip gone) c ↔ ((k : Coin) × Contains (coins_of (history_without gone h)) k × (k.height ≢ None) × MayBeSpent (wallet_without gone w) (history_without gone h) tip k × (candidate_of (wallet_without gone w) (history_without gone h) tip k ≡ c))) }
+        (Contains (confirmed_without_of w h tip gone) c ↔ ((k : Coin) × Contains (coins_of (history_without gone h)) k × (k.height ≢ None) × MayBeSpent (wallet_without gone w) (history_without gone h) tip k × (candidate_of (wallet_without gone w) (history_without gone h) tip 0 k ≡ c))) }
 {}

@@ -9,18 +9,18 @@ ghost use Rattle.fund_base.specs.declared.outpoint.OutPoint.{OutPoint};
 ghost use Rattle.tx_codec.specs.Transaction.{Transaction};
 ghost use Rattle.tx_codec.specs.Txid.{txid_of};
 ghost use Rattle.tx_codec.specs.declared.tx.TxIn.{TxIn};
+ghost use Rattle.coin_book.specs.Asked.{AreWaiting, HasCoin};
 ghost use Rattle.coin_book.specs.Coins.{coins_of};
 ghost use Rattle.coin_book.specs.Faults.{fault_of};
 ghost use Rattle.coin_book.specs.declared.coin.Coin.{Coin};
-ghost use Rattle.coin_book.specs.Spends.{height_of};
 ghost use Rattle.payment_states.specs.BookOf.{IsBookOf};
 ghost use Rattle.payment_states.specs.ByPlace.{view_by};
-ghost use Rattle.payment_states.specs.Candidates.{is_claimed, is_coin};
+ghost use Rattle.payment_states.specs.Candidates.{is_claimed};
 ghost use Rattle.payment_facts.specs.LeftOut.{comes_from_left, confirmed_without_of, left_by, stays_coin};
 ghost use Rattle.payment_states.specs.Makers.{HasMaker};
 ghost use Rattle.wallet_text.specs.WalletRules.{AreDistinct, ParentsComeFirst};
 
-use coin_book::{Book, Coin};
+use coin_book::{Book, Coin, Known};
 use coin_candidates::Candidate;
 use fund_base::{Memory, OutPoint, Txid};
 use indexmap::IndexSet;
@@ -42,29 +42,25 @@ fn left_of(alloc: Global, txs: &[Tx], gone: &IndexSet<Txid>) -> Result<Vec<Tx>, 
     Ok(left)
 }
 
-/// Whether the book has a coin at this outpoint.
-fn has_coin(book: &Book, point: &OutPoint) -> bool
-    ensures { result ≡ is_coin (coins_of book.now) point.now }
+/// Whether a coin of this txid is none where the transactions of these are left out: its txid is among them, and it waits.
+fn is_left_out(gone: &IndexSet<Txid>, txid: &Txid, height: Option<u32>) -> bool
+    ensures { result ≡ (contains bytes_eq gone.now txid.now && is_none height) }
 {
-    book.parent(point).is_some()
-}
-
-/// Whether a transaction is left out: its txid is among these, and it isn't confirmed.
-fn is_left_out(book: &Book, gone: &IndexSet<Txid>, txid: &Txid) -> bool
-    ensures { result ≡ (contains bytes_eq gone.now txid.now && is_none (height_of book.now.confirmed txid.now)) }
-{
-    gone.contains(txid) && book.height(txid).is_none()
+    gone.contains(txid) && height.is_none()
 }
 
 /// Whether the outpoint is that of a coin, and not of one whose transaction is left out.
-fn stays_coin(book: &Book, gone: &IndexSet<Txid>, point: &OutPoint) -> bool
+fn stays_coin(book: &Known<'_>, gone: &IndexSet<Txid>, point: &OutPoint) -> bool
     ensures { result ≡ stays_coin book.now (contains bytes_eq gone.now) point.now }
 {
-    has_coin(book, point) && !is_left_out(book, gone, &point.txid)
+    match book.get(point) {
+        Some(coin) => !is_left_out(gone, &point.txid, coin.height),
+        None => false,
+    }
 }
 
 /// Whether every input spends such a coin.
-fn stays_mine(book: &Book, gone: &IndexSet<Txid>, inputs: &[TxIn]) -> bool
+fn stays_mine(book: &Known<'_>, gone: &IndexSet<Txid>, inputs: &[TxIn]) -> bool
     ensures { result ≡ list_all (λ (i : TxIn). stays_coin book.now (contains bytes_eq gone.now) i.prev) inputs.now }
 {
     for input in inputs {
@@ -76,7 +72,7 @@ fn stays_mine(book: &Book, gone: &IndexSet<Txid>, inputs: &[TxIn]) -> bool
 }
 
 /// Whether every input of a coin's transaction does.
-fn comes_from_left(book: &Book, gone: &IndexSet<Txid>, coin: &Coin) -> bool
+fn comes_from_left(book: &Known<'_>, gone: &IndexSet<Txid>, coin: &Coin) -> bool
     ensures { result ≡ comes_from_left book.now (contains bytes_eq gone.now) coin.now }
 {
     match book.parent(&coin.coin) {
@@ -88,14 +84,15 @@ fn comes_from_left(book: &Book, gone: &IndexSet<Txid>, coin: &Coin) -> bool
 /// The coin, if it is confirmed and may be spent, with what is known of it. Of no other coin memory is needed.
 fn left_coin(
     alloc: Global,
-    book: &Book,
+    book: &Known<'_>,
     gone: &IndexSet<Txid>,
     claimed: &IndexSet<OutPoint>,
     locked: &IndexSet<OutPoint>,
     tip: u32,
     coin: &Coin,
 ) -> Result<Option<Candidate>, Memory>
-    requires { tip < 4294967295 }
+    requires coin { HasCoin book.now coin.now.coin }
+    requires tip { tip < 4294967295 }
     ensures exact { IfOk result (λ r. r ≡ left_by book.now (contains bytes_eq gone.now) tip (contains same_outpoint claimed.now coin.now.coin) (contains same_outpoint locked.now coin.now.coin) coin.now) }
     ensures short { OnErr result (left_by book.now (contains bytes_eq gone.now) tip (contains same_outpoint claimed.now coin.now.coin) (contains same_outpoint locked.now coin.now.coin) coin.now ≢ None) }
 {
@@ -117,6 +114,7 @@ fn left_coin(
             safe: true,
             ancestors: 0,
             descendants: 0,
+            price: 0,
         }))
     } else {
         Ok(None)
@@ -126,7 +124,7 @@ fn left_coin(
 /// The coin of this number, if there is one, and it is confirmed and may be spent.
 fn left_number(
     alloc: Global,
-    book: &Book,
+    book: &Known<'_>,
     gone: &IndexSet<Txid>,
     claimed: &IndexSet<OutPoint>,
     locked: &IndexSet<OutPoint>,
@@ -146,7 +144,7 @@ fn left_number(
 /// The confirmed coins that may be spent, by what is spoken for.
 fn all_left(
     alloc: Global,
-    book: &Book,
+    book: &Known<'_>,
     gone: &IndexSet<Txid>,
     claimed: &IndexSet<OutPoint>,
     locked: &IndexSet<OutPoint>,
@@ -169,13 +167,14 @@ fn all_left(
 /// The outpoints that the Pending ones of these transactions spend, and these that are locked.
 fn spoken_by(
     alloc: Global,
-    book: &Book,
+    book: &Known<'_>,
     txs: &[Tx],
     abandoned: &[Txid],
     points: &[OutPoint],
 ) -> Result<SpokenFor, Memory>
     requires distinct { AreDistinct txs.now }
     requires parents { ParentsComeFirst txs.now }
+    requires waiting { AreWaiting book.now txs.now }
     ensures claimed { (o : OutPoint) → IfOk result (λ s. contains same_outpoint s.claimed o ≡ is_claimed (view_by book.now.confirmed txs.now abandoned.now) o) }
     ensures locked { (o : OutPoint) → IfOk result (λ s. contains same_outpoint s.locked o ≡ list_any (λ x. same_outpoint x o) points.now) }
 {
@@ -188,7 +187,7 @@ fn spoken_by(
 /// The same of these transactions without those of the txids that are left out.
 fn spoken_without(
     alloc: Global,
-    book: &Book,
+    book: &Known<'_>,
     txs: &[Tx],
     abandoned: &[Txid],
     points: &[OutPoint],
@@ -196,12 +195,39 @@ fn spoken_without(
 ) -> Result<SpokenFor, Memory>
     requires distinct { AreDistinct txs.now }
     requires parents { ParentsComeFirst txs.now }
+    requires waiting { AreWaiting book.now txs.now }
     ensures claimed { (o : OutPoint) → IfOk result (λ s. contains same_outpoint s.claimed o ≡ is_claimed (view_by book.now.confirmed (filter (λ (t : Transaction). not (contains bytes_eq gone.now (txid_of t))) txs.now) abandoned.now) o) }
     ensures locked { (o : OutPoint) → IfOk result (λ s. contains same_outpoint s.locked o ≡ list_any (λ x. same_outpoint x o) points.now) }
 {
     let left = left_of(alloc, txs, gone)?;
     let spoken = spoken_by(alloc, book, &left, abandoned, points)?;
     Ok(spoken)
+}
+
+/// The same as [`confirmed_without`], by a book that is lent.
+pub fn known_without(
+    alloc: Global,
+    book: &Known<'_>,
+    wallet: &Wallet,
+    tip: u32,
+    gone: &[Txid],
+) -> Result<Vec<Candidate>, Memory>
+    requires book { IsBookOf wallet.now book.now }
+    requires tip { tip < 4294967295 }
+    ensures exact { IfOk result (λ v. v.items ≡ confirmed_without_of wallet.now book.now tip gone.now) }
+    ensures fit { IfOk result (λ v. AreCandidates v.items) }
+    ensures makers { IfOk result (λ v. All (HasMaker book.now) v.items) }
+{
+    let out = listed(alloc, gone)?;
+    let spoken = spoken_without(
+        alloc,
+        book,
+        &wallet.pending,
+        &wallet.abandoned,
+        &wallet.locked,
+        &out,
+    )?;
+    all_left(alloc, book, &out, &spoken.claimed, &spoken.locked, tip)
 }
 
 /// The confirmed coins that could be spent if the pending list had been written without the transactions of these txids,
@@ -223,14 +249,6 @@ pub fn confirmed_without(
     ensures fit { IfOk result (λ v. AreCandidates v.items) }
     ensures makers { IfOk result (λ v. All (HasMaker book.now) v.items) }
 {
-    let out = listed(alloc, gone)?;
-    let spoken = spoken_without(
-        alloc,
-        book,
-        &wallet.pending,
-        &wallet.abandoned,
-        &wallet.locked,
-        &out,
-    )?;
-    all_left(alloc, book, &out, &spoken.claimed, &spoken.locked, tip)
+    let known = book.known();
+    known_without(alloc, &known, wallet, tip, gone)
 }

@@ -7,7 +7,7 @@ mod laws;
 mod left_out;
 mod pendings;
 
-pub use any_coin::{coin_facts, facts_of_coins};
-pub use laws::{finds_coins, left_out_as_never_written};
-pub use left_out::confirmed_without;
+pub use any_coin::{coin_facts, facts_of_coins, known_fact, known_facts};
+pub use laws::{finds_coins, left_out_as_never_written, listed_coins_have_prices};
+pub use left_out::{confirmed_without, known_without};
 pub use pendings::{pending_ancestors, pending_descendants};

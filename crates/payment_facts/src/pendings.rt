@@ -2,12 +2,13 @@
 
 ghost use Rattle.std.specs.Prelude.{◌≡◌, ◌<◌, ◌==◌, ◌||◌, ℕ, IfOk, false, filter, length, map, slice_index_or, vec_len};
 ghost use Rattle.std.specs.List.{list_any};
+ghost use Rattle.payment_states.specs.BookOf.{IsBookOf};
 ghost use Rattle.payment_states.specs.Graph.{IsInOrder, below, within};
 ghost use Rattle.payment_states.specs.Payments.{payments_of};
 ghost use Rattle.payment_facts.specs.Pendings.{pending_above, pending_below};
 ghost use Rattle.payment_states.specs.PendingView.{view_of};
 
-use coin_book::Book;
+use coin_book::Known;
 use fund_base::Memory;
 use payment_states::{Parents, States, flag_at, graph_of, kept, mark_kin, pending_of};
 use std::alloc::Global;
@@ -83,11 +84,12 @@ fn both_at(alloc: Global, count: usize, a: &[bool], b: &[bool]) -> Result<Vec<us
 /// The error is out of memory.
 pub fn pending_ancestors(
     alloc: Global,
-    book: &Book,
+    book: &Known<'_>,
     wallet: &Wallet,
     states: &States,
     place: usize,
 ) -> Result<Vec<usize>, Memory>
+    requires book { IsBookOf wallet.now book.now }
     requires states { states.now ≡ payments_of wallet.now book.now }
     requires place { place < length wallet.now.pending }
     ensures { IfOk result (λ v. v.items ≡ pending_above (view_of wallet.now book.now) place) }
@@ -103,11 +105,12 @@ pub fn pending_ancestors(
 /// The error is out of memory.
 pub fn pending_descendants(
     alloc: Global,
-    book: &Book,
+    book: &Known<'_>,
     wallet: &Wallet,
     states: &States,
     place: usize,
 ) -> Result<Vec<usize>, Memory>
+    requires book { IsBookOf wallet.now book.now }
     requires states { states.now ≡ payments_of wallet.now book.now }
     requires place { place < length wallet.now.pending }
     ensures { IfOk result (λ v. v.items ≡ pending_below (view_of wallet.now book.now) place) }

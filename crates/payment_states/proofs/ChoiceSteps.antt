@@ -11,7 +11,7 @@ use Rattle.coin_book.specs.Coins.{coins_of}
 use Rattle.coin_book.specs.History.{History}
 use Rattle.coin_book.specs.Spends.{has_input}
 use Rattle.coin_book.specs.declared.coin.Coin.{Coin}
-use Rattle.payment_states.specs.Candidates.{ancestors, candidate_at, candidate_of, candidates_of, comes_from_mine, descendants, is_candidate, is_claimed, is_deep, is_locked, is_pending, is_safe, is_spent}
+use Rattle.payment_states.specs.Candidates.{ancestors, candidate_at, candidate_of, candidates_of, comes_from_mine, descendants, is_candidate, is_claimed, is_deep, is_locked, is_pending, is_safe, is_spent, price_at, prices_in}
 use Rattle.payment_states.specs.Graph.{below}
 use Rattle.payment_states.specs.Payments.{payments_in}
 use Rattle.payment_states.specs.ByPlace.{candidate_by, chosen_at, flag_at, place_among, standing_by}
@@ -42,17 +42,18 @@ filter_map_if {X = X} {Y = Y} p f (x ∷ xs) = by (p x) (filter_map_if p f xs)
     by false e = e
 
 -- what is known of the pending list is right
-pub record Knows (w : PlainWallet) (h : History) (pending safe : List Bool) (up down : List ℕ) : Type 0 where
+pub record Knows (w : PlainWallet) (h : History) (rate : ℕ) (pending safe : List Bool) (up down prices : List ℕ) : Type 0 where
   pub pending_is : pending ≡ map (is_pending (view_of w h)) (below (length w.pending))
   pub safe_is : safe ≡ map (is_safe (view_of w h) (coins_of h)) (below (length w.pending))
   pub up_is : (i : ℕ) → i < length w.pending → is_pending (view_of w h) i ≡ true → slice_index_or up i 0 ≡ ancestors (view_of w h) i
   pub down_is : (i : ℕ) → slice_index_or down i 0 ≡ descendants (view_of w h) i
+  pub prices_are : prices ≡ prices_in w h rate
 
-module _ (w : PlainWallet) (h : History) (tip : ℕ) (pending safe : List Bool) (up down : List ℕ) (k : Knows w h pending safe up down) where
+module _ (w : PlainWallet) (h : History) (tip rate : ℕ) (pending safe : List Bool) (up down prices : List ℕ) (k : Knows w h rate pending safe up down prices) where
   -- a coin, by how it stands
   described_is : (c : Coin) (height place : Option ℕ) (rest : Bool) → ((i : ℕ) → place ≡ Some i → i < length w.pending)
-      → cond ((is_some height || flag_at pending place) && rest) (Some (candidate_by h c (standing_by tip safe up down height place))) None
-      ≡ cond ((is_some height || option_map_or (is_pending (view_of w h)) place false) && rest) (Some (candidate_at w h tip c height place)) None
+      → cond ((is_some height || flag_at pending place) && rest) (Some (candidate_by h c (standing_by tip safe up down prices height place))) None
+      ≡ cond ((is_some height || option_map_or (is_pending (view_of w h)) place false) && rest) (Some (candidate_at w h tip rate c height place)) None
   described_is c (Some height) place rest within = refl
   described_is c None None rest within = refl
   described_is c None (Some i) rest within = by (is_pending (view_of w h) i) refl
@@ -63,8 +64,11 @@ module _ (w : PlainWallet) (h : History) (tip : ℕ) (pending safe : List Bool) 
       safely : slice_index_or safe i false ≡ is_safe (view_of w h) (coins_of h) i
       safely = ap (λ (l : List Bool). slice_index_or l i false) k.safe_is ∙ get_or-map_below (is_safe (view_of w h) (coins_of h)) (length w.pending) i false (within i refl)
 
-      stood : Bool → Bool → ℕ → ℕ → Option Candidate
-      stood b s a d = cond (b && rest) (Some (record {
+      priced : slice_index_or prices i 0 ≡ price_at w h rate i
+      priced = ap (λ (l : List ℕ). slice_index_or l i 0) k.prices_are ∙ get_or-map_below (price_at w h rate) (length w.pending) i 0 (within i refl)
+
+      stood : Bool → Bool → ℕ → ℕ → ℕ → Option Candidate
+      stood b s a d p = cond (b && rest) (Some (record {
         coin = c.coin;
         value = c.value;
         weight = c.weight;
@@ -74,33 +78,37 @@ module _ (w : PlainWallet) (h : History) (tip : ℕ) (pending safe : List Bool) 
         safe = s;
         ancestors = a;
         descendants = d;
+        price = p;
       })) None
 
-      none : (b : Bool) (s t : Bool) (a d e f : ℕ) → b ≡ false → stood b s a d ≡ stood b t e f
-      none true s t a d e f off = absurd (let x : true ≡ false = off in cc)
-      none false s t a d e f off = refl
+      none : (b : Bool) (s t : Bool) (a d p e f q : ℕ) → b ≡ false → stood b s a d p ≡ stood b t e f q
+      none true s t a d p e f q off = absurd (let x : true ≡ false = off in cc)
+      none false s t a d p e f q off = refl
 
       by : (b : Bool) → is_pending (view_of w h) i ≡ b
-          → stood (slice_index_or pending i false) (slice_index_or safe i false) (slice_index_or up i 0) (slice_index_or down i 0)
-          ≡ stood (is_pending (view_of w h) i) (is_safe (view_of w h) (coins_of h) i) (ancestors (view_of w h) i) (descendants (view_of w h) i)
-      by true e = λ j. stood (flag j) (safely j) (k.up_is i (within i refl) e j) (k.down_is i j)
-      by false e = ap (λ b. stood b (slice_index_or safe i false) (slice_index_or up i 0) (slice_index_or down i 0)) flag ∙ none (is_pending (view_of w h) i) (slice_index_or safe i false) (is_safe (view_of w h) (coins_of h) i) (slice_index_or up i 0) (slice_index_or down i 0) (ancestors (view_of w h) i) (descendants (view_of w h) i) e
+          → stood (slice_index_or pending i false) (slice_index_or safe i false) (slice_index_or up i 0) (slice_index_or down i 0) (slice_index_or prices i 0)
+          ≡ stood (is_pending (view_of w h) i) (is_safe (view_of w h) (coins_of h) i) (ancestors (view_of w h) i) (descendants (view_of w h) i) (price_at w h rate i)
+      by true e = λ j. stood (flag j) (safely j) (k.up_is i (within i refl) e j) (k.down_is i j) (priced j)
+      by false e =
+          ap (λ b. stood b (slice_index_or safe i false) (slice_index_or up i 0) (slice_index_or down i 0) (slice_index_or prices i 0)) flag
+          ∙ none (is_pending (view_of w h) i) (slice_index_or safe i false) (is_safe (view_of w h) (coins_of h) i) (slice_index_or up i 0) (slice_index_or down i 0) (slice_index_or prices i 0)
+          (ancestors (view_of w h) i) (descendants (view_of w h) i) (price_at w h rate i) e
 
   -- the coin, if it may be spent
   pub chosen_is : (claimed locked : OutPoint → Bool) (payments : List Payment) → payments ≡ payments_in (view_of w h) → ((o : OutPoint) → claimed o ≡ is_claimed (view_of w h) o) → ((o : OutPoint) → locked o ≡ is_locked w o)
-      → (c : Coin) → chosen_at h tip pending safe up down (claimed c.coin) (locked c.coin) c (place_among payments c.coin.txid) ≡ cond (is_candidate w h tip c) (Some (candidate_of w h tip c)) None
+      → (c : Coin) → chosen_at h tip pending safe up down prices (claimed c.coin) (locked c.coin) c (place_among payments c.coin.txid) ≡ cond (is_candidate w h tip c) (Some (candidate_of w h tip rate c)) None
   unfolding is_candidate
   chosen_is claimed locked payments payments_are claimed_is locked_is c =
-      (λ j. chosen_at h tip pending safe up down (claimed_is c.coin j) (locked_is c.coin j) c ((ap (λ (ps : List Payment). place_among ps c.coin.txid) payments_are ∙ place_is (view_of w h) c.coin.txid) j))
+      (λ j. chosen_at h tip pending safe up down prices (claimed_is c.coin j) (locked_is c.coin j) c ((ap (λ (ps : List Payment). place_among ps c.coin.txid) payments_are ∙ place_is (view_of w h) c.coin.txid) j))
       ∙ described_is c c.height (place_in w.pending c.coin.txid) (not (is_spent h c.coin) && (not (is_claimed (view_of w h) c.coin) && (not (is_locked w c.coin) && is_deep tip c))) (λ i e. (found_place w.pending c.coin.txid i e).0)
 
   pub all_are : (claimed locked : OutPoint → Bool) (payments : List Payment) → payments ≡ payments_in (view_of w h) → ((o : OutPoint) → claimed o ≡ is_claimed (view_of w h) o) → ((o : OutPoint) → locked o ≡ is_locked w o)
-      → filter_map (λ (c : Coin). chosen_at h tip pending safe up down (claimed c.coin) (locked c.coin) c (place_among payments c.coin.txid)) (coins_of h) ≡ candidates_of w h tip
+      → filter_map (λ (c : Coin). chosen_at h tip pending safe up down prices (claimed c.coin) (locked c.coin) c (place_among payments c.coin.txid)) (coins_of h) ≡ candidates_of w h tip rate
   unfolding candidates_of
   all_are claimed locked payments payments_are claimed_is locked_is =
-      filter_map_agree (λ (c : Coin). chosen_at h tip pending safe up down (claimed c.coin) (locked c.coin) c (place_among payments c.coin.txid)) (λ (c : Coin). cond (is_candidate w h tip c) (Some (candidate_of w h tip c)) None) (coins_of h)
+      filter_map_agree (λ (c : Coin). chosen_at h tip pending safe up down prices (claimed c.coin) (locked c.coin) c (place_among payments c.coin.txid)) (λ (c : Coin). cond (is_candidate w h tip c) (Some (candidate_of w h tip rate c)) None) (coins_of h)
       (chosen_is claimed locked payments payments_are claimed_is locked_is)
-      ∙ filter_map_if (is_candidate w h tip) (candidate_of w h tip) (coins_of h)
+      ∙ filter_map_if (is_candidate w h tip) (candidate_of w h tip rate) (coins_of h)
 
 -- what Pending transactions spend
 pub claimed_are : (w : PendingView) (flags : List Bool) (o : OutPoint) → flags ≡ map (is_pending w) (below (length w.pending))

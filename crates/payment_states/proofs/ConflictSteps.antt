@@ -12,12 +12,12 @@ use Rattle.tx_codec.specs.Transaction.{Transaction}
 use Rattle.tx_codec.specs.Txid.{txid_of}
 use Rattle.tx_codec.specs.declared.tx.TxIn.{TxIn}
 use Rattle.coin_book.specs.History.{Confirmed}
-use Rattle.coin_book.specs.Spends.{has_input, height_of, spend_at, spend_by, spends_below, spends_of}
+use Rattle.coin_book.specs.Spends.{has_input, has_spender, spend_at, spend_by, spends_below, spends_of}
 use Rattle.coin_book.specs.declared.coin.Spend.{Spend}
 use Rattle.payment_states.specs.Graph.{below, kin}
 use Rattle.payment_states.specs.Least.{least_by, value_at}
 use Rattle.payment_states.specs.Payments.{conflicts_at, conflict, txid_in}
-use Rattle.payment_states.specs.ByPlace.{Tells, first_conflict, first_place, place_if, view_by}
+use Rattle.payment_states.specs.ByPlace.{FindsTxid, first_conflict, first_place, place_if, view_by}
 use Rattle.payment_states.specs.PendingView.{PendingView, kin_of, graph, no_tx, parents, tx_at}
 use Rattle.payment_states.proofs.Below.{map_same}
 use Rattle.payment_states.proofs.FirstSteps.{find_any, find_more, least_attained}
@@ -42,7 +42,7 @@ spend_right chain o n = by (slice_get chain n) refl
   where
     by : (r : Option Confirmed) → slice_get chain n ≡ r → IsRight chain n (option_and_then (spend_by chain o n) r)
     by None at t e = absurd (none-some t e)
-    by (Some c) at t e = right_by chain o n (has_input o c.tx.inputs && not (is_some (height_of (take n chain) (txid_of c.tx)))) c at t e
+    by (Some c) at t e = right_by chain o n (has_input o c.tx.inputs && not (has_spender (take n chain) o (txid_of c.tx))) c at t e
 
 head_append : {X : Type 0} (xs ys : List X) → slice_get (xs ++ ys) 0 ≡ option_or (slice_get xs 0) (slice_get ys 0)
 head_append [] ys = refl
@@ -83,13 +83,13 @@ head_right chain o (suc n) s e =
 -- a txid is noted under its place
 pub noted : (chain : List Confirmed) (o : OutPoint) (s : Spend) (names new : List (ℕ × List ℕ)) → slice_get (spends_of chain o) 0 ≡ Some s
     → ((q : ℕ) → lookup (nat_eq q) new ≡ cond (nat_eq s.place q) (Some s.txid) (lookup (nat_eq q) names))
-    → (k : ℕ) → (s.place ≡ k → Tells chain new k) × (Tells chain names k → Tells chain new k)
+    → (k : ℕ) → (s.place ≡ k → FindsTxid chain new k) × (FindsTxid chain names k → FindsTxid chain new k)
 noted chain o s names new first put k = by (cases_eq s.place k)
   where
-    own : s.place ≡ k → Tells chain new k
+    own : s.place ≡ k → FindsTxid chain new k
     own e = put k ∙ ap (λ b. cond b (Some s.txid) (lookup (nat_eq k) names)) (eq-eqb s.place k e) ∙ sym (head_right chain o (length chain) s first) ∙ ap (txid_in chain) e
 
-    by : (s.place ≡ k) ⊎ (s.place ≡ k → ⊥) → (s.place ≡ k → Tells chain new k) × (Tells chain names k → Tells chain new k)
+    by : (s.place ≡ k) ⊎ (s.place ≡ k → ⊥) → (s.place ≡ k → FindsTxid chain new k) × (FindsTxid chain names k → FindsTxid chain new k)
     by (inl e) = (own, λ h. own e)
     by (inr ne) = (own, λ h. put k ∙ ap (λ b. cond b (Some s.txid) (lookup (nat_eq k) names)) (ne_eqb s.place k ne) ∙ h)
 
@@ -119,19 +119,19 @@ conflict_is chain pending i =
 
 -- its txid is noted, where those of all are
 pub conflict_told : (chain : List Confirmed) (pending : List Transaction) (names : List (ℕ × List ℕ)) (i k : ℕ)
-    → ((j m : ℕ) (d : Transaction) → j < length pending → first_conflict chain (slice_index_or pending j d).inputs ≡ Some m → Tells chain names m)
-    → least_by (value_at (own_of chain pending)) (kin (graph (view_by chain pending [])) i) ≡ Some k → Tells chain names k
+    → ((j m : ℕ) (d : Transaction) → j < length pending → first_conflict chain (slice_index_or pending j d).inputs ≡ Some m → FindsTxid chain names m)
+    → least_by (value_at (own_of chain pending)) (kin (graph (view_by chain pending [])) i) ≡ Some k → FindsTxid chain names k
 conflict_told chain pending names i k told e =
     let a = least_attained (value_at (own_of chain pending)) (kin (graph (view_by chain pending [])) i) k e in
     by a.0 (sym (own_at chain pending a.0) ∙ a.2) (cases_lt a.0 (length pending))
   where
-    by : (j : ℕ) → first_conflict chain (get_or pending j no_tx).inputs ≡ Some k → (j < length pending) ⊎ (length pending ≤ j) → Tells chain names k
+    by : (j : ℕ) → first_conflict chain (get_or pending j no_tx).inputs ≡ Some k → (j < length pending) ⊎ (length pending ≤ j) → FindsTxid chain names k
     by j h (inl lt) = told j k no_tx lt h
     by j h (inr le) = absurd (none-some k (sym (ap (λ (t : Transaction). first_conflict chain t.inputs) (get_or_past pending j no_tx le)) ∙ h))
 
 -- the txids that are noted under the least places
 pub conflicts_are : (chain : List Confirmed) (pending : List Transaction) (g : List (List ℕ)) (own : List (Option ℕ)) (names : List (ℕ × List ℕ)) → g ≡ graph (view_by chain pending []) → own ≡ own_of chain pending
-    → ((j m : ℕ) (d : Transaction) → j < length pending → first_conflict chain (slice_index_or pending j d).inputs ≡ Some m → Tells chain names m)
+    → ((j m : ℕ) (d : Transaction) → j < length pending → first_conflict chain (slice_index_or pending j d).inputs ≡ Some m → FindsTxid chain names m)
     → map (option_and_then (λ k. lookup (nat_eq k) names)) (map (λ i. least_by (value_at own) (kin g i)) (below (length g)))
     ≡ map (λ i. option_and_then (txid_in chain) (conflict (view_by chain pending []) i)) (below (length pending))
 conflicts_are chain pending g own names g_is own_is told =
@@ -150,6 +150,6 @@ conflicts_are chain pending g own names g_is own_is told =
     least : ℕ → Option ℕ
     least i = least_by (value_at (own_of chain pending)) (kin (graph (view_by chain pending [])) i)
 
-    by : (i : ℕ) (r : Option ℕ) → ((k : ℕ) → r ≡ Some k → Tells chain names k) → r ≡ r → option_and_then (λ k. lookup (nat_eq k) names) r ≡ option_and_then (txid_in chain) r
+    by : (i : ℕ) (r : Option ℕ) → ((k : ℕ) → r ≡ Some k → FindsTxid chain names k) → r ≡ r → option_and_then (λ k. lookup (nat_eq k) names) r ≡ option_and_then (txid_in chain) r
     by i None h e = refl
     by i (Some k) h e = h k refl

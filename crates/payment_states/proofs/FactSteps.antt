@@ -24,7 +24,7 @@ use Rattle.payment_states.proofs.CountSteps.{count_agree}
 use Rattle.payment_states.proofs.AbandonedSteps.{kin_within}
 use Rattle.payment_states.proofs.StateSteps.{names_are}
 use Rattle.payment_states.proofs.Order.{all_filtered, all_abandoned, found_place, place_open}
-use Rattle.payment_states.proofs.Positions.{position-map}
+use Rattle.known_fees.proofs.Positions.{position-map}
 
 -- fewer parents stand in order too
 pub order_filter : (keep : ℕ → Bool) (g : List (List ℕ)) → IsInOrder g → IsInOrder (map (filter keep) g)

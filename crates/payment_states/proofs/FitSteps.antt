@@ -33,7 +33,7 @@ use Rattle.coin_book.specs.declared.coin.Coin.{Coin}
 use Rattle.coin_book.specs.declared.fault.BookFault.{BookFault}
 use Rattle.coin_book.specs.declared.fault.BookFault.TheVariants.{Full, RepeatCoin}
 use Rattle.payment_states.specs.BookOf.{IsBookOf}
-use Rattle.payment_states.specs.Candidates.{candidate_at, candidate_of, candidates_of, is_candidate}
+use Rattle.payment_states.specs.Candidates.{candidate_at, candidate_of, candidates_of, is_candidate, price_at}
 use Rattle.payment_states.specs.PendingView.{place_in}
 use Rattle.std.proofs.lemmas.Simd.{map-map}
 use Rattle.fund_base.proofs.Lists.{filter_le}
@@ -313,38 +313,44 @@ module _ (w : PlainWallet) (h : History) (rules : IsWallet w) (book : IsBookOf w
       let q = subst (λ (os : List OutPoint). AllPairs (λ x y. x ≢ y) os) is p in
       λ same. q i j d.coin lt (omega arith) (get_or_map (λ (c : Coin). c.coin) (coins_of h) i d.coin d (omega arith) ∙ same ∙ sym (get_or_map (λ (c : Coin). c.coin) (coins_of h) j d.coin d in'))
 
-  module _ (tip : ℕ) where
-    coin_kept : (c : Coin) (height place : Option ℕ) → ((candidate_at w h tip c height place).coin ≡ c.coin) × ((candidate_at w h tip c height place).value ≡ c.value) × ((candidate_at w h tip c height place).weight ≡ c.weight)
+  module _ (tip rate : ℕ) where
+    coin_kept : (c : Coin) (height place : Option ℕ) → ((candidate_at w h tip rate c height place).coin ≡ c.coin) × ((candidate_at w h tip rate c height place).value ≡ c.value) × ((candidate_at w h tip rate c height place).weight ≡ c.weight)
     coin_kept c None place = (refl, refl, refl)
     coin_kept c (Some height) place = (refl, refl, refl)
 
-    kept : (c : Coin) → ((candidate_of w h tip c).coin ≡ c.coin) × ((candidate_of w h tip c).value ≡ c.value) × ((candidate_of w h tip c).weight ≡ c.weight)
+    kept : (c : Coin) → ((candidate_of w h tip rate c).coin ≡ c.coin) × ((candidate_of w h tip rate c).value ≡ c.value) × ((candidate_of w h tip rate c).weight ≡ c.weight)
     kept c = coin_kept c c.height (place_in w.pending c.coin.txid)
 
-    is_fit : (c : Coin) → (c.value ≤ 2_100_000_000_000_000) × (165 ≤ c.weight) × (c.weight ≤ 400_000) → IsCandidate (candidate_of w h tip c)
+    priced : (c : Coin) (height place : Option ℕ) → (candidate_at w h tip rate c height place).price ≤ 2_100_000_000_000_000
+    unfolding price_at
+    priced c None None = omega arith
+    priced c None (Some i) = omega arith
+    priced c (Some height) place = omega arith
+
+    is_fit : (c : Coin) → (c.value ≤ 2_100_000_000_000_000) × (165 ≤ c.weight) × (c.weight ≤ 400_000) → IsCandidate (candidate_of w h tip rate c)
     is_fit c g =
         let k = kept c in
-        record { value = subst (λ v. v ≤ 2_100_000_000_000_000) (sym k.1) g.0; least_weight = subst (λ v. 165 ≤ v) (sym k.2) g.1; most_weight = subst (λ v. v ≤ 400_000) (sym k.2) g.2 }
+        record { value = subst (λ v. v ≤ 2_100_000_000_000_000) (sym k.1) g.0; price = priced c c.height (place_in w.pending c.coin.txid); least_weight = subst (λ v. 165 ≤ v) (sym k.2) g.1; most_weight = subst (λ v. v ≤ 400_000) (sym k.2) g.2 }
 
-    pub fit_coin : (m : Made) → Contains (made_of h) m → IsCandidate (candidate_of w h tip m.coin)
+    pub fit_coin : (m : Made) → Contains (made_of h) m → IsCandidate (candidate_of w h tip rate m.coin)
     fit_coin m there = is_fit m.coin (All-contains IsGood (made_of h) m (good w h rules book sound) there)
 
     -- what comes is fit, whichever coins are taken
-    pub fit_by : (q : Coin → Bool) → AreCandidates (map (candidate_of w h tip) (filter q (coins_of h)))
+    pub fit_by : (q : Coin → Bool) → AreCandidates (map (candidate_of w h tip rate) (filter q (coins_of h)))
     fit_by q = record {
-      each = All-map IsCandidate (candidate_of w h tip) (filter q (coins_of h)) (all_kept (λ c. IsCandidate (candidate_of w h tip c)) q (coins_of h)
-          (All-map (λ c. IsCandidate (candidate_of w h tip c)) (λ (m : Made). m.coin) (made_of h) (All-weaker IsGood (λ m. IsCandidate (candidate_of w h tip m.coin)) (λ m g. is_fit m.coin g) (made_of h) (good w h rules book sound))));
+      each = All-map IsCandidate (candidate_of w h tip rate) (filter q (coins_of h)) (all_kept (λ c. IsCandidate (candidate_of w h tip rate c)) q (coins_of h)
+          (All-map (λ c. IsCandidate (candidate_of w h tip rate c)) (λ (m : Made). m.coin) (made_of h) (All-weaker IsGood (λ m. IsCandidate (candidate_of w h tip rate m.coin)) (λ m g. is_fit m.coin g) (made_of h) (good w h rules book sound))));
       count = let a = filter_le q (coins_of h) in
-          let b = length-map (filter q (coins_of h)) (candidate_of w h tip) in
+          let b = length-map (filter q (coins_of h)) (candidate_of w h tip rate) in
           let d = length-map (made_of h) (λ (m : Made). m.coin) in
           let e = few h sound in omega arith;
       distinct = λ i j d lt in'.
-          let n = length-map (filter q (coins_of h)) (candidate_of w h tip) in
+          let n = length-map (filter q (coins_of h)) (candidate_of w h tip rate) in
           let p = AllPairs-filter (λ (a b : Coin). a.coin ≢ b.coin) q (coins_of h) coins_apart in
-          let at = λ (k : ℕ) (l : k < length (filter q (coins_of h))). ap (λ (c : Candidate). c.coin) (get_or_map (candidate_of w h tip) (filter q (coins_of h)) k d no_coin l) ∙ (kept (get_or (filter q (coins_of h)) k no_coin)).0 in
+          let at = λ (k : ℕ) (l : k < length (filter q (coins_of h))). ap (λ (c : Candidate). c.coin) (get_or_map (candidate_of w h tip rate) (filter q (coins_of h)) k d no_coin l) ∙ (kept (get_or (filter q (coins_of h)) k no_coin)).0 in
           λ same. p i j no_coin lt (omega arith) (sym (at i (omega arith)) ∙ same ∙ at j (omega arith));
     }
 
-    pub fit : AreCandidates (candidates_of w h tip)
+    pub fit : AreCandidates (candidates_of w h tip rate)
     unfolding candidates_of
     fit = fit_by (is_candidate w h tip)

@@ -17,7 +17,7 @@ use Rattle.coin_book.specs.Spends.{height_of}
 use Rattle.payment_states.specs.ByPlace.{parents_by, place_by}
 use Rattle.payment_states.specs.PendingView.{open_place, parents, no_tx}
 use Rattle.payment_states.proofs.Below.{get_or_map}
-use Rattle.payment_states.proofs.Positions.{position-map}
+use Rattle.known_fees.proofs.Positions.{position-map}
 
 to_list : {Y : Type 0} (o : Option Y) → cons_option o [] ≡ option_to_list o
 to_list None = refl

@@ -1,5 +1,6 @@
 pub mod AbandonedSteps
 pub mod AmongSteps
+pub mod AskedLaws
 pub mod BackSteps
 pub mod Below
 pub mod CauseSteps
@@ -22,7 +23,12 @@ pub mod OfferSteps
 pub mod Order
 pub mod ParentSteps
 pub mod Paths
-pub mod Positions
+pub mod PriceLaws
+pub mod PriceSteps
+pub mod PricedSteps
 pub mod ReachSteps
 pub mod SafeSteps
+pub mod SpanSteps
 pub mod StateSteps
+pub mod TellSteps
+pub mod WordSteps

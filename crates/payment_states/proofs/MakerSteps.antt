@@ -84,9 +84,9 @@ pub record IsOf (k : Coin) (c : Candidate) : Type 0 where
   pub point : c.coin ≡ k.coin
   pub output : output_of c ≡ output_at k
 
-pub at_height : (w : PlainWallet) (h : History) (tip : ℕ) (k : Coin) (height place : Option ℕ) → IsOf k (candidate_at w h tip k height place)
-at_height w h tip k None place = record { point = refl; output = refl }
-at_height w h tip k (Some height) place = record { point = refl; output = refl }
+pub at_height : (w : PlainWallet) (h : History) (tip rate : ℕ) (k : Coin) (height place : Option ℕ) → IsOf k (candidate_at w h tip rate k height place)
+at_height w h tip rate k None place = record { point = refl; output = refl }
+at_height w h tip rate k (Some height) place = record { point = refl; output = refl }
 
 makes : (m : Made) (k : Coin) (c : Candidate) → IsMade m → m.coin ≡ k → IsOf k c → Makes m.maker c
 makes m k c made own of = record {
@@ -120,9 +120,9 @@ module _ (w : PlainWallet) (h : History) (rules : IsWallet w) (book : IsBookOf w
           let own : f.coin ≡ m.coin = one_by_point (coins_of h) f.coin m.coin (coins_apart w h rules book sound) (coin_in h f is.1.1) (coin_in h m there) (sym point ∙ of.point) in
           record { maker = f.maker; parent = ap (λ (x : Option Made). option_map (λ (y : Made). y.maker) x) e; makes = makes f m.coin c is.1.0 own of }
 
-pub all_made : (w : PlainWallet) (h : History) (tip : ℕ) → IsWallet w → IsBookOf w h → fault_of h ≡ None → All (HasMaker h) (candidates_of w h tip)
+pub all_made : (w : PlainWallet) (h : History) (tip rate : ℕ) → IsWallet w → IsBookOf w h → fault_of h ≡ None → All (HasMaker h) (candidates_of w h tip rate)
 unfolding candidates_of
-all_made w h tip rules book sound =
-    All-map (HasMaker h) (candidate_of w h tip) (filter (is_candidate w h tip) (coins_of h)) (all_kept (λ (k : Coin). HasMaker h (candidate_of w h tip k)) (is_candidate w h tip) (coins_of h)
-    (All-map (λ (k : Coin). HasMaker h (candidate_of w h tip k)) (λ (m : Made). m.coin) (made_of h)
-    (All-weaker (Contains (made_of h)) (λ (m : Made). HasMaker h (candidate_of w h tip m.coin)) (λ m there. maker_found w h rules book sound m (candidate_of w h tip m.coin) there (at_height w h tip m.coin m.coin.height (place_in w.pending m.coin.coin.txid))) (made_of h) (All-contains_itself (made_of h)))))
+all_made w h tip rate rules book sound =
+    All-map (HasMaker h) (candidate_of w h tip rate) (filter (is_candidate w h tip) (coins_of h)) (all_kept (λ (k : Coin). HasMaker h (candidate_of w h tip rate k)) (is_candidate w h tip) (coins_of h)
+    (All-map (λ (k : Coin). HasMaker h (candidate_of w h tip rate k)) (λ (m : Made). m.coin) (made_of h)
+    (All-weaker (Contains (made_of h)) (λ (m : Made). HasMaker h (candidate_of w h tip rate m.coin)) (λ m there. maker_found w h rules book sound m (candidate_of w h tip rate m.coin) there (at_height w h tip rate m.coin m.coin.height (place_in w.pending m.coin.coin.txid))) (made_of h) (All-contains_itself (made_of h)))))

@@ -36,13 +36,16 @@ path_known g i k order lt r = by (last_step g r)
         let b : k < f.0 = parent_before g f.0 k order (omega arith) f.2 in
         inr (f.0, omega arith, f.1, f.2)
 
--- the start alone
-pub known_start : (g : List (List ℕ)) (i : ℕ) (marks : ℕ → Bool) → IsInOrder g → i < length g → ((j : ℕ) → marks j ≡ (i == j)) → AreMarks g i (i + 1) marks
-known_start g i marks order lt is j = (λ h. inl (eqb-true i j (sym (is j) ∙ h)), back)
+-- the start alone, seen from any place after it
+pub known_from : (g : List (List ℕ)) (i s : ℕ) (marks : ℕ → Bool) → IsInOrder g → i < length g → i < s → ((j : ℕ) → marks j ≡ (i == j)) → AreMarks g i s marks
+known_from g i s marks order lt after is j = (λ h. inl (eqb-true i j (sym (is j) ∙ h)), back)
   where
-    back : Known g i (i + 1) j → marks j ≡ true
+    back : Known g i s j → marks j ≡ true
     back (inl e) = is j ∙ eq-eqb i j e
     back (inr f) = absurd (let le : f.0 ≤ i = no_later g order f.2 lt in let b = f.1 in omega arith)
+
+pub known_start : (g : List (List ℕ)) (i : ℕ) (marks : ℕ → Bool) → IsInOrder g → i < length g → ((j : ℕ) → marks j ≡ (i == j)) → AreMarks g i (i + 1) marks
+known_start g i marks order lt is = known_from g i (i + 1) marks order lt (omega arith) is
 
 -- one place more
 pub known_step : (g : List (List ℕ)) (i s k : ℕ) (old new : ℕ → Bool) → IsInOrder g → i < length g → s ≡ k + 1 → AreMarks g i s old

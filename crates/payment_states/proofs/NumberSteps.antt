@@ -71,13 +71,16 @@ same_rising (x ∷ xs) (y ∷ ys) a b there back =
 filter_from : (p : ℕ → Bool) (xs : List ℕ) (x : ℕ) → Contains (filter p xs) x → Contains xs x
 filter_from p xs x c = All-contains (Contains xs) (filter p xs) x (All-filter p (Contains xs) xs (All-contains_itself xs)) c
 
--- so many pass as a list has that has each of them once
-counted : (p : ℕ → Bool) (xs places : List ℕ) → Rises xs → Rises places → ((j : ℕ) → Contains places j ↔ (Contains xs j × (p j ≡ true))) → count_by p xs ≡ length places
-counted p xs places a b is =
-    sym (length-filter p xs)
-    ∙ ap (λ (l : List ℕ). length l) (same_rising (filter p xs) places (AllPairs-filter (λ (a b : ℕ). a < b) p xs a) b
+-- those that pass are a list that has each of them once
+pub passing : (p : ℕ → Bool) (xs places : List ℕ) → Rises xs → Rises places → ((j : ℕ) → Contains places j ↔ (Contains xs j × (p j ≡ true))) → filter p xs ≡ places
+passing p xs places a b is =
+    same_rising (filter p xs) places (AllPairs-filter (λ (a b : ℕ). a < b) p xs a) b
     (λ j c. (is j).1 (filter_from p xs j c, filter_only p xs j c))
-    (λ j c. let h = (is j).0 c in filter_has p xs j h.0 h.1))
+    (λ j c. let h = (is j).0 c in filter_has p xs j h.0 h.1)
+
+-- and so many pass
+counted : (p : ℕ → Bool) (xs places : List ℕ) → Rises xs → Rises places → ((j : ℕ) → Contains places j ↔ (Contains xs j × (p j ≡ true))) → count_by p xs ≡ length places
+counted p xs places a b is = sym (length-filter p xs) ∙ ap (λ (l : List ℕ). length l) (passing p xs places a b is)
 
 -- ---- which are Pending
 
@@ -94,6 +97,13 @@ module _ (w : PendingView) (apart : AreDistinct w.pending) (rule : ParentsComeFi
 
   pub waits_back : (j : ℕ) → j < length w.pending → HasCause w j state.Pending → is_pending w j ≡ true
   waits_back j lt h = ap is_pending_state (is_cause w apart rule j state.Pending lt h)
+
+  pub pending_kin : (i : ℕ) (places : List ℕ) → i < length w.pending → Rises places → ((j : ℕ) → Contains places j ↔ (IsKin w i j × HasCause w j state.Pending)) → filter (is_pending w) (kin_of w i) ≡ places
+  pending_kin i places lt rises is =
+      passing (is_pending w) (kin_of w i) places (kin_rises w apart rule i) rises (λ j. (
+        (λ c. let h = (is j).0 c in (kin_has w apart rule i j lt h.0, waits_back j (kin_stands w apart rule h.0 lt) h.1)),
+        (λ h. let k = kin_only w apart rule i j lt h.0 in (is j).1 (k, waits j (kin_stands w apart rule k lt) h.1)),
+      ))
 
   pub ancestors_are : (i : ℕ) (places : List ℕ) → i < length w.pending → Rises places → ((j : ℕ) → Contains places j ↔ (IsKin w i j × HasCause w j state.Pending)) → ancestors w i ≡ min 4294967295 (length places)
   ancestors_are i places lt rises is =

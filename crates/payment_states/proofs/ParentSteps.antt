@@ -19,7 +19,7 @@ use Rattle.payment_states.proofs.FitSteps.{some_find}
 use Rattle.payment_states.proofs.LookSteps.{one_place}
 use Rattle.payment_states.proofs.Order.{found_place}
 use Rattle.payment_states.proofs.Paths.{any_has}
-use Rattle.payment_states.proofs.Positions.{find_by_place}
+use Rattle.known_fees.proofs.Positions.{find_by_place}
 
 -- what is given comes of some element, and what an element gives is there
 abandoned_by : {X Y : Type 0} (f : X → Option Y) (xs : List X) (y : Y) → Contains (filter_map f xs) y → (x : X) × Contains xs x × (f x ≡ Some y)
@@ -37,7 +37,7 @@ abandoned_by {X = X} {Y = Y} f (x ∷ xs) y c = by (f x) refl (λ d. abandoned_b
     by None e r c = later (r c)
     by (Some z) e r c = first z c.0 e c.1 c.2 r
 
-gives : {X Y : Type 0} (f : X → Option Y) (xs : List X) (x : X) (y : Y) (k : ℕ) → k < length xs → get_or xs k x ≡ x → f x ≡ Some y → Contains (filter_map f xs) y
+pub gives : {X Y : Type 0} (f : X → Option Y) (xs : List X) (x : X) (y : Y) (k : ℕ) → k < length xs → get_or xs k x ≡ x → f x ≡ Some y → Contains (filter_map f xs) y
 gives f [] x y k lt at e = absurd (omega arith)
 gives {Y = Y} f (z ∷ xs) x y zero lt at e = subst (λ (o : Option Y). Contains (cons_option o (filter_map f xs)) y) (sym (ap f at ∙ e)) (0, omega arith, refl)
 gives {Y = Y} f (z ∷ xs) x y (suc k) lt at e = by (f z) (gives f xs x y k (omega arith) at e)
@@ -46,7 +46,7 @@ gives {Y = Y} f (z ∷ xs) x y (suc k) lt at e = by (f z) (gives f xs x y k (ome
     by None c = c
     by (Some v) c = (suc c.0, (let l = c.1 in omega arith), c.2)
 
-open_is : (chain : List Confirmed) (pending : List Transaction) (txid : List ℕ) (p : ℕ) → open_place chain pending txid ≡ Some p → (height_of chain txid ≡ None) × (place_in pending txid ≡ Some p)
+pub open_is : (chain : List Confirmed) (pending : List Transaction) (txid : List ℕ) (p : ℕ) → open_place chain pending txid ≡ Some p → (height_of chain txid ≡ None) × (place_in pending txid ≡ Some p)
 unfolding open_place
 open_is chain pending txid p e = by (height_of chain txid) refl e
   where
@@ -54,7 +54,7 @@ open_is chain pending txid p e = by (height_of chain txid) refl e
     by None h e = (h, e)
     by (Some x) h e = absurd (none-some p e)
 
-is_open_place : (chain : List Confirmed) (pending : List Transaction) (txid : List ℕ) (p : ℕ) → height_of chain txid ≡ None → place_in pending txid ≡ Some p → open_place chain pending txid ≡ Some p
+pub is_open_place : (chain : List Confirmed) (pending : List Transaction) (txid : List ℕ) (p : ℕ) → height_of chain txid ≡ None → place_in pending txid ≡ Some p → open_place chain pending txid ≡ Some p
 unfolding open_place
 is_open_place chain pending txid p h e = ap (λ (r : Option ℕ). cond (is_some r) None (place_in pending txid)) h ∙ e
 

@@ -39,8 +39,8 @@ abbrev pub first_conflict : List Confirmed → List TxIn → Option ℕ
 first_conflict chain inputs = least_by (λ (i : TxIn). first_place chain i.prev) inputs
 
 -- the entries tell the txid at this place of the chain
-abbrev pub Tells : List Confirmed → List (ℕ × List ℕ) → ℕ → Type 0
-Tells chain names place = lookup (nat_eq place) names ≡ txid_in chain place
+abbrev pub FindsTxid : List Confirmed → List (ℕ × List ℕ) → ℕ → Type 0
+FindsTxid chain names place = lookup (nat_eq place) names ≡ txid_in chain place
 
 -- the place, where the test passes
 abbrev pub place_if : Bool → ℕ → Option ℕ
@@ -67,9 +67,15 @@ abbrev pub number_at : List ℕ → Option ℕ → ℕ
 number_at numbers place = option_map_or (λ i. slice_index_or numbers i 0) place 0
 
 -- how a coin stands
-abbrev pub standing_by : ℕ → List Bool → List ℕ → List ℕ → Option ℕ → Option ℕ → Standing
-standing_by tip safe ancestors descendants (Some height) place = record { depth = tip + 1 - height; safe = true; ancestors = 0; descendants = 0 }
-standing_by tip safe ancestors descendants None place = record { depth = 0; safe = flag_at safe place; ancestors = number_at ancestors place; descendants = number_at descendants place }
+abbrev pub standing_by : ℕ → List Bool → List ℕ → List ℕ → List ℕ → Option ℕ → Option ℕ → Standing
+standing_by tip safe ancestors descendants prices (Some height) place = record { depth = tip + 1 - height; safe = true; ancestors = 0; descendants = 0; price = 0 }
+standing_by tip safe ancestors descendants prices None place = record {
+  depth = 0;
+  safe = flag_at safe place;
+  ancestors = number_at ancestors place;
+  descendants = number_at descendants place;
+  price = number_at prices place;
+}
 
 -- a coin that stands so
 abbrev pub candidate_by : History → Coin → Standing → Candidate
@@ -83,6 +89,7 @@ candidate_by h c s = record {
   safe = s.safe;
   ancestors = s.ancestors;
   descendants = s.descendants;
+  price = s.price;
 }
 
 -- the place of a txid among payments
@@ -94,6 +101,6 @@ abbrev pub chosen_by : History → ℕ → Bool → Bool → Bool → Coin → B
 chosen_by h tip pending claimed locked c = (is_some c.height || pending) && (not (is_spent h c.coin) && (not claimed && (not locked && is_deep tip c)))
 
 -- the coin, if it may be spent
-abbrev pub chosen_at : History → ℕ → List Bool → List Bool → List ℕ → List ℕ → Bool → Bool → Coin → Option ℕ → Option Candidate
-chosen_at h tip pending safe ancestors descendants claimed locked c place =
-    if chosen_by h tip (flag_at pending place) claimed locked c then Some (candidate_by h c (standing_by tip safe ancestors descendants c.height place)) else None
+abbrev pub chosen_at : History → ℕ → List Bool → List Bool → List ℕ → List ℕ → List ℕ → Bool → Bool → Coin → Option ℕ → Option Candidate
+chosen_at h tip pending safe ancestors descendants prices claimed locked c place =
+    if chosen_by h tip (flag_at pending place) claimed locked c then Some (candidate_by h c (standing_by tip safe ancestors descendants prices c.height place)) else None

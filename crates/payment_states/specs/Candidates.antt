@@ -1,5 +1,5 @@
 -- Which coins may be spent, and what is known of each.
-use Rattle.std.specs.Prelude.{ℕ, ◌==◌, ◌+◌, ◌-◌, ◌&&◌, ◌||◌, not, Bool, true, false, List, map, filter, length, min, count_by, nat_le, is_some, Option, Some, None}
+use Rattle.std.specs.Prelude.{ℕ, ◌==◌, ◌+◌, ◌-◌, ◌&&◌, ◌||◌, not, Bool, true, false, List, map, filter, length, min, count_by, sum_by, nat_le, is_some, Option, Some, None}
 use Rattle.std.specs.List.{list_any, list_all}
 use Rattle.std.specs.Option.{option_map_or}
 use Rattle.fund_base.specs.Outpoints.{same_outpoint}
@@ -13,6 +13,7 @@ use Rattle.coin_book.specs.Coins.{coins_of, parent_of}
 use Rattle.coin_book.specs.History.{History}
 use Rattle.coin_book.specs.Spends.{has_input, spends_of}
 use Rattle.coin_book.specs.declared.coin.Coin.{Coin}
+use Rattle.known_fees.specs.Missing.{missing_of}
 use Rattle.payment_states.specs.Graph.{within, below, kin}
 use Rattle.payment_states.specs.Payments.{state_at}
 use Rattle.payment_states.specs.PendingView.{PendingView, view_of, tx_at, parents, graph, kin_of, place_in}
@@ -68,6 +69,21 @@ ancestors w i = min most (count_by (is_pending w) (kin_of w i))
 abbrev pub descendants : PendingView → ℕ → ℕ
 descendants w i = min most (count_by (λ j. is_pending w j && within (graph w) (length (graph w)) j i) (below (length w.pending)))
 
+-- What is missing at the rate of what the transaction at this place of the pending list pays, in satoshi; 0 where that isn't
+-- known. It is known where each input spends a coin of the book, or an output of a transaction of the pending list, whatever
+-- the state of that one.
+abbrev pub share_at : PlainWallet → History → (rate : ℕ) → ℕ → ℕ
+share_at w h rate j = missing_of rate h w.pending (tx_at (view_of w h) j)
+
+-- The price of what the transaction at this place makes, in satoshi: what raises each Pending one among it and its ancestors
+-- to the rate, each by itself and each once; at most 21,000,000 bitcoin.
+unfoldable pub price_at : PlainWallet → History → (rate : ℕ) → ℕ → ℕ
+price_at w h rate i = min 2_100_000_000_000_000 (sum_by (share_at w h rate) (filter (is_pending (view_of w h)) (kin_of (view_of w h) i)))
+
+-- the prices at the places of the pending list
+abbrev pub prices_in : PlainWallet → History → (rate : ℕ) → List ℕ
+prices_in w h rate = map (price_at w h rate) (below (length w.pending))
+
 -- how many blocks deep a transaction of this height is; 0 if it has none
 abbrev pub depth : ℕ → Option ℕ → ℕ
 depth tip None = 0
@@ -77,9 +93,10 @@ depth tip (Some height) = tip + 1 - height
 abbrev pub comes_from_mine : History → Coin → Bool
 comes_from_mine h c = option_map_or (is_mine (coins_of h)) (parent_of h c.coin) false
 
--- what is known of a coin whose transaction has this place in the pending list, where it waits for a block
-abbrev pub candidate_at : PlainWallet → History → ℕ → Coin → Option ℕ → Option ℕ → Candidate
-candidate_at w h tip c (Some height) place = record {
+-- What is known at a rate of a coin whose transaction has this place in the pending list, where it waits for a block. The price
+-- of a confirmed one is 0.
+abbrev pub candidate_at : PlainWallet → History → (tip rate : ℕ) → Coin → Option ℕ → Option ℕ → Candidate
+candidate_at w h tip rate c (Some height) place = record {
   coin = c.coin;
   value = c.value;
   weight = c.weight;
@@ -89,8 +106,9 @@ candidate_at w h tip c (Some height) place = record {
   safe = true;
   ancestors = 0;
   descendants = 0;
+  price = 0;
 }
-candidate_at w h tip c None place = record {
+candidate_at w h tip rate c None place = record {
   coin = c.coin;
   value = c.value;
   weight = c.weight;
@@ -100,10 +118,11 @@ candidate_at w h tip c None place = record {
   safe = option_map_or (is_safe (view_of w h) (coins_of h)) place false;
   ancestors = option_map_or (ancestors (view_of w h)) place 0;
   descendants = option_map_or (descendants (view_of w h)) place 0;
+  price = option_map_or (price_at w h rate) place 0;
 }
 
-abbrev pub candidate_of : PlainWallet → History → ℕ → Coin → Candidate
-candidate_of w h tip c = candidate_at w h tip c c.height (place_in w.pending c.coin.txid)
+abbrev pub candidate_of : PlainWallet → History → (tip rate : ℕ) → Coin → Candidate
+candidate_of w h tip rate c = candidate_at w h tip rate c c.height (place_in w.pending c.coin.txid)
 
 -- the coin's transaction is Confirmed or Pending
 abbrev pub is_live : PlainWallet → History → Coin → Bool
@@ -130,6 +149,6 @@ unfoldable pub is_candidate : PlainWallet → History → ℕ → Coin → Bool
 is_candidate w h tip c =
     is_live w h c && (not (is_spent h c.coin) && (not (is_claimed (view_of w h) c.coin) && (not (is_locked w c.coin) && is_deep tip c)))
 
--- the coins that may be spent in order of creation
-unfoldable pub candidates_of : PlainWallet → History → ℕ → List Candidate
-candidates_of w h tip = map (candidate_of w h tip) (filter (is_candidate w h tip) (coins_of h))
+-- the coins that may be spent in order of creation, with what is known of each at a rate
+unfoldable pub candidates_of : PlainWallet → History → (tip rate : ℕ) → List Candidate
+candidates_of w h tip rate = map (candidate_of w h tip rate) (filter (is_candidate w h tip) (coins_of h))

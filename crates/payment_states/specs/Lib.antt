@@ -9,3 +9,5 @@ pub mod Makers
 pub mod Offered
 pub mod Payments
 pub mod PendingView
+pub mod Prices
+pub mod Words

@@ -1,21 +1,27 @@
 //! Which pending transactions are confirmed, abandoned or still alive.
 
-ghost use Rattle.std.specs.Prelude.{◌≡◌, ◌≢◌, ◌&&◌, [], List, ℕ, not, false, None, IfOk, map, vec_len, length, is_none, is_some, bytes_eq, slice_index_or};
+ghost use Rattle.std.specs.Prelude.{◌≡◌, ◌≢◌, ◌&&◌, [], List, ℕ, All, not, false, None, IfOk, map, vec_len, length, is_none, is_some, bytes_eq, slice_index_or};
 ghost use Rattle.std.specs.List.{AllPairs, list_any};
 ghost use Rattle.indexmap.specs.IndexSet.{contains};
+ghost use Rattle.coin_book.specs.Asked.{IsAskedTxid};
 ghost use Rattle.coin_book.specs.Spends.{height_of};
 ghost use Rattle.payment_states.specs.Graph.{IsInOrder, below, kin};
 ghost use Rattle.payment_states.specs.ByPlace.{place_if};
 ghost use Rattle.payment_states.specs.PendingView.{is_listed};
 
 use crate::ancestry::{Parents, least_of_kin};
-use coin_book::Book;
+use coin_book::Known;
 use fund_base::{Memory, Txid};
 use indexmap::IndexSet;
 use std::alloc::Global;
 
 /// The height of each txid in the chain, where it has one.
-pub fn heights_of(alloc: Global, book: &Book, txids: &[Txid]) -> Result<Vec<Option<u32>>, Memory>
+pub fn heights_of(
+    alloc: Global,
+    book: &Known<'_>,
+    txids: &[Txid],
+) -> Result<Vec<Option<u32>>, Memory>
+    requires { All (IsAskedTxid book.now) txids.now }
     ensures heights { IfOk result (λ v. v.items ≡ map (height_of book.now.confirmed) txids.now) }
     ensures len { IfOk result (λ v. vec_len v ≡ length txids.now) }
 {

@@ -5,8 +5,8 @@ ghost use Rattle.std.specs.Option.{option_copied};
 ghost use Rattle.coin_book.specs.Coins.{parent_of};
 ghost use Rattle.payment_states.specs.ByPlace.{candidate_by, standing_by};
 
-use crate::own_coins::{Standing, flag_at, is_from_mine, number_at};
-use coin_book::{Book, Coin};
+use crate::own_coins::{Standing, amount_at, flag_at, is_from_mine, number_at};
+use coin_book::{Coin, Known};
 use coin_candidates::Candidate;
 use fund_base::Memory;
 use std::alloc::Global;
@@ -18,11 +18,12 @@ pub fn standing(
     safe: &[bool],
     ancestors: &[u32],
     descendants: &[u32],
+    prices: &[u64],
     height: Option<u32>,
     place: Option<usize>,
 ) -> Standing
     requires { tip < 4294967295 }
-    ensures { result ≡ standing_by tip safe.now ancestors.now descendants.now height place }
+    ensures { result ≡ standing_by tip safe.now ancestors.now descendants.now prices.now height place }
 {
     match height {
         Some(height) => Standing {
@@ -30,12 +31,14 @@ pub fn standing(
             safe: true,
             ancestors: 0,
             descendants: 0,
+            price: 0,
         },
         None => Standing {
             depth: 0,
             safe: flag_at(safe, place),
             ancestors: number_at(ancestors, place),
             descendants: number_at(descendants, place),
+            price: amount_at(prices, place),
         },
     }
 }
@@ -43,7 +46,7 @@ pub fn standing(
 /// The coin, with how it stands, by its transaction. The error is out of memory.
 pub fn described(
     alloc: Global,
-    book: &Book,
+    book: &Known<'_>,
     coin: &Coin,
     parent: Option<&Tx>,
     standing: Standing,
@@ -63,5 +66,6 @@ pub fn described(
         safe: standing.safe,
         ancestors: standing.ancestors,
         descendants: standing.descendants,
+        price: standing.price,
     })
 }

@@ -1,6 +1,6 @@
 //! Outpoints that are spoken for, and which pending transactions count.
 
-ghost use Rattle.std.specs.Prelude.{◌≡◌, ◌&&◌, ◌||◌, [], ℕ, List, Bool, false, not, IfOk, OnOk, length, map, vec_len, bytes_eq, filter, slice_index_or, nat_lt};
+ghost use Rattle.std.specs.Prelude.{◌≡◌, ◌&&◌, ◌||◌, [], ℕ, List, false, not, IfOk, OnOk, length, map, vec_len, bytes_eq, filter, slice_index_or};
 ghost use Rattle.std.specs.List.{list_any};
 ghost use Rattle.indexmap.specs.IndexSet.{contains};
 ghost use Rattle.fund_base.specs.Outpoints.{same_outpoint};
@@ -17,7 +17,7 @@ use crate::abandoned::place_if;
 use crate::ancestry::Parents;
 use crate::own_coins::{flag_at, is_mine};
 use crate::state::{Payment, State};
-use coin_book::Book;
+use coin_book::Known;
 use fund_base::{Memory, OutPoint, Txid};
 use indexmap::IndexSet;
 use std::alloc::Global;
@@ -160,7 +160,7 @@ pub fn replacers_of(alloc: Global, payments: &[Payment]) -> Result<IndexSet<Txid
 /// A number at each place whose transaction isn't mine, or replaces another.
 pub fn doubts_of(
     alloc: Global,
-    book: &Book,
+    book: &Known<'_>,
     txs: &[Tx],
     payments: &[Payment],
     replacers: &IndexSet<Txid>,

@@ -8,7 +8,7 @@ ghost use Rattle.std.specs.List.{list_all};
 ghost use Rattle.std.specs.Option.{option_copied, option_map_or};
 ghost use Rattle.tx_codec.specs.declared.tx.TxIn.{TxIn};
 
-use coin_book::Book;
+use coin_book::Known;
 use tx_codec::{Tx, TxIn};
 
 /// How deep a coin is, and how safe.
@@ -22,6 +22,8 @@ pub struct Standing {
     pub ancestors: u32,
     /// The Pending descendants of its transaction, itself included; 0 where it is confirmed.
     pub descendants: u32,
+    /// What raises its transaction and the Pending ancestors of it to a rate, in satoshi; 0 where it is confirmed.
+    pub price: u64,
 }
 
 /// The flag at a place, if there is one.
@@ -56,8 +58,24 @@ pub fn number_at(numbers: &[u32], place: Option<usize>) -> u32
     }
 }
 
+/// The amount at a place, if there is one.
+pub fn amount_at(amounts: &[u64], place: Option<usize>) -> u64
+    ensures { result ≡ number_at amounts.now place }
+{
+    match place {
+        Some(place) => {
+            if place < amounts.len() {
+                amounts[place]
+            } else {
+                0
+            }
+        }
+        None => 0,
+    }
+}
+
 /// Whether every input spends a coin of the book.
-pub fn is_mine(book: &Book, inputs: &[TxIn]) -> bool
+pub fn is_mine(book: &Known<'_>, inputs: &[TxIn]) -> bool
     ensures { result ≡ list_all (λ (i : TxIn). is_coin (coins_of book.now) i.prev) inputs.now }
 {
     for input in inputs {
@@ -69,7 +87,7 @@ pub fn is_mine(book: &Book, inputs: &[TxIn]) -> bool
 }
 
 /// Whether every input of a coin's transaction spends a coin of the book. False where there is no transaction.
-pub fn is_from_mine(book: &Book, parent: Option<&Tx>) -> bool
+pub fn is_from_mine(book: &Known<'_>, parent: Option<&Tx>) -> bool
     ensures { result ≡ option_map_or (is_mine (coins_of book.now)) (option_copied parent.entry) false }
 {
     match parent {

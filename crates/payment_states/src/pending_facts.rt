@@ -1,6 +1,6 @@
 //! What is known of the pending list, before its coins are looked at.
 
-ghost use Rattle.std.specs.Prelude.{◌≡◌, ◌<◌, ℕ, IfOk, true, false, not, length, map, vec_len, slice_index_or};
+ghost use Rattle.std.specs.Prelude.{◌≡◌, ◌<◌, ℕ, IfOk, true, not, length, map, vec_len, slice_index_or};
 ghost use Rattle.coin_book.specs.Coins.{coins_of};
 ghost use Rattle.payment_states.specs.BookOf.{IsBookOf};
 ghost use Rattle.payment_states.specs.Candidates.{ancestors, descendants, is_own, is_pending, is_safe};
@@ -12,10 +12,10 @@ ghost use Rattle.payment_states.specs.PendingView.{graph, view_of};
 use crate::abandoned::which_not;
 use crate::ancestry::{Parents, least_of_kin};
 use crate::claims::{doubts_of, kept_graph, pending_of, replacers_of};
-use crate::counts::numbers;
 use crate::graph::graph_of;
+use crate::spans::numbers;
 use crate::states::States;
-use coin_book::Book;
+use coin_book::Known;
 use fund_base::Memory;
 use std::alloc::Global;
 use wallet_text::Wallet;
@@ -48,7 +48,7 @@ impl Drop for Facts {
 /// A number at each place of the pending list whose transaction isn't mine, or replaces another.
 fn own_doubts(
     alloc: Global,
-    book: &Book,
+    book: &Known<'_>,
     wallet: &Wallet,
     states: &States,
 ) -> Result<Vec<Option<u64>>, Memory>
@@ -63,7 +63,7 @@ fn own_doubts(
 /// Whether each transaction of the pending list is safe.
 fn safe_of(
     alloc: Global,
-    book: &Book,
+    book: &Known<'_>,
     wallet: &Wallet,
     states: &States,
     parents: &[Parents],
@@ -87,10 +87,11 @@ fn safe_of(
 /// What is known of the pending list. The error is out of memory.
 pub fn facts_of(
     alloc: Global,
-    book: &Book,
+    book: &Known<'_>,
     wallet: &Wallet,
     states: &States,
 ) -> Result<Facts, Memory>
+    requires book { IsBookOf wallet.now book.now }
     requires states { states.now ≡ payments_of wallet.now book.now }
     ensures pending { IfOk result (λ f. f.pending.items ≡ map (is_pending (view_of wallet.now book.now)) (below (length wallet.now.pending))) }
     ensures safe { IfOk result (λ f. f.safe.items ≡ map (is_safe (view_of wallet.now book.now) (coins_of book.now)) (below (length wallet.now.pending))) }

@@ -2,6 +2,7 @@
 
 ghost use Rattle.std.specs.Prelude.{◌≡◌, IfOk, length, map, option_and_then, option_map, slice_get};
 ghost use Rattle.tx_codec.specs.Txid.{txid_of};
+ghost use Rattle.coin_book.specs.Asked.{AreWaiting};
 ghost use Rattle.wallet_text.specs.WalletRules.{AreDistinct, ParentsComeFirst};
 ghost use Rattle.payment_states.specs.BookOf.{IsBookOf};
 ghost use Rattle.payment_states.specs.Payments.{first_of, payments_in, payments_of, state_of};
@@ -17,7 +18,7 @@ use crate::conflicts::conflicts_of;
 use crate::graph::{graph_of, txids_of};
 use crate::replaced::{places_with, replacers};
 use crate::state::{Payment, State};
-use coin_book::Book;
+use coin_book::{Book, Known};
 use fund_base::{Memory, Txid};
 use indexmap::IndexSet;
 use std::alloc::Global;
@@ -171,7 +172,7 @@ fn payments(
 /// These transactions, each with its state, by their parents.
 fn payments_by(
     alloc: Global,
-    book: &Book,
+    book: &Known<'_>,
     parents: &[Parents],
     pending: &[Tx],
     abandoned: &[Txid],
@@ -180,6 +181,7 @@ fn payments_by(
     requires order { IsInOrder parents.now }
     requires graph { parents.now ≡ graph (view_by book.now.confirmed pending.now abandoned.now) }
     requires txids { txids.now ≡ map txid_of pending.now }
+    requires waiting { AreWaiting book.now pending.now }
     ensures { IfOk result (λ v. v.items ≡ payments_in (view_by book.now.confirmed pending.now abandoned.now)) }
 {
     let heights = heights_of(alloc, book, txids)?;
@@ -207,7 +209,7 @@ fn payments_by(
 /// These transactions, each with its state.
 fn payments_of(
     alloc: Global,
-    book: &Book,
+    book: &Known<'_>,
     pending: &[Tx],
     abandoned: &[Txid],
     set: &IndexSet<Txid>,
@@ -216,6 +218,7 @@ fn payments_of(
     requires parents { ParentsComeFirst pending.now }
     requires set { set.now.keys ≡ map txid_of pending.now }
     requires txids { txids.now ≡ map txid_of pending.now }
+    requires waiting { AreWaiting book.now pending.now }
     ensures { IfOk result (λ v. v.items ≡ payments_in (view_by book.now.confirmed pending.now abandoned.now)) }
 {
     let parents = graph_of(alloc, book, set, pending)?;
@@ -223,15 +226,17 @@ fn payments_of(
     Ok(list)
 }
 
-/// The state of each of these transactions, as if they were the pending list. The error is out of memory.
+/// The state of each of these transactions, which are among those that wait, as if they were the pending list. The error is
+/// out of memory.
 pub fn states_of(
     alloc: Global,
-    book: &Book,
+    book: &Known<'_>,
     pending: &[Tx],
     abandoned: &[Txid],
 ) -> Result<States, Memory>
     requires distinct { AreDistinct pending.now }
     requires parents { ParentsComeFirst pending.now }
+    requires waiting { AreWaiting book.now pending.now }
     ensures { IfOk result (λ s. s ≡ payments_in (view_by book.now.confirmed pending.now abandoned.now)) }
 {
     let names = txids_of(alloc, pending)?;
@@ -240,11 +245,20 @@ pub fn states_of(
     Ok(States { payments, txids })
 }
 
-/// The state of each transaction of the wallet's pending list, in order.
-pub fn all_states(alloc: Global, book: &Book, wallet: &Wallet) -> Result<States, Memory>
+/// The state of each transaction of the wallet's pending list, in order, by a book that is lent.
+pub fn known_states(alloc: Global, book: &Known<'_>, wallet: &Wallet) -> Result<States, Memory>
     requires { IsBookOf wallet.now book.now }
     ensures { IfOk result (λ s. s ≡ payments_of wallet.now book.now) }
 {
     let states = states_of(alloc, book, &wallet.pending, &wallet.abandoned)?;
     Ok(states)
+}
+
+/// The state of each transaction of the wallet's pending list, in order.
+pub fn all_states(alloc: Global, book: &Book, wallet: &Wallet) -> Result<States, Memory>
+    requires { IsBookOf wallet.now book.now }
+    ensures { IfOk result (λ s. s ≡ payments_of wallet.now book.now) }
+{
+    let known = book.known();
+    known_states(alloc, &known, wallet)
 }

@@ -10,7 +10,7 @@ use Rattle.coin_book.proofs.adding.ledger_behind.Goals as goal
 pub loop-index-init : goal.loop-index-init
 unfolding fault_behind
 loop-index-init c = λ before under at. record {
-  holds = none_behind (weigher c.args.weights.now.entries) before c.new-ledger.result c.new-ledger.ensures.coins c.new-ledger.ensures.spends c.new-ledger.ensures.heights;
+  holds = none_behind c.args.watched.now (weigher c.args.weights.now.entries) before c.new-ledger.result c.new-ledger.ensures.coins c.new-ledger.ensures.spends c.new-ledger.ensures.heights;
   fresh = refl;
 }
 
@@ -24,7 +24,7 @@ loop-index-preserved c = λ before under at.
     let lt = c.loop-index-test.true in
     let here = let p = place_of f before c.args.txs.now c.loop-index.index (omega arith) in ap (λ n. n + c.loop-index.index) at ∙ p in
     record {
-      holds = subst (λ (l : List Confirmed). HoldsChain weigh before l c.add.new.self) (sym next) (c.in-Ok.ensures.holds before front under inv.holds here);
+      holds = subst (λ (l : List Confirmed). HoldsChain c.args.watched.now weigh before l c.add.new.self) (sym next) (c.in-Ok.ensures.holds before front under inv.holds here);
       fresh = ap (λ (l : List Confirmed). fault_behind (points_in weigh before) (points_in weigh l)) next ∙ fault_on weigh (points_in weigh before) front (f c.index-txs-index.result) None inv.fresh (c.in-Ok.ensures.exact before front under inv.holds);
     }
 
@@ -45,7 +45,7 @@ returns-in-Err-clause-exact c = λ before under at other.
 pub returns-clause-holds : goal.returns-clause-holds
 returns-clause-holds c = λ before under at.
     let end = c.loop-index-test.false in
-    ap_all (confirmed_at c.args.height) c.args.txs.now c.loop-index.index end (λ (l : List Confirmed). HoldsChain (weigher c.args.weights.now.entries) before l c.loop-index.ledger) (c.loop-index.invariant before under at).holds
+    ap_all (confirmed_at c.args.height) c.args.txs.now c.loop-index.index end (λ (l : List Confirmed). HoldsChain c.args.watched.now (weigher c.args.weights.now.entries) before l c.loop-index.ledger) (c.loop-index.invariant before under at).holds
 
 pub returns-clause-exact : goal.returns-clause-exact
 returns-clause-exact c = λ before under at.

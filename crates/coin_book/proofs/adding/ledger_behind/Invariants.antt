@@ -5,7 +5,7 @@ use Rattle.coin_book.specs.Invariant.{HoldsChain, points_in, weigher}
 use Rattle.coin_book.proofs.adding.ledger_behind.Given as goal
 
 abbrev pub invariant-loop-index : goal.invariant-loop-index
-invariant-loop-index l = (before : List Confirmed) → HoldsChain (weigher l.weights.entries) [] before l.base → l.fn.first ≡ length before → record {
-  holds : HoldsChain (weigher l.weights.entries) before (map (confirmed_at l.height) (take l.index l.txs)) l.ledger;
+invariant-loop-index l = (before : List Confirmed) → HoldsChain l.watched (weigher l.weights.entries) [] before l.base → l.fn.first ≡ length before → record {
+  holds : HoldsChain l.watched (weigher l.weights.entries) before (map (confirmed_at l.height) (take l.index l.txs)) l.ledger;
   fresh : fault_behind (points_in (weigher l.weights.entries) before) (points_in (weigher l.weights.entries) (map (confirmed_at l.height) (take l.index l.txs))) ≡ None;
 }

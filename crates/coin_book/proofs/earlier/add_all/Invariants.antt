@@ -6,6 +6,6 @@ use Rattle.coin_book.proofs.earlier.add_all.Given as goal
 
 abbrev pub invariant-loop-index : goal.invariant-loop-index
 invariant-loop-index l = record {
-  holds : HoldsChain (weigher l.weights.entries) [] (map confirmed_before (take l.index l.earlier)) l.ledger;
+  holds : HoldsChain l.watched (weigher l.weights.entries) [] (map confirmed_before (take l.index l.earlier)) l.ledger;
   fresh : fault_behind [] (points_in (weigher l.weights.entries) (map confirmed_before (take l.index l.earlier))) ≡ None;
 }

@@ -8,7 +8,7 @@ use Rattle.fee_bump.proofs.FitLaws.{added_by}
 use Rattle.fee_bump.proofs.bump.may_be_added.Goals as goal
 
 pub returns : goal.returns
-returns c =
+returns c = λ rate.
     c.in_ok-candidates.ensures
     ∙ (λ k. filter (λ (x : Candidate). not (list_any (same_outpoint x.coin) c.args.points.now.keys) && not (list_any (bytes_eq x.coin.txid) (c.requires.gone k))) (c.in_ok-coins.ensures.exact k))
-    ∙ added_by c.args.wallet.now c.args.book.now c.args.tip (subst IsWallet c.wallet.view_is c.wallet.invariant) c.requires.book c.len.ensures.sound c.args.names.now c.args.points.now.keys
+    ∙ added_by c.args.wallet.now c.args.book.now c.args.tip rate (subst IsWallet c.wallet.view_is c.wallet.invariant) c.requires.book c.keeps_rules.ensures c.args.names.now c.args.points.now.keys

@@ -4,7 +4,7 @@ use Rattle.tx_codec.specs.Transaction.{Transaction}
 use Rattle.tx_codec.specs.declared.tx.TxOut.{TxOut}
 use Rattle.wallet_text.specs.PlainWallet.{PlainWallet}
 use Rattle.payment_states.specs.PendingView.{no_tx, tx_at, view_of}
-use Rattle.fee_bump.specs.Bump.{fee_in}
+use Rattle.known_fees.specs.Worth.{fee_in}
 use Rattle.fee_bump.proofs.bump.terms.Goals as goal
 
 pub at-payment-requires : goal.at-payment-requires

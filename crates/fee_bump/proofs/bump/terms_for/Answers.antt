@@ -9,11 +9,13 @@ use Rattle.tx_codec.specs.Weight.{weight_of}
 use Rattle.fee_rates.specs.Fee.{vsize_of}
 use Rattle.wallet_text.specs.PlainWallet.{PlainWallet}
 use Rattle.wallet_text.specs.WalletRules.{IsWallet}
+use Rattle.request_text.specs.PlainRequest.{PlainRequest}
 use Rattle.payment_facts.specs.AnyCoin.{facts_among}
 use Rattle.payment_facts.specs.LeftOut.{confirmed_without_of}
 use Rattle.payment_states.specs.Makers.{HasMaker}
 use Rattle.payment_states.specs.PendingView.{no_tx, tx_at, view_of}
-use Rattle.fee_bump.specs.Bump.{added_of, burden_at, fee_in, fees_in, least_vsize, presets_at, replaced_txids, spent_by}
+use Rattle.known_fees.specs.Worth.{fee_in, spent_by}
+use Rattle.fee_bump.specs.Bump.{added_of, burden_at, fees_in, least_vsize, presets_at, replaced_txids}
 use Rattle.fee_bump.proofs.FitLaws.{both_fit, both_made, once_apart, presets_fit}
 use Rattle.fee_bump.proofs.bump.terms_for.Goals as goal
 
@@ -30,7 +32,7 @@ burden-burden-requires-clause-presets c =
     let rules : IsWallet c.args.wallet.now = subst IsWallet c.wallet.view_is c.wallet.invariant in
     let apart = subst (λ (ps : List OutPoint). AllPairs (λ (a b : OutPoint). a ≢ b) ps) (sym (c.as_slice.ensures.keys ∙ c.in_ok-points.ensures)) (once_apart _) in
     subst AreCandidates (sym (c.deref-3.ensures.value ∙ c.in_ok-presets.ensures.exact))
-    (presets_fit c.args.wallet.now c.args.book.now c.args.tip rules c.requires.book c.len.ensures.sound c.deref-2.result.now c.as_slice.result.now apart)
+    (presets_fit c.args.wallet.now c.args.book.now c.args.tip _ rules c.requires.book c.keeps_rules.ensures c.deref-2.result.now c.as_slice.result.now apart)
 
 pub returns-clause-terms : goal.returns-clause-terms
 unfolding presets_at
@@ -43,9 +45,12 @@ returns-clause-terms c =
     let pending : c.deref.result.now ≡ w.pending = c.deref.ensures.value ∙ ap (λ (w : PlainWallet). w.pending) c.wallet.view_is in
     let payment : c.at-payment.result.now ≡ tx_at v i = c.at-payment.ensures ∙ ap (λ (ts : List Transaction). slice_index_or ts i no_tx) pending in
     let spent : c.in_ok-points.points.keys ≡ spent_by (tx_at v i) = c.in_ok-points.ensures ∙ ap spent_by payment in
-    let presets : c.in_ok-presets.presets.items ≡ presets_at w h tip i = c.in_ok-presets.ensures.exact ∙ ap (λ (ps : List OutPoint). facts_among w h tip ps) (c.as_slice.ensures.keys ∙ spent) in
+    let rate = ap (λ (r : PlainRequest). r.rate) c.request.view_is in
+    let n = c.args.request.now.rate in
+    let presets : c.in_ok-presets.presets.items ≡ presets_at w h tip n i =
+    c.in_ok-presets.ensures.exact ∙ (λ k. facts_among w h tip (rate k) ((c.as_slice.ensures.keys ∙ spent) k)) in
     let gone : c.deref-2.result.now ≡ replaced_txids v i = c.deref-2.ensures.value ∙ c.requires.names ∙ ap (map txid_of) c.requires.txs in
-    let candidates = c.in_ok-candidates.ensures ∙ (λ k. added_of (facts_among w h tip (spent k)) (confirmed_without_of w h tip (gone k)) (gone k)) in
+    let candidates = c.in_ok-candidates.ensures n ∙ (λ k. added_of (facts_among w h tip n (spent k)) (confirmed_without_of w h tip (gone k)) (gone k)) in
     let fees = c.in_ok-fees.ensures.value ∙ ap (fees_in h) c.requires.txs in
     let burden = c.burden-burden.ensures.value ∙ (λ k. burden_at (fees k) (least_vsize c.args.request.now ((c.deref-3.ensures.value ∙ presets) k)) c.args.request.now.rate) in
     let names = c.requires.names ∙ ap (map txid_of) c.requires.txs in
@@ -57,14 +62,18 @@ pub returns-clause-fit : goal.returns-clause-fit
 returns-clause-fit c =
     let rules : IsWallet c.args.wallet.now = subst IsWallet c.wallet.view_is c.wallet.invariant in
     let apart = subst (λ (ps : List OutPoint). AllPairs (λ (a b : OutPoint). a ≢ b) ps) (sym c.in_ok-points.ensures) (once_apart _) in
-    let presets = c.in_ok-presets.ensures.exact ∙ ap (λ (ps : List OutPoint). facts_among c.args.wallet.now c.args.book.now c.args.tip ps) c.as_slice.ensures.keys in
-    subst AreCandidates (sym (λ k. presets k ++ c.in_ok-candidates.ensures k))
-    (both_fit c.args.wallet.now c.args.book.now c.args.tip rules c.requires.book c.len.ensures.sound c.deref-2.result.now c.in_ok-points.points.keys apart)
+    let rate = ap (λ (r : PlainRequest). r.rate) c.request.view_is in
+    let n = c.args.request.now.rate in
+    let presets = c.in_ok-presets.ensures.exact ∙ (λ k. facts_among c.args.wallet.now c.args.book.now c.args.tip (rate k) (c.as_slice.ensures.keys k)) in
+    subst AreCandidates (sym (λ k. presets k ++ c.in_ok-candidates.ensures n k))
+    (both_fit c.args.wallet.now c.args.book.now c.args.tip n rules c.requires.book c.keeps_rules.ensures c.deref-2.result.now c.in_ok-points.points.keys apart)
 
 pub returns-clause-makers : goal.returns-clause-makers
 returns-clause-makers c =
     let rules : IsWallet c.args.wallet.now = subst IsWallet c.wallet.view_is c.wallet.invariant in
     let apart = subst (λ (ps : List OutPoint). AllPairs (λ (a b : OutPoint). a ≢ b) ps) (sym c.in_ok-points.ensures) (once_apart _) in
-    let presets = c.in_ok-presets.ensures.exact ∙ ap (λ (ps : List OutPoint). facts_among c.args.wallet.now c.args.book.now c.args.tip ps) c.as_slice.ensures.keys in
-    subst (λ (l : List Candidate). All (HasMaker c.args.book.now) l) (sym (λ k. presets k ++ c.in_ok-candidates.ensures k))
-    (both_made c.args.wallet.now c.args.book.now c.args.tip rules c.requires.book c.len.ensures.sound c.deref-2.result.now c.in_ok-points.points.keys apart)
+    let rate = ap (λ (r : PlainRequest). r.rate) c.request.view_is in
+    let n = c.args.request.now.rate in
+    let presets = c.in_ok-presets.ensures.exact ∙ (λ k. facts_among c.args.wallet.now c.args.book.now c.args.tip (rate k) (c.as_slice.ensures.keys k)) in
+    subst (λ (l : List Candidate). All (HasMaker c.args.book.now) l) (sym (λ k. presets k ++ c.in_ok-candidates.ensures n k))
+    (both_made c.args.wallet.now c.args.book.now c.args.tip n rules c.requires.book c.keeps_rules.ensures c.deref-2.result.now c.in_ok-points.points.keys apart)

@@ -17,4 +17,4 @@ returns-clause-some c = λ w h tip r txid rules book sound asked clear. preset_s
 
 pub returns-clause-confirmed : goal.returns-clause-confirmed
 unfolding terms_of
-returns-clause-confirmed c = λ w h tip r rules book sound. added_high w h tip rules book sound (terms_of w h tip r).presets (terms_of w h tip r).replaced
+returns-clause-confirmed c = λ w h tip r rules book sound. added_high w h tip 0 rules book sound (terms_of w h tip r).presets (terms_of w h tip r).replaced

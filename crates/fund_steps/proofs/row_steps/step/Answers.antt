@@ -1,7 +1,6 @@
 use Rattle.std.proofs.Common.{◌≡◌, ◌∙◌, ap, List}
 use Rattle.fund_steps.proofs.MakingLaws.{step_fits}
 use Rattle.fund_steps.specs.Searches.{problem_by}
-use Rattle.pick_problem.specs.Problem.{PlainProblem}
 use Rattle.pick_problem.specs.declared.item.Item.{Item}
 use Rattle.fund_steps.proofs.row_steps.step.Goals as goal
 

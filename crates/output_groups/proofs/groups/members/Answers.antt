@@ -1,5 +1,4 @@
 use Rattle.std.proofs.Common.{◌∙◌, ◌+◌, ◌++◌, ◌≤◌, ap, get_or, length, subst, sym}
-use Rattle.coin_candidates.specs.declared.candidate.Candidate.{Candidate}
 use Rattle.pick_problem.proofs.SumLaws.{place_below}
 use Rattle.output_groups.specs.Formed.{coins_at}
 use Rattle.output_groups.specs.declared.formed.Formed.{Formed}

@@ -11,6 +11,8 @@ use Rattle.payment_states.proofs.FactSteps.{ancestors_are, flag_is, graph_count,
 use Rattle.payment_states.proofs.StateSteps.{names_are}
 use Rattle.payment_facts.proofs.AnySteps.{on_err}
 use Rattle.payment_states.proofs.Order.{order_from_rule}
+use Rattle.coin_book.specs.Asked.{AreWaiting}
+use Rattle.payment_states.proofs.AskedLaws.{waiting_all}
 use Rattle.payment_facts.proofs.any_coin.ancestors_at.Goals as goal
 
 pub returns-then-flag_at-clause-exact : goal.returns-then-flag_at-clause-exact
@@ -20,8 +22,8 @@ returns-then-flag_at-clause-exact c =
     let on : is_pending w i ≡ true = sym (flag_is w c.deref.result.now (c.deref.ensures.value ∙ c.requires.facts.pending) i c.requires.place) ∙ sym c.flag_at.ensures ∙ c.if-flag_at.true in
     c.number_at.ensures ∙ ap (λ (l : List ℕ). get_or l i 0) c.deref-then-flag_at.ensures.value ∙ c.requires.facts.ancestors i c.requires.place on
 
-pub graph_of-requires : goal.graph_of-requires
-graph_of-requires c =
+pub graph_of-requires-clause-txids : goal.graph_of-requires-clause-txids
+graph_of-requires-clause-txids c =
     let w = view_of c.args.wallet.now c.args.book.now in
     let txs : c.deref-2.result.now ≡ c.args.wallet.now.pending = c.deref-2.ensures.value ∙ ap (λ (w : PlainWallet). w.pending) c.wallet.view_is in
     c.txids.ensures ∙ ap (map (λ (p : Payment). p.txid)) (opened c.args.wallet.now c.args.book.now c.args.states.now c.requires.states) ∙ names_are w ∙ ap (map txid_of) (sym txs)
@@ -61,3 +63,7 @@ pub returns-in_err-count-clause-short : goal.returns-in_err-count-clause-short
 returns-in_err-count-clause-short c =
     let w = view_of c.args.wallet.now c.args.book.now in
     on_err c.from_residual-in_err-count.result (sym (flag_is w c.deref.result.now (c.deref.ensures.value ∙ c.requires.facts.pending) c.args.place c.requires.place) ∙ sym c.flag_at.ensures ∙ c.if-flag_at.false)
+
+pub graph_of-requires-clause-waiting : goal.graph_of-requires-clause-waiting
+graph_of-requires-clause-waiting c =
+    subst (AreWaiting c.args.book.now) (sym (c.deref-2.ensures.value ∙ ap (λ (w : PlainWallet). w.pending) c.wallet.view_is)) (waiting_all c.args.wallet.now c.args.book.now c.requires.book)

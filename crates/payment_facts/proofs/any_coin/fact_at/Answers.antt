@@ -7,9 +7,9 @@ use Rattle.payment_facts.proofs.any_coin.fact_at.Goals as goal
 
 pub returns-in_ok-candidate-in-Some-clause-exact : goal.returns-in_ok-candidate-in-Some-clause-exact
 unfolding facts_at
-returns-in_ok-candidate-in-Some-clause-exact c =
-    ap (λ (x : Candidate). Some x) c.in_ok-candidate-in-Some.ensures ∙ ap (option_map (candidate_of c.args.wallet.now c.args.book.now c.args.tip)) c.in-Some.ensures
+returns-in_ok-candidate-in-Some-clause-exact c = λ rate told.
+    ap (λ (x : Candidate). Some x) (c.in_ok-candidate-in-Some.ensures rate told) ∙ ap (option_map (candidate_of c.args.wallet.now c.args.book.now c.args.tip rate)) c.in-Some.ensures
 
 pub returns-in-None-clause-exact : goal.returns-in-None-clause-exact
 unfolding facts_at
-returns-in-None-clause-exact c = ap (option_map (candidate_of c.args.wallet.now c.args.book.now c.args.tip)) c.in-None.ensures
+returns-in-None-clause-exact c = λ rate told. ap (option_map (candidate_of c.args.wallet.now c.args.book.now c.args.tip rate)) c.in-None.ensures

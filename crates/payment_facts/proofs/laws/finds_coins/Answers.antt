@@ -11,7 +11,7 @@ pub returns-clause-same : goal.returns-clause-same
 returns-clause-same c = same_facts
 
 pub returns-clause-fit : goal.returns-clause-fit
-returns-clause-fit c = λ w h tip o x rules book sound e. (facts_fit w h tip o x rules book sound e).0
+returns-clause-fit c = λ w h tip rate o x rules book sound e. (facts_fit w h tip rate o x rules book sound e).0
 
 pub returns-clause-made : goal.returns-clause-made
-returns-clause-made c = λ w h tip o x rules book sound e. (facts_fit w h tip o x rules book sound e).1
+returns-clause-made c = λ w h tip rate o x rules book sound e. (facts_fit w h tip rate o x rules book sound e).1

@@ -1,6 +1,8 @@
-use Rattle.std.proofs.Common.{◌∙◌, not, Bool, sym, subst}
+use Rattle.std.proofs.Common.{◌∙◌, not, Bool, Contains, sym, subst}
 use Rattle.std.specs.Prelude.{bytes_eq}
+use Rattle.std.proofs.lemmas.List.Elements.{All-filter}
 use Rattle.indexmap.specs.IndexSet.{contains}
+use Rattle.coin_book.specs.Asked.{AreWaiting}
 use Rattle.tx_codec.specs.Transaction.{Transaction}
 use Rattle.tx_codec.specs.Txid.{txid_of}
 use Rattle.wallet_text.specs.WalletRules.{AreDistinct, ParentsComeFirst}
@@ -23,3 +25,8 @@ pub returns-clause-claimed : goal.returns-clause-claimed
 returns-clause-claimed c = λ o.
     c.in_ok-spoken.ensures.claimed o
     ∙ (λ k. is_claimed (view_by c.args.book.now.confirmed ((c.deref.ensures.value ∙ c.in_ok-left.ensures) k) c.args.abandoned.now) o)
+
+pub spoken_by-requires-clause-waiting : goal.spoken_by-requires-clause-waiting
+spoken_by-requires-clause-waiting c =
+    let keep : Transaction → Bool = λ t. not (contains bytes_eq c.args.gone.now (txid_of t)) in
+    subst (AreWaiting c.args.book.now) (sym (c.deref.ensures.value ∙ c.in_ok-left.ensures)) (All-filter keep (Contains c.args.book.now.pending) c.args.txs.now c.requires.waiting)

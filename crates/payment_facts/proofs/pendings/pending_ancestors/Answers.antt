@@ -11,10 +11,12 @@ use Rattle.payment_states.proofs.FactSteps.{opened, pending_are}
 use Rattle.payment_states.proofs.StateSteps.{names_are}
 use Rattle.payment_facts.proofs.PendingSteps.{above_are}
 use Rattle.payment_states.proofs.Order.{order_from_rule}
+use Rattle.coin_book.specs.Asked.{AreWaiting}
+use Rattle.payment_states.proofs.AskedLaws.{waiting_all}
 use Rattle.payment_facts.proofs.pendings.pending_ancestors.Goals as goal
 
-pub graph_of-requires : goal.graph_of-requires
-graph_of-requires c =
+pub graph_of-requires-clause-txids : goal.graph_of-requires-clause-txids
+graph_of-requires-clause-txids c =
     let w = view_of c.args.wallet.now c.args.book.now in
     let txs : c.deref.result.now ≡ c.args.wallet.now.pending = c.deref.ensures.value ∙ ap (λ (w : PlainWallet). w.pending) c.wallet.view_is in
     c.txids.ensures ∙ ap (map (λ (p : Payment). p.txid)) (opened c.args.wallet.now c.args.book.now c.args.states.now c.requires.states) ∙ names_are w ∙ ap (map txid_of) (sym txs)
@@ -39,3 +41,7 @@ returns c =
     c.deref-4.ensures.value ∙ c.in_ok-pending.ensures.pending
     ∙ ap (map (λ (p : Payment). is_pending_state p.state)) (c.payments.ensures ∙ opened c.args.wallet.now c.args.book.now c.args.states.now c.requires.states) ∙ pending_are w in
     c.in_ok-places.ensures ∙ above_are w c.args.place c.len.result c.deref-2.result.now c.deref-3.result.now c.deref-4.result.now g (c.len.ensures ∙ sym c.deref-2.ensures.len) flags (λ j. ap (λ (l : List Bool). get_or l j false) c.deref-3.ensures.value ∙ c.in_ok-marks.ensures j)
+
+pub graph_of-requires-clause-waiting : goal.graph_of-requires-clause-waiting
+graph_of-requires-clause-waiting c =
+    subst (AreWaiting c.args.book.now) (sym (c.deref.ensures.value ∙ ap (λ (w : PlainWallet). w.pending) c.wallet.view_is)) (waiting_all c.args.wallet.now c.args.book.now c.requires.book)

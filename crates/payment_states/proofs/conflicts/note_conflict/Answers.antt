@@ -1,16 +1,17 @@
-use Rattle.std.proofs.Common.{◌≡◌, ◌∙◌, ◌⊎◌, inl, inr, ℕ, Option, Some, None, List, sym, ap}
+use Rattle.std.proofs.Common.{◌≡◌, ◌∙◌, ◌⊎◌, inl, inr, ℕ, Option, Some, None, List, refl, sym, ap}
 use Rattle.tx_codec.specs.declared.tx.TxIn.{TxIn}
+use Rattle.coin_book.proofs.SpendSteps.{has_one}
 use Rattle.coin_book.specs.History.{Confirmed}
 use Rattle.payment_states.specs.Least.{lesser}
-use Rattle.payment_states.specs.ByPlace.{Tells, first_place}
+use Rattle.payment_states.specs.ByPlace.{FindsTxid, first_place}
 use Rattle.payment_states.proofs.LeastSteps.{least_more, lesser_either}
 use Rattle.payment_states.proofs.conflicts.note_conflict.Goals as goal
 
 -- the lesser of two places is noted, where both are
-told_either : (chain : List Confirmed) (names : List (ℕ × List ℕ)) (a b r : Option ℕ) (k : ℕ) → r ≡ lesser a b → (a ≡ Some k → Tells chain names k) → (b ≡ Some k → Tells chain names k) → r ≡ Some k → Tells chain names k
+told_either : (chain : List Confirmed) (names : List (ℕ × List ℕ)) (a b r : Option ℕ) (k : ℕ) → r ≡ lesser a b → (a ≡ Some k → FindsTxid chain names k) → (b ≡ Some k → FindsTxid chain names k) → r ≡ Some k → FindsTxid chain names k
 told_either chain names a b r k is left right e = by (lesser_either a b k (sym is ∙ e))
   where
-    by : (a ≡ Some k) ⊎ (b ≡ Some k) → Tells chain names k
+    by : (a ≡ Some k) ⊎ (b ≡ Some k) → FindsTxid chain names k
     by (inl h) = left h
     by (inr h) = right h
 
@@ -26,3 +27,8 @@ loop-input-preserved c =
           (λ h. c.in_ok-place.ensures.kept k (c.loop-input.invariant.1 k h)) (λ h. c.in_ok-place.ensures.told k (sym place ∙ h)) e,
       λ k h. c.in_ok-place.ensures.kept k (c.loop-input.invariant.2 k h),
     )
+
+pub note_first-requires : goal.note_first-requires
+note_first-requires c =
+    let x = c.input-item.result in
+    c.requires x.prev (has_one x.prev c.args.inputs.now (c.loop-input.input-index, x, c.loop-input-test.true, sym c.input-item.is, refl))

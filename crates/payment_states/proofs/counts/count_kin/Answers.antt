@@ -5,7 +5,6 @@ use Rattle.payment_states.proofs.counts.count_kin.Goals as goal
 pub tally-requires : goal.tally-requires
 tally-requires c = record {
   counted = omega arith;
-  downs = omega arith;
   low = c.mark_kin-low.ensures.least;
   high = omega arith;
   below = c.mark_kin-low.ensures.below;
@@ -13,4 +12,4 @@ tally-requires c = record {
 }
 
 pub returns : goal.returns
-returns c = c.tally.ensures.count ∙ ap (λ n. min 4294967295 n) (ups_are c.args.parents.now c.args.counted.now c.mark_kin-low.new.marks c.args.place (omega arith) c.mark_kin-low.ensures.marks)
+returns c = c.tally.ensures ∙ ap (λ n. min 4294967295 n) (ups_are c.args.parents.now c.args.counted.now c.mark_kin-low.new.marks c.args.place (omega arith) c.mark_kin-low.ensures.marks)

@@ -9,10 +9,12 @@ use Rattle.payment_states.specs.declared.state.Payment.{Payment}
 use Rattle.payment_states.proofs.FactSteps.{ancestors_are, descendants_are, flag_is, opened, payments_count, pending_are}
 use Rattle.payment_states.proofs.StateSteps.{names_are}
 use Rattle.payment_states.proofs.Order.{order_from_rule}
+use Rattle.coin_book.specs.Asked.{AreWaiting}
+use Rattle.payment_states.proofs.AskedLaws.{waiting_all}
 use Rattle.payment_states.proofs.pending_facts.facts_of.Goals as goal
 
-pub graph_of-requires : goal.graph_of-requires
-graph_of-requires c =
+pub graph_of-requires-clause-txids : goal.graph_of-requires-clause-txids
+graph_of-requires-clause-txids c =
     let w = view_of c.args.wallet.now c.args.book.now in
     let txs : c.deref.result.now ≡ c.args.wallet.now.pending = c.deref.ensures.value ∙ ap (λ (w : PlainWallet). w.pending) c.wallet.view_is in
     c.txids.ensures ∙ ap (map (λ (p : Payment). p.txid)) (opened c.args.wallet.now c.args.book.now c.args.states.now c.requires.states) ∙ names_are w ∙ ap (map txid_of) (sym txs)
@@ -67,3 +69,7 @@ returns-clause-descendants c i =
     c.deref-5.ensures.value ∙ c.in_ok-pending.ensures.pending
     ∙ ap (map (λ (p : Payment). is_pending_state p.state)) (c.payments.ensures ∙ opened c.args.wallet.now c.args.book.now c.args.states.now c.requires.states) ∙ pending_are w in
     c.in_ok-counts.ensures.descendants i ∙ descendants_are w c.deref-4.result.now c.deref-5.result.now g flags i
+
+pub graph_of-requires-clause-waiting : goal.graph_of-requires-clause-waiting
+graph_of-requires-clause-waiting c =
+    subst (AreWaiting c.args.book.now) (sym (c.deref.ensures.value ∙ ap (λ (w : PlainWallet). w.pending) c.wallet.view_is)) (waiting_all c.args.wallet.now c.args.book.now c.requires.book)

@@ -22,7 +22,7 @@ loop-number-preserved c =
       | in-None w ↦ ap (λ (v : Vec Candidate Global). v.items) w.all-is ∙ sym (append-nil old) ∙ ap (λ (o : Option Candidate). old ++ option_to_list o) (sym w.in-None.is)
     ]
     in
-    let f : Coin → Option Candidate = λ x. chosen_at c.args.book.now c.args.tip c.args.facts.now.pending.items c.args.facts.now.safe.items c.args.facts.now.ancestors.items c.args.facts.now.descendants.items (contains same_outpoint c.args.claimed.now x.coin) (contains same_outpoint c.args.locked.now x.coin) x (place_among c.args.states.now x.coin.txid) in
+    let f : Coin → Option Candidate = λ x. chosen_at c.args.book.now c.args.tip c.args.facts.now.pending.items c.args.facts.now.safe.items c.args.facts.now.ancestors.items c.args.facts.now.descendants.items c.args.prices.now (contains same_outpoint c.args.claimed.now x.coin) (contains same_outpoint c.args.locked.now x.coin) x (place_among c.args.states.now x.coin.txid) in
     let coins = coins_of c.args.book.now in
     let lt : c.loop-number.number < length coins = omega (arith, c.len-number-end.ensures.count) in
     more
@@ -31,6 +31,6 @@ loop-number-preserved c =
 
 pub returns-clause-chosen : goal.returns-clause-chosen
 returns-clause-chosen c =
-    let f : Coin → Option Candidate = λ x. chosen_at c.args.book.now c.args.tip c.args.facts.now.pending.items c.args.facts.now.safe.items c.args.facts.now.ancestors.items c.args.facts.now.descendants.items (contains same_outpoint c.args.claimed.now x.coin) (contains same_outpoint c.args.locked.now x.coin) x (place_among c.args.states.now x.coin.txid) in
+    let f : Coin → Option Candidate = λ x. chosen_at c.args.book.now c.args.tip c.args.facts.now.pending.items c.args.facts.now.safe.items c.args.facts.now.ancestors.items c.args.facts.now.descendants.items c.args.prices.now (contains same_outpoint c.args.claimed.now x.coin) (contains same_outpoint c.args.locked.now x.coin) x (place_among c.args.states.now x.coin.txid) in
     let coins = coins_of c.args.book.now in
     c.loop-number.invariant ∙ ap (λ (cs : List Coin). filter_map f cs) (take_all c.loop-number.number coins (omega (arith, c.len-number-end.ensures.count)))

@@ -1,4 +1,4 @@
-use Rattle.std.proofs.Common.{◌≡◌, ◌∙◌, ℕ, List, [], Option, Vec, Global, map, length, sym, ap}
+use Rattle.std.proofs.Common.{◌≡◌, ◌∙◌, ℕ, List, [], Option, Vec, Global, map, length, sym, ap, subst, All}
 use Rattle.std.specs.Prelude.{is_some, option_and_then}
 use Rattle.std.proofs.lemmas.List.{length-map}
 use Rattle.std.proofs.lemmas.Result.{IfOk-weaker}
@@ -14,6 +14,8 @@ use Rattle.payment_states.specs.declared.state.Payment.{Payment}
 use Rattle.payment_states.proofs.Below.{map_same}
 use Rattle.payment_states.proofs.AbandonedSteps.{abandoned_is}
 use Rattle.payment_states.proofs.StateSteps.{alive_are, conflict_free, payments_are, replacers_are}
+use Rattle.coin_book.specs.Asked.{IsAskedTxid}
+use Rattle.payment_states.proofs.AskedLaws.{asked_txids}
 use Rattle.payment_states.proofs.states.payments_by.Goals as goal
 
 -- there is a txid, and a list of parents, for each transaction
@@ -92,3 +94,6 @@ returns c =
     ∙ payments_are w c.args.parents.now c.args.txids.now c.in_ok-heights.heights.items c.in_ok-conflicted.conflicted.items c.in_ok-abandoned_at.abandoned_at.items c.in_ok-found.found.items c.in_ok-own.own.items c.in_ok-firsts.firsts.items
     graph txids c.in_ok-heights.ensures.heights conflicts abandoned found own firsts in
     IfOk-weaker c.payments.result (λ (v : Vec Payment Global). v.items ≡ given) (λ (v : Vec Payment Global). v.items ≡ payments_in w) (λ v is. is ∙ same) c.payments.ensures
+
+pub heights_of-requires : goal.heights_of-requires
+heights_of-requires c = subst (All (IsAskedTxid c.args.book.now)) (sym c.requires.txids) (asked_txids c.args.book.now c.args.pending.now c.requires.waiting)

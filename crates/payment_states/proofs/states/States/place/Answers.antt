@@ -4,7 +4,7 @@ use Rattle.std.proofs.lemmas.List.{nil_from_length}
 use Rattle.std.specs.Prelude.{bytes_eq, position}
 use Rattle.payment_states.specs.ByPlace.{place_among}
 use Rattle.payment_states.specs.declared.state.Payment.{Payment}
-use Rattle.payment_states.proofs.Positions.{position-map}
+use Rattle.known_fees.proofs.Positions.{position-map}
 use Rattle.payment_states.proofs.states.States.place.Goals as goal
 
 pub returns-then-is_empty : goal.returns-then-is_empty

@@ -2,7 +2,7 @@ use Rattle.std.proofs.Common.{◌≡◌, ◌∙◌, ℕ, List, map, Option, Some
 use Rattle.std.specs.Prelude.{position, option_map, option_and_then, slice_get, bytes_eq}
 use Rattle.payment_states.specs.Payments.{state_of}
 use Rattle.payment_states.specs.declared.state.Payment.{Payment}
-use Rattle.payment_states.proofs.Positions.{find_by_place, map_place, position-map}
+use Rattle.known_fees.proofs.Positions.{find_by_place, map_place, position-map}
 use Rattle.payment_states.proofs.states.States.state.Goals as goal
 
 -- a look-up by place, where the keys are the txids

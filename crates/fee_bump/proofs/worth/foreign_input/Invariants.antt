@@ -1,7 +1,0 @@
-use Rattle.std.proofs.Common.{◌≡◌, map, take, None}
-use Rattle.tx_codec.specs.declared.tx.TxIn.{TxIn}
-use Rattle.fee_bump.specs.Faults.{first_foreign}
-use Rattle.fee_bump.proofs.worth.foreign_input.Given as goal
-
-abbrev pub invariant-loop-input : goal.invariant-loop-input
-invariant-loop-input l = first_foreign l.book l.txs (map (λ (i : TxIn). i.prev) (take l.input-index l.inputs)) ≡ None

@@ -1,7 +1,0 @@
-use Rattle.std.proofs.Common.{◌≡◌, take}
-use Rattle.std.specs.List.{filter_map}
-use Rattle.payment_facts.specs.AnyCoin.{facts_at}
-use Rattle.payment_facts.proofs.any_coin.facts_of_coins.Given as goal
-
-abbrev pub invariant-loop-coin : goal.invariant-loop-coin
-invariant-loop-coin l = l.all.items ≡ filter_map (facts_at l.wallet l.book l.tip) (take l.coin-index l.coins)
