@@ -18,7 +18,7 @@ use Rattle.command_end.specs.Printed.{IsPut, TellsWhole}
 use Rattle.command_end.specs.declared.status.Status.{Status}
 use Rattle.command_end.specs.declared.status.Status.TheVariants as statuses
 use Rattle.command_complete.proofs.OutcomeLaws.{one_outcome}
-use Rattle.command_complete.specs.Due.{BadPsbt, ComesTo, Completed, IsACompletion, Outcome, Refused, TooLong, status_of}
+use Rattle.command_complete.specs.Outcome.{BadPsbt, ComesTo, Completed, IsACompletion, Outcome, Refused, TooLong, status_of}
 use Rattle.command_complete.specs.Statuses.{Ends, IsPrinted, NoneFailed, NoneUnread}
 use Rattle.command_complete.specs.Stops.{StopsFor}
 use Rattle.command_complete.specs.Words.{IsStopped, refusal_words}

@@ -27,7 +27,7 @@ same_output o p v s =
 
 -- a coin of an outpoint, of no worth
 nothing_at : OutPoint → Candidate
-nothing_at o = record { coin = o; value = 0; weight = 0; script = []; depth = 0; mine = false; safe = false; ancestors = 0; descendants = 0 }
+nothing_at o = record { coin = o; value = 0; weight = 0; script = []; depth = 0; mine = false; safe = false; ancestors = 0; descendants = 0; price = 0 }
 
 -- the transaction of a book's coin is one that an input spends from
 pub book_parent : (h : History) (i : TxIn) (t : Transaction) → HasTexts h → parent_of h i.prev ≡ Some t → IsParent i t

@@ -6,7 +6,7 @@ use Rattle.psbt_codec.specs.PartialTransaction.{PartialTransaction}
 use Rattle.psbt_codec.specs.Text.{psbt_text}
 use Rattle.command_complete.proofs.CompletedLaws.{one_completed, stays}
 use Rattle.command_complete.specs.Completed.{IsCompleted}
-use Rattle.report_check.proofs.SpendLaws.{one_psbt}
+use Rattle.report_check.proofs.SpendLaws.{one_psbt_in}
 use Rattle.command_complete.specs.Made.{IsCompletedFile, IsSpelled, line_of}
 
 -- the line feed behind a line is taken off
@@ -17,8 +17,9 @@ line_back line =
 
 pub files_stay : (h g : History) (file text : List ℕ) → IsCompletedFile h file text → IsCompletedFile g text text
 files_stay h g file text a = record {
+  version = a.version;
   before = a.after;
-  spelled = subst (λ (t : List ℕ). IsSpelled t a.after) (sym (ap line_of a.prints ∙ line_back a.line)) a.reads;
+  spelled = subst (λ (t : List ℕ). IsSpelled t a.version a.after) (sym (ap line_of a.prints ∙ line_back a.line)) a.reads;
   after = a.after;
   completed = stays h g a.before a.after a.completed;
   line = a.line;
@@ -29,9 +30,10 @@ files_stay h g file text a = record {
 -- a file is made whole from a book as one text at most
 one_text : (h : History) (file text other : List ℕ) → IsCompletedFile h file text → IsCompletedFile h file other → other ≡ text
 one_text h file text other x y =
-    let before : y.before ≡ x.before = one_psbt (line_of file) y.before x.before y.spelled.psbt x.spelled.psbt in
-    let after : y.after ≡ x.after = one_completed h x.before y.after x.after (subst (λ (p : PartialTransaction). IsCompleted h p y.after) before y.completed) x.completed in
-    y.prints ∙ ap (λ (l : List ℕ). l ++ 10 ∷ []) (y.reads.spelling ∙ ap psbt_text after ∙ sym x.reads.spelling) ∙ sym x.prints
+    let same = one_psbt_in (line_of file) y.version x.version y.before x.before y.spelled.psbt x.spelled.psbt in
+    let after : y.after ≡ x.after = one_completed h x.before y.after x.after (subst (λ (p : PartialTransaction). IsCompleted h p y.after) same.1 y.completed) x.completed in
+    let text : psbt_text y.version y.after ≡ psbt_text x.version x.after = ap (λ (v : ℕ). psbt_text v y.after) same.0 ∙ ap (λ (p : PartialTransaction). psbt_text x.version p) after in
+    y.prints ∙ ap (λ (l : List ℕ). l ++ 10 ∷ []) (y.reads.spelling ∙ text ∙ sym x.reads.spelling) ∙ sym x.prints
 
 pub same_again : (h g : History) (file text other : List ℕ) → IsCompletedFile h file text → IsCompletedFile g text other → other ≡ text
 same_again h g file text other a b = one_text g text text other (files_stay h g file text a) b

@@ -7,25 +7,25 @@ use Rattle.fund_shelf.proofs.Outside.{rose_earlier}
 use Rattle.fund_shelf.specs.Causes.{Asks, OnlyReads, ShelfView}
 use Rattle.fund_shelf.specs.declared.pieces.ReadError.{ReadError}
 use Rattle.fund_shelf.specs.declared.pieces.ReadError.TheVariants as reads
-use Rattle.fund_files.specs.Behind.{AreHeld}
+use Rattle.fund_files.specs.Joined.{IsChainOf}
 use Rattle.fund_files.specs.Chain.{history_of}
-use Rattle.fund_files.specs.declared.held.Held.{Held}
+use Rattle.fund_files.specs.declared.chain.Chain.{Chain}
 use Rattle.fund_files.specs.declared.refusal.File.{File}
 use Rattle.fund_files.specs.declared.refusal.File.TheVariants.{Wallet, Blocks}
 use Rattle.fund_files.specs.declared.stop.Stop.{Stop as ChainStop}
 use Rattle.fund_files.specs.declared.stop.Stop.TheVariants as chains
 use Rattle.command_end.specs.Names.{Sources}
 use Rattle.command_complete.specs.Asked.{AsksChain, AsksInOrder, AsksUpTo}
-use Rattle.command_complete.specs.Due.{HasBook, IsTooLong, IsWithin}
+use Rattle.command_complete.specs.Outcome.{HasBook, IsTooLong, IsWithin}
 use Rattle.command_complete.specs.Made.{IsCompletedFile, IsRefused, IsSpelled, line_of}
 use Rattle.command_complete.specs.Statuses.{IsPrinted}
 use Rattle.command_complete.specs.Stops.{StopsAtFile, StopsFor, StopsReading, TellsRead, read_stop_of}
 use Rattle.command_complete.specs.declared.stop.Stop.{Stop}
 use Rattle.command_complete.specs.declared.stop.Stop.TheVariants as stops
 
-module _ (told : Type 0) (s : Sources) (name : List ℕ) (old middle new : ShelfView) (k : Held) (held : AreHeld told (old.files s.wallet) (old.files s.blocks) k) (only : OnlyReads told old middle) where
+module _ (told : Type 0) (s : Sources) (name : List ℕ) (old middle new : ShelfView) (k : Chain) (held : IsChainOf told (old.files s.wallet) (old.files s.blocks) k) (only : OnlyReads told old middle) where
   book_is : k.book ≡ history_of k.wallet held.held.blocks
-  book_is = ap (λ (x : Held). x.book) held.held.is
+  book_is = ap (λ (x : Chain). x.book) held.held.is
 
   pub has_book : told → HasBook old.files s k.book
   has_book t = record { wallet = k.wallet; blocks = held.held.blocks; chain = held.chain t; is = book_is }
@@ -67,8 +67,9 @@ module _ (told : Type 0) (s : Sources) (name : List ℕ) (old middle new : Shelf
             book = history_of k.wallet held.held.blocks;
             holds = record { wallet = k.wallet; blocks = held.held.blocks; chain = held.chain t; is = refl };
             fits = back IsWithin t (fits t);
+            version = moved.version;
             before = moved.before;
-            spelled = subst (λ (bytes : List ℕ). IsSpelled (line_of bytes) moved.before) (file_is t) moved.spelled;
+            spelled = subst (λ (bytes : List ℕ). IsSpelled (line_of bytes) moved.version moved.before) (file_is t) moved.spelled;
             completed = moved.completed;
           };
         }
@@ -128,12 +129,12 @@ pub either_unfailed : {X R : Type 0} (result : Result X Stop) → R → MatchRes
 either_unfailed (Ok x) r = r
 either_unfailed (Err stop) r = λ not. r
 
-pub if_file_stops : (told : Type 0) (s : Sources) (name : List ℕ) (old middle new : ShelfView) (k : Held) (held : AreHeld told (old.files s.wallet) (old.files s.blocks) k) (only : OnlyReads told old middle) (file : List ℕ) {X : Type 0} (result : Result X Stop)
+pub if_file_stops : (told : Type 0) (s : Sources) (name : List ℕ) (old middle new : ShelfView) (k : Chain) (held : IsChainOf told (old.files s.wallet) (old.files s.blocks) k) (only : OnlyReads told old middle) (file : List ℕ) {X : Type 0} (result : Result X Stop)
     → (told → file ≡ middle.files name) → (told → IsWithin (middle.files name)) → IfErr result (StopsAtFile k.book file) → IfErr result (StopsFor told s name old new)
 if_file_stops told s name old middle new k held only file (Ok x) read fits h = tt
 if_file_stops told s name old middle new k held only file (Err stop) read fits h = file_stops told s name old middle new k held only file read fits stop h
 
-pub if_printed : (told : Type 0) (s : Sources) (name : List ℕ) (old middle new : ShelfView) (k : Held) (held : AreHeld told (old.files s.wallet) (old.files s.blocks) k) (only : OnlyReads told old middle) (file : List ℕ) (result : Result (Vec ℕ Global) Stop)
+pub if_printed : (told : Type 0) (s : Sources) (name : List ℕ) (old middle new : ShelfView) (k : Chain) (held : IsChainOf told (old.files s.wallet) (old.files s.blocks) k) (only : OnlyReads told old middle) (file : List ℕ) (result : Result (Vec ℕ Global) Stop)
     → (told → file ≡ middle.files name) → (told → IsWithin (middle.files name)) → IfOk result (λ text. IsCompletedFile k.book file text.items) → IfOk result (λ text. IsPrinted told old.files s name text.items)
 if_printed told s name old middle new k held only file (Ok text) read fits h = printed_is told s name old middle new k held only file read fits text.items h
 if_printed told s name old middle new k held only file (Err stop) read fits h = tt

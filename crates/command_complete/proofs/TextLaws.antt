@@ -1,28 +1,27 @@
 -- The text of a PSBT file.
-use Rattle.std.proofs.Common.{◌≡◌, ◌≢◌, ◌∙◌, ℕ, List, Err, ap, inl, inr}
+use Rattle.std.proofs.Common.{◌≡◌, ◌≢◌, ◌∙◌, ◌++◌, ℕ, List, [], ◌∷◌, sym, ap, subst, inl, inr}
+use Rattle.std.specs.Prelude.{◌⊎◌}
 use Rattle.base64.specs.Engines.{standard}
 use Rattle.base64.specs.GeneralPurpose.{encode_of}
 use Rattle.coin_book.specs.History.{History}
 use Rattle.fund_base.specs.Cursor.{IsBytes}
 use Rattle.psbt_codec.specs.PartialTransaction.{PartialTransaction}
-use Rattle.psbt_codec.specs.Psbt.{IsPsbt, IsReadable, written}
-use Rattle.psbt_codec.specs.Reading.{read_of}
-use Rattle.psbt_codec.specs.Text.{psbt_text}
+use Rattle.psbt_codec.specs.Psbt.{IsPsbt, IsReadable, IsReadableIn, written}
+use Rattle.psbt_codec.specs.Text.{psbt_text, HasPsbtFault, IsPsbtTextIn}
 use Rattle.psbt_codec.specs.declared.fault.PsbtFault.{PsbtFault}
 use Rattle.psbt_codec.specs.declared.fault.PsbtFault.TheVariants as psbts
-use Rattle.command_complete.specs.Completed.{known_of}
+use Rattle.command_complete.specs.Completed.{IsCompleted, known_of}
 use Rattle.command_complete.specs.Faults.{IsFirstFault}
 use Rattle.command_complete.specs.declared.fault.CompleteFault.{CompleteFault}
 use Rattle.command_complete.specs.declared.fault.CompleteFault.TheVariants as inputs
-use Rattle.report_check.specs.Payment.{HasPsbtFault, IsPsbtText}
-use Rattle.command_complete.specs.Made.{IsSpelled, IsSpelledOtherwise, line_of}
+use Rattle.command_complete.specs.Made.{IsCompletedFile, IsSpelled, IsSpelledOtherwise, line_of}
 use Rattle.command_complete.specs.Stops.{StopsAtFile, StopsAtText, stop_of_input, stop_of_psbt}
 use Rattle.command_complete.specs.declared.stop.Refusal.TheVariants as refusals
 use Rattle.command_complete.specs.declared.stop.Stop.{Stop}
 use Rattle.command_complete.specs.declared.stop.Stop.TheVariants as stops
 
 -- by the fault: out of memory, or another
-stop_at : (text : List ℕ) (f : PsbtFault) → (f ≢ psbts.Memory → HasPsbtFault text f) → StopsAtText text (stop_of_psbt f)
+pub stop_at : (text : List ℕ) (f : PsbtFault) → (f ≢ psbts.Memory → HasPsbtFault text f) → StopsAtText text (stop_of_psbt f)
 stop_at text psbts.Memory has = tt
 stop_at text psbts.Magic has = has (λ h. cc)
 stop_at text (psbts.Truncated n) has = has (λ h. cc)
@@ -36,36 +35,50 @@ stop_at text (psbts.Version n) has = has (λ h. cc)
 stop_at text (psbts.WrongParent n) has = has (λ h. cc)
 stop_at text (psbts.Trailing n) has = has (λ h. cc)
 stop_at text psbts.NotBase64 has = has (λ h. cc)
+stop_at text (psbts.Mixed n) has = has (λ h. cc)
+stop_at text (psbts.Lacking n) has = has (λ h. cc)
+stop_at text (psbts.RequiredLock n) has = has (λ h. cc)
 
--- the text is base64 of no bytes
-pub not_base64 : (text : List ℕ) (f : PsbtFault) → (f ≢ psbts.Memory → f ≡ psbts.NotBase64) → ((bytes : List ℕ) → IsBytes bytes → text ≡ encode_of standard bytes → f ≡ psbts.Memory) → StopsAtText text (stop_of_psbt f)
-not_base64 text f only none = stop_at text f (λ h. inl (only h, λ bytes are same. h (none bytes are same)))
+-- the text is the one that is written of a PSBT in its version
+pub is_spelled : (text : List ℕ) (version : ℕ) (p : PartialTransaction) → IsPsbtTextIn version text p → text ≡ psbt_text version p → IsSpelled text version p
+is_spelled text version p psbt spelling = record { psbt = psbt; spelling = spelling }
 
--- the bytes of the text are no PSBT
-pub no_psbt : (text bytes : List ℕ) (f : PsbtFault) → IsBytes bytes → text ≡ encode_of standard bytes → (f ≢ psbts.Memory → read_of bytes ≡ Err f) → StopsAtText text (stop_of_psbt f)
-no_psbt text bytes f are is read = stop_at text f (λ h. inr (bytes, are, is, read h))
+-- it isn't
+pub is_spelled_otherwise : (text : List ℕ) (version : ℕ) (p : PartialTransaction) → IsPsbtTextIn version text p → (text ≡ psbt_text version p → ⊥) → IsSpelledOtherwise text
+is_spelled_otherwise text version p psbt other = record { version = version; is = p; psbt = psbt; other = other }
 
--- the bytes of the text are a PSBT
-pub psbt_read : (text bytes : List ℕ) (p : PartialTransaction) → IsBytes bytes → text ≡ encode_of standard bytes → IsReadable bytes p → IsPsbtText text p
-psbt_read text bytes p are is readable = record { bytes = bytes; are_bytes = are; text_is = is; readable = readable }
+-- what is written in a version is readable in it
+readable_in : (bytes : List ℕ) (version : ℕ) (p : PartialTransaction) → (version ≡ 0) ⊎ (version ≡ 2) → (version ≡ 0 → IsReadableIn 0 bytes p) → (version ≡ 2 → IsReadableIn 2 bytes p) → IsReadableIn version bytes p
+readable_in bytes version p (inl e) first second = subst (λ (v : ℕ). IsReadableIn v bytes p) (sym e) (first e)
+readable_in bytes version p (inr e) first second = subst (λ (v : ℕ). IsReadableIn v bytes p) (sym e) (second e)
 
--- and the text is the one that is written of it
-pub is_spelled : (text bytes : List ℕ) (p : PartialTransaction) → IsBytes bytes → text ≡ encode_of standard bytes → IsReadable bytes p → text ≡ psbt_text p → IsSpelled text p
-is_spelled text bytes p are is readable spelling = record { psbt = psbt_read text bytes p are is readable; spelling = spelling }
-
--- and the text isn't the one that is written of it
-pub is_spelled_otherwise : (text bytes : List ℕ) (p : PartialTransaction) → IsBytes bytes → text ≡ encode_of standard bytes → IsReadable bytes p → (text ≡ psbt_text p → ⊥) → IsSpelledOtherwise text
-is_spelled_otherwise text bytes p are is readable other = record { is = p; psbt = psbt_read text bytes p are is readable; other = other }
-
--- the text that is written of a PSBT is
-pub written_spelled : (text bytes : List ℕ) (p : PartialTransaction) → IsPsbt p → IsBytes bytes → bytes ≡ written p → (IsPsbt p → IsReadable bytes p) → text ≡ encode_of standard bytes → IsSpelled text p
-written_spelled text bytes p rules are is readable text_is = is_spelled text bytes p are text_is (readable rules) (text_is ∙ ap (encode_of standard) is)
+-- the text that is written of a PSBT in a version is
+pub written_spelled : (text bytes : List ℕ) (version : ℕ) (p : PartialTransaction) → IsPsbt p → (version ≡ 0) ⊎ (version ≡ 2) → IsBytes bytes → bytes ≡ written version p → (IsPsbt p → version ≡ 0 → IsReadableIn 0 bytes p) → (IsPsbt p → version ≡ 2 → IsReadableIn 2 bytes p) → text ≡ encode_of standard bytes
+    → IsSpelled text version p
+written_spelled text bytes version p rules known are is first second text_is =
+    let readable = readable_in bytes version p known (first rules) (second rules) in
+    is_spelled text version p (record { bytes = bytes; are_bytes = are; text_is = text_is; readable = readable.0 }, readable.1) (text_is ∙ ap (encode_of standard) is)
 
 -- a PSBT of a text is one
-pub spelled_psbt : (text : List ℕ) (p : PartialTransaction) → IsSpelled text p → IsPsbt p
-spelled_psbt text p h = h.psbt.readable.psbt
+pub spelled_psbt : (text : List ℕ) (version : ℕ) (p : PartialTransaction) → IsSpelled text version p → IsPsbt p
+spelled_psbt text version p h = h.psbt.0.readable.psbt
+
+-- in version 0 or in version 2
+known_version : (version : ℕ) (bytes : List ℕ) (p : PartialTransaction) (r : IsReadable bytes p) → r.version ≡ version → (version ≡ 0) ⊎ (version ≡ 2)
+known_version version bytes p r is = elim r.maps [
+  | inl first ↦ inl (sym is ∙ first.0)
+  | inr second ↦ inr (sym is ∙ second.0)
+]
+
+pub spelled_version : (text : List ℕ) (version : ℕ) (p : PartialTransaction) → IsSpelled text version p → (version ≡ 0) ⊎ (version ≡ 2)
+spelled_version text version p h = known_version version h.psbt.0.bytes p h.psbt.0.readable h.psbt.1
 
 -- ---- the file
+
+-- what is printed of a file is a PSBT made whole in the version of the file's
+pub file_completed : (h : History) (file text line : List ℕ) (version : ℕ) (p q : PartialTransaction) → IsSpelled (line_of file) version p → IsCompleted h p q → IsSpelled line version q → text ≡ line ++ 10 ∷ [] → IsCompletedFile h file text
+file_completed h file text line version p q spelled completed reads prints =
+    record { version = version; before = p; spelled = spelled; after = q; completed = completed; line = line; reads = reads; prints = prints }
 
 -- a stop at the text of a file is one at the file
 pub text_stops : (h : History) (file : List ℕ) (stop : Stop) → StopsAtText (line_of file) stop → StopsAtFile h file stop
@@ -78,7 +91,7 @@ text_stops h file (stops.Refused (refusals.Input fault)) s = absurd s
 text_stops h file stops.Memory s = tt
 
 -- a stop at an input of its PSBT
-pub input_stops : (h : History) (file : List ℕ) (p : PartialTransaction) (fault : CompleteFault) → IsSpelled (line_of file) p → (fault ≢ inputs.Memory → IsFirstFault h (known_of p) fault) → StopsAtFile h file (stop_of_input fault)
-input_stops h file p (inputs.Missing index coin) spelled first = (p, spelled, first (λ e. cc))
-input_stops h file p (inputs.OtherOutput index coin) spelled first = (p, spelled, first (λ e. cc))
-input_stops h file p inputs.Memory spelled first = tt
+pub input_stops : (h : History) (file : List ℕ) (version : ℕ) (p : PartialTransaction) (fault : CompleteFault) → IsSpelled (line_of file) version p → (fault ≢ inputs.Memory → IsFirstFault h (known_of p) fault) → StopsAtFile h file (stop_of_input fault)
+input_stops h file version p (inputs.Missing index coin) spelled first = (version, p, spelled, first (λ e. cc))
+input_stops h file version p (inputs.OtherOutput index coin) spelled first = (version, p, spelled, first (λ e. cc))
+input_stops h file version p inputs.Memory spelled first = tt

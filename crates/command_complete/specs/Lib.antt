@@ -1,9 +1,9 @@
 pub mod Asked
 pub mod Completed
-pub mod Due
 pub mod Faults
 pub mod Made
 pub mod Numbers
+pub mod Outcome
 pub mod Statuses
 pub mod Stops
 pub mod Words

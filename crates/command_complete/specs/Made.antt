@@ -2,10 +2,9 @@
 use Rattle.std.specs.Prelude.{ℕ, ◌≡◌, ◌≢◌, ◌-◌, ◌==◌, List, [], ◌∷◌, ◌++◌, length, take, slice_index, if◌then◌else◌}
 use Rattle.coin_book.specs.History.{History}
 use Rattle.psbt_codec.specs.PartialTransaction.{PartialTransaction}
-use Rattle.psbt_codec.specs.Text.{psbt_text}
+use Rattle.psbt_codec.specs.Text.{psbt_text, HasPsbtFault, IsPsbtTextIn}
 use Rattle.command_complete.specs.Completed.{IsCompleted, known_of}
 use Rattle.command_complete.specs.Faults.{IsFirstFault}
-use Rattle.report_check.specs.Payment.{HasPsbtFault, IsPsbtText}
 use Rattle.command_complete.specs.declared.stop.Refusal.{Refusal}
 use Rattle.command_complete.specs.declared.stop.Refusal.TheVariants.{Psbt, OtherPairs, Input}
 
@@ -13,26 +12,28 @@ use Rattle.command_complete.specs.declared.stop.Refusal.TheVariants.{Psbt, Other
 abbrev pub line_of : List ℕ → List ℕ
 line_of file = if slice_index file (length file - 1) == 10 then take (length file - 1) file else file
 
--- The text is a PSBT, and is the one that is written of it: so it holds nothing else.
-pub record IsSpelled (text : List ℕ) (p : PartialTransaction) : Type 0 where
-  pub psbt : IsPsbtText text p
-  pub spelling : text ≡ psbt_text p
+-- The text is a PSBT of this version, and is the one that is written of it in this version: so it holds nothing else.
+pub record IsSpelled (text : List ℕ) (version : ℕ) (p : PartialTransaction) : Type 0 where
+  pub psbt : IsPsbtTextIn version text p
+  pub spelling : text ≡ psbt_text version p
 
--- the text is a PSBT, and isn't the one that is written of it
+-- the text is a PSBT of some version, and isn't the one that is written of it in this version
 pub record IsSpelledOtherwise (text : List ℕ) : Type 0 where
+  pub version : ℕ
   pub is : PartialTransaction
-  pub psbt : IsPsbtText text is
-  pub other : text ≢ psbt_text is
+  pub psbt : IsPsbtTextIn version text is
+  pub other : text ≢ psbt_text version is
 
--- The file is the one text of a PSBT, which is made whole from a book; what is printed is the one text of that, and a line
--- feed.
+-- The file is the one text of a PSBT in its version, which is made whole from a book. What is printed is the one text of
+-- that in the same version, and a line feed.
 pub record IsCompletedFile (h : History) (file text : List ℕ) : Type 0 where
+  pub version : ℕ
   pub before : PartialTransaction
-  pub spelled : IsSpelled (line_of file) before
+  pub spelled : IsSpelled (line_of file) version before
   pub after : PartialTransaction
   pub completed : IsCompleted h before after
   pub line : List ℕ
-  pub reads : IsSpelled line after
+  pub reads : IsSpelled line version after
   pub prints : text ≡ line ++ 10 ∷ []
 
 -- What the refusal of a PSBT file means, beside a book: its text is no PSBT, for this fault first; or is spelled otherwise;
@@ -40,4 +41,4 @@ pub record IsCompletedFile (h : History) (file text : List ℕ) : Type 0 where
 abbrev pub IsRefused : History → (file : List ℕ) → Refusal → Type 0
 IsRefused h file (Psbt fault) = HasPsbtFault (line_of file) fault
 IsRefused h file OtherPairs = IsSpelledOtherwise (line_of file)
-IsRefused h file (Input fault) = (p : PartialTransaction) × IsSpelled (line_of file) p × IsFirstFault h (known_of p) fault
+IsRefused h file (Input fault) = (version : ℕ) × (p : PartialTransaction) × IsSpelled (line_of file) version p × IsFirstFault h (known_of p) fault

@@ -15,7 +15,7 @@ use Rattle.command_end.specs.Lines.{GotLine, fault_line, file_refusal_words, sta
 use Rattle.command_end.specs.Names.{Sources}
 use Rattle.command_end.specs.declared.status.Status.{Status}
 use Rattle.command_end.specs.declared.status.Status.TheVariants as statuses
-use Rattle.command_complete.specs.Due.{BadPsbt, ComesTo, Completed, HasBook, Refused, TooLong}
+use Rattle.command_complete.specs.Outcome.{BadPsbt, ComesTo, Completed, HasBook, Refused, TooLong}
 use Rattle.command_complete.specs.Made.{IsCompletedFile}
 use Rattle.command_complete.specs.Words.{refusal_words}
 use Rattle.command_complete.specs.declared.stop.Refusal.{Refusal}

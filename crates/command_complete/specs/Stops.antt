@@ -10,15 +10,15 @@ use Rattle.psbt_codec.specs.declared.fault.PsbtFault.{PsbtFault}
 use Rattle.psbt_codec.specs.declared.fault.PsbtFault.TheVariants as psbts
 use Rattle.command_complete.specs.declared.fault.CompleteFault.{CompleteFault}
 use Rattle.command_complete.specs.declared.fault.CompleteFault.TheVariants as inputs
-use Rattle.report_check.specs.Payment.{HasPsbtFault}
+use Rattle.psbt_codec.specs.Text.{HasPsbtFault}
 use Rattle.command_end.specs.Names.{Sources}
-use Rattle.command_complete.specs.Due.{BadPsbt, ComesTo, HasBook, IsTooLong, TooLong}
+use Rattle.command_complete.specs.Outcome.{BadPsbt, ComesTo, HasBook, IsTooLong, TooLong}
 use Rattle.command_complete.specs.Made.{IsRefused, IsSpelledOtherwise}
 use Rattle.command_complete.specs.declared.stop.Refusal.TheVariants as refusals
 use Rattle.command_complete.specs.declared.stop.Stop.{Stop}
 use Rattle.command_complete.specs.declared.stop.Stop.TheVariants as stops
 
--- the stop of a text that isn't read as a PSBT: want of memory comes from that of the reading alone
+-- the stop of a text that isn't read as a PSBT: being out of memory comes from that of the reading alone
 abbrev pub stop_of_psbt : PsbtFault → Stop
 stop_of_psbt psbts.Memory = stops.Memory
 stop_of_psbt fault = stops.Refused (refusals.Psbt fault)

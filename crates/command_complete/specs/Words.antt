@@ -1,5 +1,5 @@
 -- How a PSBT that isn't made whole is answered.
-use Rattle.std.specs.Prelude.{ℕ, ◌≡◌, List, ◌∷◌, ◌++◌, codes}
+use Rattle.std.specs.Prelude.{ℕ, List, ◌∷◌, ◌++◌, codes}
 use Rattle.std.specs.Fmt.{decimal}
 use Rattle.command_end.specs.Coin.{coin_text}
 use Rattle.command_end.specs.Words.{psbt_fault_words}

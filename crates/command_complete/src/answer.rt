@@ -10,9 +10,7 @@ ghost use Rattle.command_complete.specs.Words.{IsStopped, refusal_words, stop_st
 
 use crate::stop::{Refusal, Stop};
 use crate::words::refusal_parts;
-use command_end::{
-    Sources, Status, put_fault, put_line, refuse_chain, refuse_read, want_of_memory,
-};
+use command_end::{Sources, Status, out_of_memory, put_fault, put_line, refuse_chain, refuse_read};
 use fund_shelf::Sink;
 
 /// The line of a PSBT file that is too long.
@@ -51,6 +49,6 @@ pub fn answer<O: Sink>(sources: &Sources, psbt: &str, stop: Stop, out: &mut O) -
         Stop::Read => refuse_read(psbt, out),
         Stop::TooLong => refuse_length(out),
         Stop::Refused(refusal) => refuse_psbt(&refusal, out),
-        Stop::Memory => want_of_memory(out),
+        Stop::Memory => out_of_memory(out),
     }
 }

@@ -8,7 +8,7 @@ ghost use Rattle.fund_files.specs.FileStops.{IsWalletCause};
 ghost use Rattle.command_end.specs.Names.{plain_sources};
 ghost use Rattle.command_end.specs.Printed.{TellsWhole, TookAll};
 ghost use Rattle.command_complete.specs.Asked.{AsksChain, AsksInOrder, AsksToUnread};
-ghost use Rattle.command_complete.specs.Due.{ComesTo, HasBook, IsACompletion, Outcome, status_of};
+ghost use Rattle.command_complete.specs.Outcome.{ComesTo, HasBook, IsACompletion, Outcome, status_of};
 ghost use Rattle.command_complete.specs.Statuses.{Ends, NoneFailed, NoneUnread};
 
 use crate::answer::answer;
@@ -19,8 +19,9 @@ use std::alloc::Global;
 
 /// Makes the PSBT of the file `psbt` whole: it reads the wallet, the blocks behind it and the PSBT, and prints to `out` the same
 /// PSBT with the whole transaction beside each output that it spends, in base64 and a line feed. The file has the PSBT in
-/// base64, with or without a line feed at its end, and as it would be written: with no pairs but the unsigned transaction,
-/// the whole transactions and the spent outputs. What is refused gets its fault line. It writes no file.
+/// base64, with or without a line feed at its end, and as it would be written in its version: with no pairs but those of the
+/// unsigned transaction, the whole transactions and the spent outputs. What is printed is of this version. What is refused
+/// gets its fault line. It writes no file.
 ///
 /// The clauses on content hold where the shelf and the sink tell theirs.
 pub fn complete<H: Shelf, O: Sink>(
@@ -36,7 +37,7 @@ pub fn complete<H: Shelf, O: Sink>(
     // Where the PSBT isn't made whole and the files were read, the status is that of the refusal, even if the sink fails.
     ensures refused { H.tells → NoneUnread (plain_sources sources.now) psbt.now (H.view shelf.old) (H.view shelf.new) → (o : Outcome) → ComesTo (H.view shelf.old).files (plain_sources sources.now) psbt.now o → (IsACompletion o → ⊥) → (result ≡ status_of o) ⊎ (result ≡ Status.Memory) }
 
-    // Where no count rose, the status is that of what the files come to, or want of memory.
+    // Where no count rose, the status is that of what the files come to, or out of memory.
     ensures complete { H.tells → NoneFailed (plain_sources sources.now) psbt.now (H.view shelf.old) (H.view shelf.new) (O.view out.old) (O.view out.new) → (o : Outcome) → ComesTo (H.view shelf.old).files (plain_sources sources.now) psbt.now o → (result ≡ status_of o) ⊎ (result ≡ Status.Memory) }
 
     // Nothing is written; a read that failed is told as that, and as nothing else; and an output that failed is never told as

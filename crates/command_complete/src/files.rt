@@ -7,7 +7,7 @@ ghost use Rattle.fund_files.specs.Cause.{FileCause};
 ghost use Rattle.fund_files.specs.FileStops.{IsWalletCause};
 ghost use Rattle.command_end.specs.Names.{plain_sources};
 ghost use Rattle.command_complete.specs.Asked.{AsksChain, AsksInOrder, AsksUpTo};
-ghost use Rattle.command_complete.specs.Due.{HasBook, IsWithin};
+ghost use Rattle.command_complete.specs.Outcome.{HasBook, IsWithin};
 ghost use Rattle.command_complete.specs.Statuses.{IsPrinted};
 ghost use Rattle.command_complete.specs.Stops.{StopsFor, StopsReading, TellsRead, read_stop_of};
 

@@ -3,7 +3,7 @@
 ghost use Rattle.std.specs.Prelude.{◌≡◌, ℕ, List};
 ghost use Rattle.coin_book.specs.History.{History};
 ghost use Rattle.command_end.specs.Names.{Sources};
-ghost use Rattle.command_complete.specs.Due.{ComesTo, Outcome};
+ghost use Rattle.command_complete.specs.Outcome.{ComesTo, Outcome};
 ghost use Rattle.command_complete.specs.Made.{IsCompletedFile};
 ghost use Rattle.command_complete.specs.Numbers.{HasNumbers};
 ghost use Rattle.command_complete.specs.Words.{refusal_words};

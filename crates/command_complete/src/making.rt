@@ -1,7 +1,7 @@
 //! The bytes of a PSBT file, made whole.
 
-ghost use Rattle.std.specs.Prelude.{◌≡◌, ◌≢◌, IfErr, IfOk, OnOk};
-ghost use Rattle.fund_files.specs.Chain.{HasTexts, IsHeld};
+ghost use Rattle.std.specs.Prelude.{◌≡◌, ◌≢◌, ◌⊎◌, IfErr, IfOk, OnOk};
+ghost use Rattle.fund_files.specs.Chain.{HasTexts, IsChain};
 ghost use Rattle.psbt_codec.specs.Psbt.{IsPsbt};
 ghost use Rattle.command_complete.specs.Made.{IsCompletedFile, IsSpelled, line_of};
 ghost use Rattle.command_complete.specs.Stops.{StopsAtFile, StopsAtText, stop_of_psbt};
@@ -12,8 +12,8 @@ use crate::psbt::complete_psbt;
 use crate::stop::{Refusal, Stop};
 use coin_book::Book;
 use fund_base::{Memory, are_bytes};
-use fund_files::Held;
-use psbt_codec::{Psbt, PsbtFault, from_text, read_psbt, to_text, write_psbt, write_text};
+use fund_files::Chain;
+use psbt_codec::{Psbt, PsbtFault, Versioned, read_text, to_text, write_psbt, write_text};
 use std::alloc::Global;
 
 /// The bytes of a file without the line feed at their end, where one stands there.
@@ -52,33 +52,29 @@ fn check_spelling(spelling: &[u8], text: &[u8]) -> Result<(), Stop>
     Ok(())
 }
 
-/// The PSBT that a text is, and is the one text of.
-fn spelled(alloc: Global, text: &[u8]) -> Result<Psbt, Stop>
-    ensures found { IfOk result (λ p. IsSpelled text.now p) }
+/// The PSBT that a text is, and is the one text of in its version.
+fn spelled(alloc: Global, text: &[u8]) -> Result<Versioned, Stop>
+    ensures found { IfOk result (λ v. IsSpelled text.now v.version v.psbt) }
     ensures stop { IfErr result (StopsAtText text.now) }
 {
-    let bytes = match from_text(alloc, text) {
-        Ok(bytes) => bytes,
+    let read = match read_text(alloc, text) {
+        Ok(read) => read,
         Err(fault) => return Err(psbt_stop(fault)),
     };
-    are_bytes(&bytes);
-    let psbt = match read_psbt(alloc, &bytes) {
-        Ok(psbt) => psbt,
-        Err(fault) => return Err(psbt_stop(fault)),
-    };
-    let spelling = write_text(alloc, &psbt)?;
+    let spelling = write_text(alloc, &read.psbt, read.version)?;
     match check_spelling(spelling.as_bytes(), text) {
-        Ok(()) => Ok(psbt),
+        Ok(()) => Ok(read),
         Err(stop) => Err(stop),
     }
 }
 
-/// The one text of a PSBT, which is read back as it.
-fn text_of(alloc: Global, psbt: &Psbt) -> Result<Vec<u8>, Memory>
-    requires { IsPsbt psbt.now }
-    ensures { IfOk result (λ text. IsSpelled text.items psbt.now) }
+/// The one text of a PSBT in a version, which is read back as it in this version.
+fn text_of(alloc: Global, psbt: &Psbt, version: u32) -> Result<Vec<u8>, Memory>
+    requires psbt { IsPsbt psbt.now }
+    requires version { (version ≡ 0) ⊎ (version ≡ 2) }
+    ensures { IfOk result (λ text. IsSpelled text.items version psbt.now) }
 {
-    let bytes = write_psbt(alloc, psbt)?;
+    let bytes = write_psbt(alloc, psbt, version)?;
     are_bytes(&bytes);
     let text = to_text(alloc, &bytes)?;
     Ok(text)
@@ -90,9 +86,9 @@ fn completed_text(alloc: Global, book: &Book, file: &[u8]) -> Result<Vec<u8>, St
     ensures made { IfOk result (λ text. IsCompletedFile book.now file.now text.items) }
     ensures stop { IfErr result (StopsAtFile book.now file.now) }
 {
-    let psbt = spelled(alloc, line_of(file))?;
-    let completed = complete_psbt(alloc, book, &psbt)?;
-    let mut text = text_of(alloc, &completed)?;
+    let read = spelled(alloc, line_of(file))?;
+    let completed = complete_psbt(alloc, book, &read.psbt)?;
+    let mut text = text_of(alloc, &completed, read.version)?;
     match text.push(b'\n') {
         Ok(()) => Ok(text),
         Err(_) => Err(Stop::Memory),
@@ -100,8 +96,8 @@ fn completed_text(alloc: Global, book: &Book, file: &[u8]) -> Result<Vec<u8>, St
 }
 
 /// The same from the book that is held.
-pub fn made(alloc: Global, held: &Held, file: &[u8]) -> Result<Vec<u8>, Stop>
-    requires { IsHeld held.now }
+pub fn made(alloc: Global, held: &Chain, file: &[u8]) -> Result<Vec<u8>, Stop>
+    requires { IsChain held.now }
     ensures made { IfOk result (λ text. IsCompletedFile held.now.book file.now text.items) }
     ensures stop { IfErr result (StopsAtFile held.now.book file.now) }
 {

@@ -33,9 +33,9 @@ use Rattle.request_text.specs.PlainRequest.{PlainRequest}
 use Rattle.wallet_text.specs.PlainWallet.{Earlier, PlainWallet}
 use Rattle.wallet_text.specs.WalletRules.{IsEarlier, IsWallet}
 use Rattle.wallet_text.specs.declared.wallet.Watch.{Watch}
-use Rattle.fund_files.specs.Chain.{HasTexts, HaveTexts, IsHeld, history_of}
+use Rattle.fund_files.specs.Chain.{HasTexts, HaveTexts, IsChain, history_of}
 use Rattle.fund_payment.specs.Report.{psbt_of, spent_of}
-use Rattle.fund_files.specs.declared.held.Held.{Held}
+use Rattle.fund_files.specs.declared.chain.Chain.{Chain}
 
 -- ---- the transactions of a history have texts
 
@@ -56,12 +56,12 @@ history_texts w blocks s h =
       pending = s.pending;
     }
 
-pub held_texts : (k : Held) → IsHeld k → HasTexts k.book
-held_texts k h = subst HasTexts (sym (ap (λ (x : Held). x.book) h.is)) (history_texts k.wallet h.blocks h.rules h.texts)
+pub held_texts : (k : Chain) → IsChain k → HasTexts k.book
+held_texts k h = subst HasTexts (sym (ap (λ (x : Chain). x.book) h.is)) (history_texts k.wallet h.blocks h.rules h.texts)
 
 -- and the book is that of the wallet
-pub held_book : (k : Held) → IsHeld k → IsBookOf k.wallet k.book
-held_book k h = subst (IsBookOf k.wallet) (sym (ap (λ (x : Held). x.book) h.is)) (record { blocks = h.blocks; texts = h.texts; scripts = refl; confirmed = refl; pending = refl })
+pub held_book : (k : Chain) → IsChain k → IsBookOf k.wallet k.book
+held_book k h = subst (IsBookOf k.wallet) (sym (ap (λ (x : Chain). x.book) h.is)) (record { blocks = h.blocks; texts = h.texts; scripts = refl; confirmed = refl; pending = refl })
 
 -- ---- what is told of a coin is of the transaction that made it
 

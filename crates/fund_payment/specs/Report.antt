@@ -29,9 +29,9 @@ spent_of h c =
 unfoldable pub psbt_of : History → PlainRequest → Watch → PlainFunded → PartialTransaction
 psbt_of h r change f = record { tx = payment_of r change f; spent = map (spent_of h) f.coins }
 
--- its text: in base64, with the standard alphabet and padding
+-- its text: in the version that the request asks for, in base64 with the standard alphabet and padding
 abbrev pub psbt_text_of : History → PlainRequest → Watch → PlainFunded → List ℕ
-psbt_text_of h r change f = psbt_text (psbt_of h r change f)
+psbt_text_of h r change f = psbt_text r.psbt (psbt_of h r change f)
 
 -- a coin that is spent, as a report has it
 abbrev pub line_of : Candidate → InLine

@@ -3,7 +3,7 @@
 ghost use Rattle.std.specs.Prelude.{◌≡◌, All, map, IfOk};
 ghost use Rattle.psbt_codec.specs.Psbt.{IsPsbt};
 ghost use Rattle.fund_plan.specs.Answer.{IsSelection};
-ghost use Rattle.fund_files.specs.Chain.{IsHeld};
+ghost use Rattle.fund_files.specs.Chain.{IsChain};
 ghost use Rattle.payment_states.specs.Makers.{HasMaker};
 ghost use Rattle.fund_payment.specs.Report.{line_of, psbt_of, report_of};
 ghost use Rattle.fund_payment.specs.Shown.{ShowsCoins};
@@ -12,7 +12,7 @@ use crate::laws::inputs_show_coins;
 use crate::signing::psbt_text;
 use coin_candidates::Candidate;
 use fund_base::Memory;
-use fund_files::Held;
+use fund_files::Chain;
 use fund_plan::{Figures, Funded};
 use fund_report::{FundedReport, InLine, Report, write_report};
 use request_text::Request;
@@ -33,17 +33,17 @@ fn lines(alloc: Global, coins: &[Candidate]) -> Result<Vec<InLine>, Memory>
 }
 
 /// The report of a payment that was decided on after these tries: the coins, what the payment comes to, and the PSBT in
-/// base64, of which each input shows the value and the script of its coin. The book has the transactions that made the
+/// base64 and in the request's version, of which each input shows the value and the script of its coin. The book has the transactions that made the
 /// coins, whether or not these may be spent. The error is out of memory.
 #[tactic(auto, unfolding(crate::specs::Report::report_of))]
 pub fn payment_report(
     alloc: Global,
-    held: &Held,
+    held: &Chain,
     request: &Request,
     funded: &Funded,
     tries: u64,
 ) -> Result<Vec<u8>, Memory>
-    requires held { IsHeld held.now }
+    requires held { IsChain held.now }
     requires funded { IsSelection request.now funded.now }
     requires makers { All (HasMaker held.now.book) funded.now.coins }
     ensures value { IfOk result (λ text. text.items ≡ report_of held.now.book request.now held.now.wallet.change tries funded.now) }

@@ -1,11 +1,11 @@
 //! The payment that a signer gets.
 
-ghost use Rattle.std.specs.Prelude.{◌≡◌, ◌≤◌, All, map, IfOk, string_bytes};
+ghost use Rattle.std.specs.Prelude.{◌≡◌, ◌≤◌, ℕ, All, map, IfOk, string_bytes};
 ghost use Rattle.tx_codec.specs.declared.tx.TxIn.{TxIn};
 ghost use Rattle.psbt_codec.specs.Psbt.{IsPsbt, IsSpent};
 ghost use Rattle.coin_candidates.specs.declared.candidate.Candidate.{Candidate};
 ghost use Rattle.fund_plan.specs.Answer.{IsSelection};
-ghost use Rattle.fund_files.specs.Chain.{HasTexts, IsHeld};
+ghost use Rattle.fund_files.specs.Chain.{HasTexts, IsChain};
 ghost use Rattle.payment_states.specs.Candidates.{candidates_of};
 ghost use Rattle.payment_states.specs.Makers.{HasMaker};
 ghost use Rattle.fund_payment.specs.Report.{psbt_of, psbt_text_of, spent_of};
@@ -14,7 +14,7 @@ use coin_book::Book;
 use coin_candidates::Candidate;
 use fee_rates::is_program;
 use fund_base::{MAX_MONEY, Memory, Sat, are_bytes};
-use fund_files::Held;
+use fund_files::Chain;
 use fund_plan::{Funded, pays_in_text, unsigned};
 use payment_states::candidates_have_makers;
 use psbt_codec::{Psbt, Spent, write_text};
@@ -69,20 +69,19 @@ fn spent_of(alloc: Global, book: &Book, coins: &[Candidate]) -> Result<Vec<Spent
 }
 
 /// That the book has the transactions which made the coins that may be spent. A call does nothing.
-pub fn coins_have_makers(held: &Held)
-    requires { IsHeld held.now }
-    ensures { All (HasMaker held.now.book) (candidates_of held.now.wallet held.now.book held.now.tip.height) }
+pub fn coins_have_makers(held: &Chain)
+    requires { IsChain held.now }
+    ensures { (rate : ℕ) → All (HasMaker held.now.book) (candidates_of held.now.wallet held.now.book held.now.tip.height rate) }
 {
-    // no book has a history with a fault
-    held.book.len();
+    held.book.keeps_rules();
     candidates_have_makers();
 }
 
 /// The payment to be signed: its unsigned transaction, and for each input what a signer needs to know of its coin. The
 /// error is out of memory.
 #[tactic(auto, unfolding(crate::specs::Report::psbt_of))]
-pub fn psbt(alloc: Global, held: &Held, request: &Request, funded: &Funded) -> Result<Psbt, Memory>
-    requires held { IsHeld held.now }
+pub fn psbt(alloc: Global, held: &Chain, request: &Request, funded: &Funded) -> Result<Psbt, Memory>
+    requires held { IsChain held.now }
     requires funded { IsSelection request.now funded.now }
     ensures value { IfOk result (λ p. p ≡ psbt_of held.now.book request.now held.now.wallet.change funded.now) }
     ensures fits { IfOk result IsPsbt }
@@ -93,18 +92,18 @@ pub fn psbt(alloc: Global, held: &Held, request: &Request, funded: &Funded) -> R
     Ok(Psbt { tx, spent })
 }
 
-/// The payment to be signed, as text. The error is out of memory.
+/// The payment to be signed, as text in the version of a PSBT that the request asks for. The error is out of memory.
 pub fn psbt_text(
     alloc: Global,
-    held: &Held,
+    held: &Chain,
     request: &Request,
     funded: &Funded,
 ) -> Result<String, Memory>
-    requires held { IsHeld held.now }
+    requires held { IsChain held.now }
     requires funded { IsSelection request.now funded.now }
     ensures value { IfOk result (λ text. string_bytes text ≡ psbt_text_of held.now.book request.now held.now.wallet.change funded.now) }
     ensures fits { IfOk result (λ _. IsPsbt (psbt_of held.now.book request.now held.now.wallet.change funded.now)) }
 {
     let psbt = psbt(alloc, held, request, funded)?;
-    write_text(alloc, &psbt)
+    write_text(alloc, &psbt, request.psbt)
 }

@@ -1,5 +1,5 @@
 -- What the values of a map hold: each text that is read there is read as what it spells.
-use Rattle.std.proofs.Common.{◌≡◌, ◌≢◌, ℕ, ◌<◌, true, false, List, [], ◌∷◌, length, get_or, All, Result, Ok, Err, refl, sym, ap, subst, ◌∙◌, arith, inl, inr}
+use Rattle.std.proofs.Common.{◌≡◌, ◌≢◌, ℕ, ◌^◌, ◌<◌, true, false, List, [], ◌∷◌, length, get_or, All, Result, Ok, Err, refl, sym, ap, subst, ◌∙◌, arith, inl, inr}
 use Rattle.std.specs.Prelude.{Option, Some, None, option_map, option_and_then, is_some, IfSome, Contains, AllPairs, ◌⊎◌, ◌==◌}
 use Rattle.std.specs.Result.{result_ok}
 use Rattle.std.proofs.lemmas.Bool.{cases_Bool, both_ways, false_from_ne_true, eqb-true, eq-eqb, and_from, ltb-true, lt-ltb, and_parts}
@@ -8,8 +8,13 @@ use Rattle.std.proofs.lemmas.List.Folds.{list_all_at}
 use Rattle.std.proofs.lemmas.List.Elements.{All-head, All-tail}
 use Rattle.std.proofs.lemmas.Option.{same_Some}
 use Rattle.std.proofs.lemmas.Slice.Eq.{bytes_eq-Decides}
-use Rattle.fund_base.specs.Cursor.{IsBytes}
-use Rattle.fund_base.proofs.Laws.{bind_ok, bind_is, guard_met, ok_is, told_ok, told_is, whole_takes, whole_again}
+use Rattle.std.specs.Int.{w32, w64, to_le_bytes}
+use Rattle.fund_base.specs.CompactSize.{compact}
+use Rattle.fund_base.specs.Cursor.{At, IsBytes, take_at as bytes_at, number_at, compact_at}
+use Rattle.fund_base.specs.declared.cursor.CutFault.{CutFault}
+use Rattle.fund_base.specs.declared.cursor.CutFault.TheVariants as cuts
+use Rattle.fund_base.proofs.Laws.{bind_ok, bind_is, guard_met, ok_is, told_ok, told_is, whole_takes, whole_again, Reads}
+use Rattle.fund_base.proofs.LawsOfNumbers.{number32_reads, number64_reads, bytes_reads, count_reads}
 use Rattle.tx_codec.specs.declared.fault.TxFault.{TxFault}
 use Rattle.tx_codec.specs.declared.fault.TxFault.TheVariants as txs
 use Rattle.tx_codec.specs.declared.tx.TxIn.{TxIn}
@@ -20,8 +25,8 @@ use Rattle.tx_codec.specs.TransactionText.{bare_text, text_of, output_text, IsTr
 use Rattle.tx_codec.proofs.Laws.{tx_reads, legacy_tx_reads}
 use Rattle.tx_codec.proofs.PartLaws.{FitsBehind, output_reads}
 use Rattle.psbt_codec.specs.Fault.{unsigned_fault}
-use Rattle.psbt_codec.specs.Psbt.{Pair, HaveOtherKeys, Tells, typed, IsUnsigned, IsParent, IsPaid}
-use Rattle.psbt_codec.specs.Reading.{start, tx_in, paid_in, are_bare, unsigned_in, value_of, fits_input}
+use Rattle.psbt_codec.specs.Psbt.{Pair, HaveOtherKeys, HasKnownPair, typed, IsUnsigned, IsParent, IsPaid}
+use Rattle.psbt_codec.specs.Reading.{start, tx_in, paid_in, all_of, number32_in, number64_in, count_in, txid_in, are_bare, unsigned_in, value_of, fits_input}
 use Rattle.psbt_codec.proofs.MapMeaning.{found_typed, told_value, tells_value}
 
 -- what is decoded fits and has this text, and such a text is decoded as it
@@ -50,14 +55,41 @@ paid_decodes = record {
       ap (λ (r : Result TxOut TxFault). result_ok r) (whole_again (λ p. txs.Trailing p) (output_in []) output_text (FitsBehind []) (output_reads []) (start (output_text x)) x right refl);
 }
 
+-- what is decoded by reading all of the bytes
+all_decodes : {X : Type 0} (item : At → Result (X × At) CutFault) (text : X → List ℕ) (Fits : X → Type 0) → Reads item text Fits → Decodes (λ bytes. all_of (item (start bytes))) text Fits
+all_decodes {X = X} item text Fits laws = record {
+  takes = λ bytes x fits e. whole_takes (λ p. cuts.Truncated p) item text Fits laws (start bytes) x fits (some_ok _ x e);
+  again = λ x fits. ap (λ (r : Result X CutFault). result_ok r) (whole_again (λ p. cuts.Truncated p) item text Fits laws (start (text x)) x fits refl);
+}
+
+pub number32_decodes : Decodes number32_in (to_le_bytes w32) (λ n. n < 2 ^ 32)
+unfolding number32_in
+number32_decodes = all_decodes (number_at w32) (to_le_bytes w32) (λ n. n < 2 ^ 32) number32_reads
+
+pub number64_decodes : Decodes number64_in (to_le_bytes w64) (λ n. n < 2 ^ 64)
+unfolding number64_in
+number64_decodes = all_decodes (number_at w64) (to_le_bytes w64) (λ n. n < 2 ^ 64) number64_reads
+
+pub count_decodes : Decodes count_in compact (λ n. n < 2 ^ 64)
+unfolding count_in
+count_decodes = all_decodes compact_at compact (λ n. n < 2 ^ 64) count_reads
+
+-- a txid of 32 bytes
+abbrev pub IsTxid : List ℕ → Type 0
+IsTxid x = (length x ≡ 32) × IsBytes x
+
+pub txid_decodes : Decodes txid_in (λ x. x) IsTxid
+unfolding txid_in
+txid_decodes = all_decodes (bytes_at 32) (λ x. x) IsTxid (bytes_reads 32)
+
 -- ---- an input's map
 
 -- what is known, given by the value of a type
 pub record Known {X : Type 0} (pairs : List Pair) (kind : ℕ) (text : X → List ℕ) (Fits : X → Type 0) (known : Option X) : Type 0 where
-  pub tells : Tells pairs kind text known
+  pub tells : HasKnownPair pairs kind text known
   pub fits : IfSome known Fits
 
-decoded : {X : Type 0} (o : Option X) → is_some o ≡ true → (x : X) × (o ≡ Some x)
+pub decoded : {X : Type 0} (o : Option X) → is_some o ≡ true → (x : X) × (o ≡ Some x)
 decoded (Some x) some = (x, refl)
 decoded None some = absurd cc
 
@@ -82,7 +114,7 @@ again_at decode text Fits laws (Some x) fits = laws.again x fits
 
 -- and what a map tells is decoded from its value
 pub known_again : {X : Type 0} (decode : List ℕ → Option X) (text : X → List ℕ) (Fits : X → Type 0) → Decodes decode text Fits → (pairs : List Pair) (kind : ℕ) (known : Option X) → kind < 253
-    → Tells pairs kind text known → IfSome known Fits → option_and_then decode (value_of kind pairs) ≡ known
+    → HasKnownPair pairs kind text known → IfSome known Fits → option_and_then decode (value_of kind pairs) ≡ known
 known_again decode text Fits laws pairs kind known small tells fits = ap (λ (o : Option (List ℕ)). option_and_then decode o) (told_value pairs kind text known small tells) ∙ again_at decode text Fits laws known fits
 
 holds_at : {X : Type 0} (decode : List ℕ → Option X) (text : X → List ℕ) (Fits : X → Type 0) → Decodes decode text Fits → (known : Option X) (value : List ℕ) → IfSome known Fits → option_map text known ≡ Some value → is_some (decode value) ≡ true
@@ -91,7 +123,7 @@ holds_at decode text Fits laws (Some x) value fits e = rw (← same_Some (text x
 
 -- where a map tells it, each value of this type is decoded
 pub known_holds : {X : Type 0} (decode : List ℕ → Option X) (text : X → List ℕ) (Fits : X → Type 0) → Decodes decode text Fits → (pairs : List Pair) (kind : ℕ) (known : Option X)
-    → Tells pairs kind text known → IfSome known Fits → (p : Pair) → Contains pairs p → p ≡ typed kind p.value → is_some (decode p.value) ≡ true
+    → HasKnownPair pairs kind text known → IfSome known Fits → (p : Pair) → Contains pairs p → p ≡ typed kind p.value → is_some (decode p.value) ≡ true
 known_holds decode text Fits laws pairs kind known tells fits p has is = holds_at decode text Fits laws known p.value fits ((tells p.value).0 (rw is at has))
 
 -- ---- the transaction that an input spends from
@@ -142,7 +174,7 @@ all_bare : (inputs : List TxIn) → All IsUnsigned inputs → are_bare inputs �
 all_bare [] each = refl
 all_bare (i ∷ inputs) each = and_from _ _ (eq-eqb _ _ (ap (λ (l : List ℕ). length l) (All-head IsUnsigned i inputs each).script)) (all_bare inputs (All-tail IsUnsigned i inputs each))
 
-bare_form : (t : Transaction) → IsBare t → t.segwit ≡ false
+pub bare_form : (t : Transaction) → IsBare t → t.segwit ≡ false
 bare_form t bare = false_from_ne_true t.segwit (λ e. let some = bare.text.segregated.0 e in some.4 (ap (λ (i : TxIn). i.witness) (sym some.3) ∙ (bare.unsigned some.0 some.1 some.2).witness))
 
 pub unsigned_takes : (bytes : List ℕ) (t : Transaction) → IsBytes bytes → unsigned_in bytes ≡ Ok t → IsBare t × (bytes ≡ bare_text t)

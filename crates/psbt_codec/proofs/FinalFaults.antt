@@ -12,12 +12,12 @@ use Rattle.fund_base.proofs.Laws.{guard_met, ok_is}
 use Rattle.tx_codec.proofs.MoreBytes.{spot, longer, Carries, then}
 use Rattle.psbt_codec.specs.declared.fault.PsbtFault.{PsbtFault}
 use Rattle.psbt_codec.specs.declared.fault.PsbtFault.TheVariants.{Magic, Trailing}
+use Rattle.psbt_codec.specs.declared.psbt.Versioned.{Versioned}
 use Rattle.psbt_codec.specs.Truncation.{IsTruncated, IsCut, IsPart, BeginsNone, IsCutOff}
-use Rattle.psbt_codec.specs.PartialTransaction.{PartialTransaction}
 use Rattle.psbt_codec.specs.Psbt.{magic}
-use Rattle.psbt_codec.specs.Reading.{start, magic_at, psbt_at, read_of}
+use Rattle.psbt_codec.specs.Reading.{start, magic_at, psbt_at, versioned_of, read_of, unversioned}
 use Rattle.psbt_codec.proofs.MoreBytes.{maps_longer}
-use Rattle.psbt_codec.proofs.Readable.{read_again}
+use Rattle.psbt_codec.proofs.Readable.{read_again, versioned_again, unversioned_err, unversioned_fails}
 
 -- ---- the magic
 
@@ -86,11 +86,11 @@ psbt_longer : (bytes more : List ℕ) → Carries (IsCut bytes) more (psbt_at (s
 unfolding psbt_at
 psbt_longer bytes more = then (IsCut bytes) more _ _ _ _ (magic_longer bytes more) (λ first. weaker bytes more _ _ (maps_longer more first.1))
 
-abbrev whole : Result (PartialTransaction × At) PsbtFault → Result PartialTransaction PsbtFault
+abbrev whole : Result (Versioned × At) PsbtFault → Result Versioned PsbtFault
 whole read = whole_of Trailing read
 
 -- bytes stand after the maps, and more after these
-still_trailing : (x : PartialTransaction × At) (more : List ℕ) (e : PsbtFault) → whole (Ok x) ≡ Err e → whole (Ok (x.0, longer more x.1)) ≡ Err e
+still_trailing : (x : Versioned × At) (more : List ℕ) (e : PsbtFault) → whole (Ok x) ≡ Err e → whole (Ok (x.0, longer more x.1)) ≡ Err e
 still_trailing x more e is =
     elim (cases_Bool (length x.1.rest == 0)) [
       | inl none ↦ let f = rw none at is in absurd cc
@@ -100,7 +100,7 @@ still_trailing x more e is =
           rw longer_some f
     ]
 
-final_at : (bytes more : List ℕ) (fault : PsbtFault) (read : Result (PartialTransaction × At) PsbtFault) → psbt_at (start bytes) ≡ read → whole read ≡ Err fault → (IsCut bytes fault → ⊥) → read_of (bytes ++ more) ≡ Err fault
+final_at : (bytes more : List ℕ) (fault : PsbtFault) (read : Result (Versioned × At) PsbtFault) → psbt_at (start bytes) ≡ read → whole read ≡ Err fault → (IsCut bytes fault → ⊥) → versioned_of (bytes ++ more) ≡ Err fault
 final_at bytes more fault (Ok x) e is uncut =
     let again = (psbt_longer bytes more).ok x e in
     ap whole again ∙ still_trailing x more fault is
@@ -112,22 +112,24 @@ final_at bytes more fault (Err d) e is uncut =
     ]
 
 pub final : (bytes more : List ℕ) (fault : PsbtFault) → read_of bytes ≡ Err fault → (IsCut bytes fault → ⊥) → read_of (bytes ++ more) ≡ Err fault
-final bytes more fault is uncut = final_at bytes more fault (psbt_at (start bytes)) refl is uncut
+final bytes more fault is uncut = unversioned_fails (versioned_of (bytes ++ more)) fault (final_at bytes more fault (psbt_at (start bytes)) refl (unversioned_err (versioned_of bytes) fault is) uncut)
 
 pub begins_none : (bytes : List ℕ) (fault : PsbtFault) → read_of bytes ≡ Err fault → (IsCut bytes fault → ⊥) → BeginsNone bytes
 begins_none bytes fault is uncut more p readable = apart (read_of (bytes ++ more)) p fault (read_again (bytes ++ more) p readable) (final bytes more fault is uncut)
 
-cut_at : (bytes : List ℕ) → IsPart bytes → (read : Result (PartialTransaction × At) PsbtFault) → psbt_at (start bytes) ≡ read → IsCutOff bytes (whole read)
+cut_at : (bytes : List ℕ) → IsPart bytes → (read : Result (Versioned × At) PsbtFault) → psbt_at (start bytes) ≡ read → IsCutOff bytes (unversioned (whole read))
 cut_at bytes part (Ok x) e =
     let again = (psbt_longer bytes part.more).ok x e in
-    let all : whole (Ok (x.0, longer part.more x.1)) ≡ Ok part.psbt = ap whole (sym again) ∙ read_again (bytes ++ part.more) part.psbt part.whole in
+    let v : Versioned = record { version = part.whole.version; psbt = part.psbt } in
+    let all : whole (Ok (x.0, longer part.more x.1)) ≡ Ok v = ap whole (sym again) ∙ versioned_again (bytes ++ part.more) part.psbt part.whole in
     let end = guard_met _ _ _ _ all in
     let nothing : x.1.rest ++ part.more ≡ [] = nil_from_length _ (eqb-true _ _ end.0) in
     absurd (part.some (no_more x.1.rest part.more nothing))
 cut_at bytes part (Err d) e =
+    let v : Versioned = record { version = part.whole.version; psbt = part.psbt } in
     elim ((psbt_longer bytes part.more).err d e) [
       | inl cut ↦ record { fault = d; refused = refl; cut = cut }
-      | inr again ↦ absurd (apart (read_of (bytes ++ part.more)) part.psbt d (read_again (bytes ++ part.more) part.psbt part.whole) (ap whole again))
+      | inr again ↦ absurd (apart (versioned_of (bytes ++ part.more)) v d (versioned_again (bytes ++ part.more) part.psbt part.whole) (ap whole again))
     ]
 
 pub cut_off : (bytes : List ℕ) → IsPart bytes → IsCutOff bytes (read_of bytes)

@@ -1,20 +1,21 @@
 -- Where a map has a first pair, and what bytes begin by one.
-use Rattle.std.proofs.Common.{◌≡◌, ◌<◌, ℕ, zero, suc, List, [], ◌∷◌, ◌++◌, length, take, drop, Result, Ok, Err, refl, sym, ap, subst, ◌∙◌, arith}
-use Rattle.std.specs.Prelude.{Option, Some, None, IsOkAnd, IsSome}
+use Rattle.std.proofs.Common.{◌≡◌, ◌<◌, ℕ, zero, suc, List, [], ◌++◌, length, take, drop, Result, Ok, Err, refl, sym, ap, subst, ◌∙◌, arith, inl, inr}
+use Rattle.std.specs.Prelude.{◌⊎◌, Option, Some, None, option_and_then, IsOkAnd, IsSome}
 use Rattle.std.proofs.lemmas.List.{take-append-drop}
 use Rattle.std.proofs.lemmas.List.Elements.{All-drop}
 use Rattle.fund_base.specs.Cursor.{At, IsBytes, after}
 use Rattle.fund_base.specs.Parsing.{◌>>=◌}
-use Rattle.fund_base.proofs.Laws.{bind_ok, ok_is}
+use Rattle.fund_base.proofs.Laws.{ok_is}
 use Rattle.tx_codec.specs.Transaction.{Transaction}
 use Rattle.psbt_codec.specs.declared.fault.PsbtFault.{PsbtFault}
 use Rattle.psbt_codec.specs.declared.pairs.Part.{Part}
 use Rattle.psbt_codec.specs.declared.pairs.Part.TheVariants.{Global}
-use Rattle.psbt_codec.specs.FirstPair.{IsGlobalPair, BeginsByPair, HasFirstPair}
+use Rattle.psbt_codec.specs.FirstPair.{IsGlobalPair, BeginsByPair, HasFirstPair, IsInput}
 use Rattle.psbt_codec.specs.Psbt.{Pair, magic, typed, pair_text, global_types}
-use Rattle.psbt_codec.specs.Reading.{start, pair_at, pairs_within, ends_or, value_of, unsigned_of, global_at}
-use Rattle.psbt_codec.proofs.PairLaws.{PairFits, pair_takes}
-use Rattle.psbt_codec.proofs.Readable.{kind_of}
+use Rattle.psbt_codec.specs.Reading.{start, pair_at, pairs_within, ends_or, number32_in, told_or, value_of, version_of, unsigned_of}
+use Rattle.psbt_codec.proofs.Decoded.{decoded, number32_decodes}
+use Rattle.psbt_codec.proofs.MapMeaning.{kind_of}
+use Rattle.psbt_codec.proofs.PairLaws.{PairFits, global_fits, pair_takes}
 
 -- ---- a map in which a type has a value has a first pair
 
@@ -34,24 +35,31 @@ first_within part (suc n) at x kind e some = first_is (λ pairs next. pairs_with
 pub first_of_map : (part : Part) (at : At) (pairs : List Pair) (next : At) (kind : ℕ) → pairs_within (length at.rest) part [] at ≡ Ok (pairs, next) → IsSome (value_of kind pairs) → HasFirstPair part at
 first_of_map part at pairs next kind e some = first_within part (length at.rest) at (pairs, next) kind e some
 
-unsigned_some : (o : Option (List ℕ)) (t : Transaction) → unsigned_of o ≡ Ok t → IsSome o
+pub unsigned_some : (o : Option (List ℕ)) (t : Transaction) → unsigned_of o ≡ Ok t → IsSome o
 unsigned_some None t e = absurd cc
 unsigned_some (Some bytes) t e = refl
 
--- a global map that is read has a first pair
-pub first_of_global : (at : At) (x : Transaction × At) → global_at at ≡ Ok x → HasFirstPair Global at
-unfolding global_at
-first_of_global at x e =
-    let a = bind_ok _ _ x e in
-    let b = bind_ok _ _ x a.2 in
-    first_within Global (length at.rest) at a.0 0 a.1 (unsigned_some (value_of 0 a.0.0) b.0 b.1)
+some_version : (o : Option (List ℕ)) → told_or 0 (option_and_then number32_in o) ≡ 2 → IsSome o
+some_version None e = absurd (omega (arith, e))
+some_version (Some value) e = refl
+
+-- a global map that holds a transaction or tells version 2 has a first pair
+pub first_by : (at : At) (pairs : List Pair) (next : At) → pairs_within (length at.rest) Global [] at ≡ Ok (pairs, next) → IsSome (value_of 0 pairs) ⊎ (version_of pairs ≡ 2) → HasFirstPair Global at
+first_by at pairs next e (inl whole) = first_of_map Global at pairs next 0 e whole
+first_by at pairs next e (inr two) = first_of_map Global at pairs next 251 e (some_version (value_of 251 pairs) two)
+
+pub no_input : IsInput Global → ⊥
+no_input (inl e) = absurd cc
+no_input (inr e) = absurd cc
 
 -- ---- what the first pair is
 
-version_of : (p : Pair) → PairFits Global p → p ≡ typed 251 p.value → p.value ≡ 0 ∷ 0 ∷ 0 ∷ 0 ∷ []
-version_of p fits e =
+version_len : (p : Pair) → PairFits Global p → p ≡ typed 251 p.value → length p.value ≡ 4
+version_len p fits e =
     let q : PairFits Global (typed 251 p.value) = subst (PairFits Global) e fits in
-    q.value_is (kind_of global_types 251 q.is_pair.key (omega arith))
+    let some = global_fits q.is_pair.key.kind p.value q.value_is (kind_of global_types 251 q.is_pair.key (omega arith)) in
+    let d = decoded (number32_in p.value) some in
+    ap (λ (l : List ℕ). length l) (number32_decodes.takes p.value d.0 fits.is_pair.value_fits.0 d.1).1
 
 record FirstTaken (at : At) : Type 0 where
   pub pair : Pair
@@ -64,7 +72,7 @@ first_taken at (Err e) fits is first = absurd first
 first_taken at (Ok (None, next)) fits is first = absurd cc
 first_taken at (Ok (Some p, next)) fits is first =
     let t = pair_takes Global [] at (Some p, next) fits is in
-    record { pair = p; rest = next.rest; parts = t.0.parts; pair_is = record { pair_is = t.1.fits.is_pair; version = version_of p t.1.fits } }
+    record { pair = p; rest = next.rest; parts = t.0.parts; pair_is = record { pair_is = t.1.fits.is_pair; version = version_len p t.1.fits } }
 
 pub begins : (bytes : List ℕ) → IsBytes bytes → take 5 bytes ≡ magic → HasFirstPair Global (after 5 (start bytes)) → BeginsByPair bytes
 begins bytes fits marked first =

@@ -1,19 +1,21 @@
 -- What the pairs of a map tell, as they were read and as a readable map has them.
-use Rattle.std.proofs.Common.{◌≡◌, ◌≢◌, ℕ, zero, suc, ◌<◌, true, false, List, [], ◌∷◌, ◌++◌, length, get_or, All, refl, sym, ap, ◌∙◌, append_assoc, arith, inl, inr}
+use Rattle.std.proofs.Common.{◌≡◌, ◌≢◌, ℕ, zero, suc, ◌<◌, ◌^◌, true, false, List, [], ◌∷◌, ◌++◌, length, get_or, All, refl, sym, ap, ◌∙◌, append_assoc, arith, inl, inr, subst}
 use Rattle.std.specs.Prelude.{Option, Some, None, option_map, find, bytes_eq, Contains, AllPairs}
 use Rattle.std.specs.List.{AllByRecursion}
 use Rattle.std.proofs.lemmas.Bool.{cases_Bool, cases_order, both_ways, false_from_ne_true, or_left, or_right}
 use Rattle.std.proofs.lemmas.Option.{same_Some}
 use Rattle.std.proofs.lemmas.List.{append-nil, get_or_append_left, get_or_at, get_or_default, length-append}
-use Rattle.std.proofs.lemmas.List.Elements.{All-from_recursion, recursion_from_All, All-weaker, Contains-get_or}
+use Rattle.std.proofs.lemmas.List.Elements.{All-contains, All-from_recursion, recursion_from_All, All-weaker, Contains-get_or}
 use Rattle.std.proofs.lemmas.List.Folds.{list_any-append, list_any_none}
 use Rattle.std.proofs.lemmas.List.Kept.{AllPairs-cons}
-use Rattle.fund_base.proofs.LawsOfNumbers.{compact1}
+use Rattle.fund_base.proofs.Laws.{ok_is}
+use Rattle.fund_base.proofs.LawsOfNumbers.{compact1, count_reads}
 use Rattle.fund_base.proofs.Lists.{equal_bytes, same_bytes}
 use Rattle.fund_base.specs.CompactSize.{compact}
+use Rattle.fund_base.specs.Cursor.{At, compact_at}
 use Rattle.psbt_codec.specs.declared.pairs.Part.{Part}
-use Rattle.psbt_codec.specs.Psbt.{Pair, typed, HaveOtherKeys, IsKey, IsPair, IsMap, Tells}
-use Rattle.psbt_codec.specs.Reading.{has_key, value_of}
+use Rattle.psbt_codec.specs.Psbt.{Pair, typed, HaveOtherKeys, IsKey, IsPair, IsMap, IsString, HasKnownPair}
+use Rattle.psbt_codec.specs.Reading.{start, has_key, value_of}
 use Rattle.psbt_codec.proofs.PairLaws.{types_of, ValueIs, PairFits}
 use Rattle.psbt_codec.proofs.MapReads.{MapFits}
 
@@ -72,6 +74,21 @@ map_fits part pairs is values =
     let each : All (PairFits part) pairs = λ i d lt. record { is_pair = is.each i d lt; value_is = values (get_or pairs i d) (is.each i d lt) (Contains-get_or pairs i d lt) } in
     fit_behind part [] pairs is.distinct (recursion_from_All (PairFits part) pairs each)
 
+-- ---- a value of a type that has a meaning
+
+-- the type of a key that is a type alone
+pub kind_of : (meant : List ℕ) (kind : ℕ) (k : IsKey meant (compact kind)) → kind < 2 ^ 64 → k.kind ≡ kind
+kind_of meant kind k small =
+    let a = count_reads.again k.kind (start (compact kind)) k.key_data k.kind_fits k.parts in
+    let b = count_reads.again kind (start (compact kind)) [] small (sym (append-nil (compact kind))) in
+    ap (λ (x : ℕ × At). x.0) (ok_is (k.kind, a.next) (kind, b.next) (compact_at (start (compact kind))) a.reads b.reads)
+
+-- a value under a type alone
+pub holds_typed : (part : Part) (pairs : List Pair) → All (PairFits part) pairs → (kind : ℕ) → kind < 2 ^ 64 → (value : List ℕ) → Contains pairs (typed kind value) → IsString value × ValueIs part kind value
+holds_typed part pairs each kind small value has =
+    let p = All-contains (PairFits part) pairs (typed kind value) each has in
+    (p.is_pair.value_fits, subst (λ (k : ℕ). ValueIs part k value) (kind_of (types_of part) kind p.is_pair.key small) p.value_is)
+
 -- ---- the value of a type
 
 further : (p q : Pair) (pairs : List Pair) → Contains pairs q → Contains (p ∷ pairs) q
@@ -125,13 +142,13 @@ found_typed pairs kind value small e = rw (compact1 kind small) (found (kind ∷
 pub missing_typed : (pairs : List Pair) (kind : ℕ) (value : List ℕ) → kind < 253 → value_of kind pairs ≡ None → Contains pairs (typed kind value) → ⊥
 missing_typed pairs kind value small e c = missing (kind ∷ []) value pairs e (rw (compact1 kind small) at c)
 
-told_value_at : {X : Type 0} (pairs : List Pair) (kind : ℕ) (text : X → List ℕ) (known : Option X) → kind < 253 → Tells pairs kind text known → (o : Option (List ℕ)) → value_of kind pairs ≡ o → o ≡ option_map text known
+told_value_at : {X : Type 0} (pairs : List Pair) (kind : ℕ) (text : X → List ℕ) (known : Option X) → kind < 253 → HasKnownPair pairs kind text known → (o : Option (List ℕ)) → value_of kind pairs ≡ o → o ≡ option_map text known
 told_value_at pairs kind text known small tells (Some value) e = sym ((tells value).0 (found_typed pairs kind value small e))
 told_value_at pairs kind text None small tells None e = refl
 told_value_at pairs kind text (Some x) small tells None e = absurd (missing_typed pairs kind (text x) small e ((tells (text x)).1 refl))
 
 -- the value of a type, in a map that tells it
-pub told_value : {X : Type 0} (pairs : List Pair) (kind : ℕ) (text : X → List ℕ) (known : Option X) → kind < 253 → Tells pairs kind text known → value_of kind pairs ≡ option_map text known
+pub told_value : {X : Type 0} (pairs : List Pair) (kind : ℕ) (text : X → List ℕ) (known : Option X) → kind < 253 → HasKnownPair pairs kind text known → value_of kind pairs ≡ option_map text known
 told_value pairs kind text known small tells = told_value_at pairs kind text known small tells (value_of kind pairs) refl
 
 tells_value_at : {X : Type 0} (pairs : List Pair) (kind : ℕ) (text : X → List ℕ) (known : Option X) → kind < 253 → AllPairs HaveOtherKeys pairs → (value : List ℕ) → Contains pairs (typed kind value) → (o : Option (List ℕ)) → value_of kind pairs ≡ o → o ≡ option_map text known → option_map text known ≡ Some value
@@ -141,8 +158,16 @@ tells_value_at pairs kind text known small distinct value c (Some other) is e =
     sym e ∙ ap (λ (p : Pair). Some p.value) same
 
 -- a map whose value of a type is the text of what is known tells it
-pub tells_value : {X : Type 0} (pairs : List Pair) (kind : ℕ) (text : X → List ℕ) (known : Option X) → kind < 253 → AllPairs HaveOtherKeys pairs → value_of kind pairs ≡ option_map text known → Tells pairs kind text known
+pub tells_value : {X : Type 0} (pairs : List Pair) (kind : ℕ) (text : X → List ℕ) (known : Option X) → kind < 253 → AllPairs HaveOtherKeys pairs → value_of kind pairs ≡ option_map text known → HasKnownPair pairs kind text known
 tells_value pairs kind text known small distinct e = λ value. (
   λ c. tells_value_at pairs kind text known small distinct value c (value_of kind pairs) refl e,
   λ is. found_typed pairs kind value small (e ∙ is),
 )
+
+value_there_at : (pairs : List Pair) (kind : ℕ) (value : List ℕ) → kind < 253 → AllPairs HaveOtherKeys pairs → Contains pairs (typed kind value) → (o : Option (List ℕ)) → value_of kind pairs ≡ o → o ≡ Some value
+value_there_at pairs kind value small distinct has None is = absurd (missing_typed pairs kind value small is has)
+value_there_at pairs kind value small distinct has (Some other) is = ap (λ (p : Pair). Some p.value) (one_pair pairs (typed kind other) (typed kind value) distinct (found_typed pairs kind other small is) has refl)
+
+-- the value that a type has
+pub value_there : (pairs : List Pair) (kind : ℕ) (value : List ℕ) → kind < 253 → AllPairs HaveOtherKeys pairs → Contains pairs (typed kind value) → value_of kind pairs ≡ Some value
+value_there pairs kind value small distinct has = value_there_at pairs kind value small distinct has (value_of kind pairs) refl

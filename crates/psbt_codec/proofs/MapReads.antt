@@ -1,5 +1,5 @@
 -- A map that is read is spelled by its text, and that text is read as it.
-use Rattle.std.proofs.Common.{◌≡◌, ℕ, zero, suc, ◌<◌, ◌≤◌, List, [], ◌∷◌, ◌++◌, length, Ok, refl, sym, ap, subst, ◌∙◌, append_assoc, arith}
+use Rattle.std.proofs.Common.{◌≡◌, ℕ, zero, suc, ◌+◌, ◌^◌, ◌<◌, ◌≤◌, List, [], ◌∷◌, ◌++◌, length, Ok, refl, sym, ap, subst, ◌∙◌, append_assoc, arith}
 use Rattle.std.specs.Prelude.{Option, Some, None}
 use Rattle.std.specs.List.{flat_map}
 use Rattle.std.proofs.lemmas.List.{append-nil, length-append}
@@ -86,3 +86,10 @@ map_reads part = record {
       let room : length (map_text pairs) ≤ length at.rest = omega (arith, ap (λ (l : List ℕ). length l) is, length-append (map_text pairs) rest) in
       pairs_again part pairs [] (length at.rest) at rest fits room is;
 }
+
+-- a map ends within the bytes that are left
+pub map_room : (part : Part) (at : At) (pairs : List Pair) (next : At) → IsBytes at.rest → at.place + length at.rest < 2 ^ 64 → map_at part at ≡ Ok (pairs, next) → at.place + length (flat_map pair_text pairs) < 2 ^ 64
+unfolding map_text
+map_room part at pairs next fits bound e =
+    let t = (map_reads part).takes at (pairs, next) fits e in
+    omega (arith, bound, ap (λ (l : List ℕ). length l) t.0.parts, length-append (map_text pairs) next.rest, length-append (flat_map pair_text pairs) (0 ∷ []))

@@ -1,24 +1,23 @@
 -- Reading the maps never ends in a fault of the magic, of bytes after the maps, or of a text.
-use Rattle.std.proofs.Common.{◌≡◌, ℕ, zero, suc, Bool, true, false, cond, List, [], ◌∷◌, ◌++◌, length, take, min, Result, Ok, Err, refl, subst}
-use Rattle.std.specs.Prelude.{Option, Some, None, is_some, not, ◌==◌}
-use Rattle.std.specs.Int.{w32, from_le_bytes}
+use Rattle.std.proofs.Common.{◌≡◌, ℕ, zero, suc, Bool, true, false, cond, List, [], ◌∷◌, ◌++◌, length, ◌+◌, Result, Ok, Err, refl, subst}
+use Rattle.std.specs.Prelude.{Option, Some, None, option_and_then, sum_by, ◌==◌}
 use Rattle.fund_base.specs.declared.cursor.CutFault.{CutFault}
 use Rattle.fund_base.specs.declared.cursor.CutFault.TheVariants as cuts
 use Rattle.fund_base.specs.Cursor.{At, take_at, compact_at}
-use Rattle.fund_base.specs.Parsing.{◌>>=◌, fault_as, string_at, whole_of}
+use Rattle.fund_base.specs.Parsing.{◌>>=◌, fault_as, string_at, whole_of, many_from}
 use Rattle.tx_codec.specs.Reading.{legacy_tx_at}
 use Rattle.tx_codec.specs.declared.fault.TxFault.{TxFault}
 use Rattle.tx_codec.specs.declared.fault.TxFault.TheVariants as txs
 use Rattle.tx_codec.specs.declared.tx.TxIn.{TxIn}
 use Rattle.tx_codec.specs.declared.tx.TxOut.{TxOut}
 use Rattle.psbt_codec.specs.declared.fault.PsbtFault.{PsbtFault}
-use Rattle.psbt_codec.specs.declared.fault.PsbtFault.TheVariants.{Magic, Truncated, RepeatKey, NoUnsigned, NotBare, Field, Version, WrongParent, Trailing, NotBase64}
+use Rattle.psbt_codec.specs.declared.fault.PsbtFault.TheVariants.{Magic, Truncated, RepeatKey, NoUnsigned, Unsigned, NotBare, Field, Version, Mixed, Lacking, RequiredLock, WrongParent, Trailing, NotBase64}
 use Rattle.psbt_codec.specs.declared.pairs.Part.{Part}
-use Rattle.psbt_codec.specs.declared.pairs.Part.TheVariants.{Global, Input, Output}
+use Rattle.psbt_codec.specs.declared.pairs.Part.TheVariants.{Global, Input, Output, InputFields, OutputFields}
 use Rattle.psbt_codec.specs.declared.psbt.Spent.{Spent}
-use Rattle.psbt_codec.specs.Fault.{cut_fault, type_fault, unsigned_fault}
-use Rattle.psbt_codec.specs.Psbt.{Pair}
-use Rattle.psbt_codec.specs.Reading.{cut, start, tx_in, paid_in, unless, spent_in, kind_in, version_fits, input_value_fits, value_fits, keyed_at, pair_at, pairs_within, ends_or, unsigned_in, unsigned_of, global_at, input_at, each_at, next_input_at, next_output_at, maps_at, value_of, map_at}
+use Rattle.psbt_codec.specs.Fault.{cut_fault, type_fault, unsigned_fault, shown}
+use Rattle.psbt_codec.specs.Psbt.{Pair, pair_text}
+use Rattle.psbt_codec.specs.Reading.{cut, start, number32_in, number64_in, count_in, txid_in, form_fits, unless, spent_in, kind_in, value_fits, keyed_at, pair_at, pairs_within, ends_or, unsigned_in, unsigned_of, input_at, each_at, next_input_at, next_output_at, whole_at, is_wrong, wrong_fault, right_from, needed, forms_at, counts_at, has_lock, input_in, input_fields_at, next_input_fields, output_in, output_fields_at, next_output_fields, payment_of, fields_at, in_version, behind_global, version_of, maps_at, value_of, map_at}
 
 -- the faults that don't lie within the maps
 abbrev pub is_outer : PsbtFault → Bool
@@ -88,28 +87,9 @@ unless_inner : (right : Bool) (d e : PsbtFault) → is_outer d ≡ false → unl
 unless_inner true d e inner is = done tt e is
 unless_inner false d e inner is = fails d e inner is
 
-version_inner : (place : ℕ) (value : List ℕ) → IsInner (version_fits place value)
-unfolding version_fits
-version_inner place value =
-    let version = from_le_bytes w32 (take 4 value) in
-    record {
-      inner = λ e is. either (not (length value == 4)) (Err (Field place)) (unless (version == 0) (Version version)) e is (fails (Field place) e refl) (unless_inner (version == 0) (Version version) e refl);
-    }
-
-input_value_inner : (place kind : ℕ) (value : List ℕ) → IsInner (input_value_fits place kind value)
-input_value_inner place kind value =
-    let whole = unless (is_some (tx_in value)) (Field place) in
-    let paid = unless (is_some (paid_in value)) (Field place) in
-    record {
-      inner = λ e is.
-          either (kind == 0) whole (cond (kind == 1) paid (Ok tt)) e is (unless_inner (is_some (tx_in value)) (Field place) e refl) (λ other. either (kind == 1) paid (Ok tt) e other (unless_inner (is_some (paid_in value)) (Field place) e refl) (done tt e));
-    }
-
 value_inner : (part : Part) (place kind : ℕ) (value : List ℕ) → IsInner (value_fits part place kind value)
 unfolding value_fits
-value_inner Global place kind value = record { inner = λ e is. either (kind == 251) (version_fits place value) (Ok tt) e is (λ version. (version_inner place value).inner e version) (done tt e) }
-value_inner Input place kind value = input_value_inner place kind value
-value_inner Output place kind value = record { inner = λ e is. done tt e is }
+value_inner part place kind value = record { inner = λ e is. unless_inner (form_fits part kind value) (Field place) e refl is }
 
 keyed_inner : (part : Part) (before : List Pair) (place len : ℕ) (at : At) → IsInner (keyed_at part before place len at)
 unfolding keyed_at
@@ -173,16 +153,6 @@ unsigned_of_inner : (o : Option (List ℕ)) → IsInner (unsigned_of o)
 unsigned_of_inner None = record { inner = λ e is. fails NoUnsigned e refl is }
 unsigned_of_inner (Some bytes) = unsigned_in_inner bytes
 
-global_inner : (at : At) → IsInner (global_at at)
-unfolding global_at
-global_inner at = record {
-  inner = λ e is.
-      let a = then _ _ e is in
-      a (map_inner Global at) (λ pairs ea.
-      let b = then _ _ e ea in
-      b (unsigned_of_inner (value_of 0 pairs.0)) (λ tx. done (tx, pairs.1) e));
-}
-
 input_inner : (index : ℕ) (input : TxIn) (at : At) → IsInner (input_at index input at)
 unfolding input_at
 input_inner index input at = record {
@@ -190,7 +160,7 @@ input_inner index input at = record {
       let a = then _ _ e is in
       a (map_inner Input at) (λ pairs ea.
       let b = either _ _ _ e ea in
-      b (done (spent_in pairs.0, pairs.1) e) (fails (WrongParent (min index 4_294_967_295)) e refl));
+      b (done (spent_in pairs.0, pairs.1) e) (fails (WrongParent (shown index)) e refl));
 }
 
 each_inner : {S X : Type 0} (part : S → X → At → Result (S × At) PsbtFault) → ((before : S) (x : X) (at : At) → IsInner (part before x at)) → (xs : List X) (before : S) (at : At) → IsInner (each_at part before xs at)
@@ -218,14 +188,155 @@ next_output_inner before output at = record {
       a (map_inner Output at) (λ pairs. done (tt, pairs.1) e);
 }
 
+whole_inner : (pairs : List Pair) (at : At) → IsInner (whole_at pairs at)
+unfolding whole_at
+whole_inner pairs at = record {
+  inner = λ e is.
+      let a = then _ _ e is in
+      a (unsigned_of_inner (value_of 0 pairs)) (λ tx ea.
+      let b = then _ _ e ea in
+      b (each_inner next_input_at next_input_inner tx.inputs [] at) (λ spent eb.
+      let c = then _ _ e eb in
+      c (each_inner next_output_at next_output_inner tx.outputs tt spent.1) (λ outputs. done (record { tx = tx; spent = spent.0 }, outputs.1) e)));
+}
+
+-- ---- version 2
+
+wrong_inner : (kind place : ℕ) → is_outer (wrong_fault kind place) ≡ false
+wrong_inner kind place = by (kind == 0)
+  where
+    by : (b : Bool) → is_outer (cond b (Mixed place) (Field place)) ≡ false
+    by true = refl
+    by false = refl
+
+right_inner : (kind place : ℕ) (pairs : List Pair) → IsInner (right_from kind place pairs)
+unfolding right_from
+right_inner kind place [] = record { inner = λ e is. done tt e is }
+right_inner kind place (p ∷ pairs) = record {
+  inner = λ e is.
+      let b = either (is_wrong kind p) _ _ e is in
+      b (fails (wrong_fault kind place) e (wrong_inner kind place)) (λ later. (right_inner kind (place + length (pair_text p)) pairs).inner e later);
+}
+
+needed_inner : {X : Type 0} (kind : ℕ) (o : Option X) → IsInner (needed kind o)
+needed_inner kind (Some x) = record { inner = λ e is. done x e is }
+needed_inner kind None = record { inner = λ e is. fails (Lacking kind) e refl is }
+
+forms_inner : (place : ℕ) (pairs : List Pair) → IsInner (forms_at place pairs)
+unfolding forms_at
+forms_inner place pairs = record {
+  inner = λ e is.
+      let a = then _ _ e is in
+      a (right_inner 0 place pairs) (λ _ ea.
+      let b = then _ _ e ea in
+      b (right_inner 2 place pairs) (λ _ eb.
+      let c = then _ _ e eb in
+      c (right_inner 3 place pairs) (λ _ ec.
+      let d = then _ _ e ec in
+      d (right_inner 4 place pairs) (λ _ ed. (right_inner 5 place pairs).inner e ed))));
+}
+
+counts_inner : (place : ℕ) (pairs : List Pair) → IsInner (counts_at place pairs)
+unfolding counts_at
+counts_inner place pairs = record {
+  inner = λ e is.
+      let a = then _ _ e is in
+      a (forms_inner place pairs) (λ _ ea.
+      let b = then _ _ e ea in
+      b (needed_inner 2 (option_and_then number32_in (value_of 2 pairs))) (λ version eb.
+      let c = then _ _ e eb in
+      c (needed_inner 4 (option_and_then count_in (value_of 4 pairs))) (λ inputs ec.
+      let d = then _ _ e ec in
+      d (needed_inner 5 (option_and_then count_in (value_of 5 pairs))) (λ outputs ed.
+      let f = either (inputs == 0) _ _ e ed in
+      f (fails (Unsigned txs.NoInputs) e refl) (λ ef.
+      let g = either (outputs == 0) _ _ e ef in
+      g (fails (Unsigned txs.NoOutputs) e refl) (done _ e))))));
+}
+
+input_in_inner : (number : ℕ) (pairs : List Pair) → IsInner (input_in number pairs)
+unfolding input_in
+input_in_inner number pairs = record {
+  inner = λ e is.
+      let a = then _ _ e is in
+      a (needed_inner 14 (option_and_then txid_in (value_of 14 pairs))) (λ txid ea.
+      let b = then _ _ e ea in
+      b (needed_inner 15 (option_and_then number32_in (value_of 15 pairs))) (λ index eb.
+      let c = either (has_lock pairs) _ _ e eb in
+      c (fails (RequiredLock (shown number)) e refl) (done _ e)));
+}
+
+next_fields_inner : (before : List (TxIn × Spent)) (at : At) → IsInner (next_input_fields before at)
+unfolding input_fields_at
+next_fields_inner before at = record {
+  inner = λ e is.
+      let a = then _ _ e is in
+      a (map_inner InputFields at) (λ pairs ea.
+      let b = then _ _ e ea in
+      b (input_in_inner (length before) pairs.0) (λ input eb.
+      let c = either _ _ _ e eb in
+      c (done ((input, spent_in pairs.0), pairs.1) e) (fails (WrongParent (shown (length before))) e refl)));
+}
+
+output_in_inner : (number sum : ℕ) (pairs : List Pair) → IsInner (output_in number sum pairs)
+unfolding output_in
+output_in_inner number sum pairs = record {
+  inner = λ e is.
+      let a = then _ _ e is in
+      a (needed_inner 3 (option_and_then number64_in (value_of 3 pairs))) (λ value ea.
+      let b = then _ _ e ea in
+      b (needed_inner 4 (value_of 4 pairs)) (λ script eb.
+      let c = either _ _ _ e eb in
+      c (fails (Unsigned (txs.ValueRange (shown number))) e refl) (done _ e)));
+}
+
+next_output_fields_inner : (before : List TxOut) (at : At) → IsInner (next_output_fields before at)
+unfolding output_fields_at
+next_output_fields_inner before at = record {
+  inner = λ e is.
+      let a = then _ _ e is in
+      a (map_inner OutputFields at) (λ pairs ea.
+      let b = then _ _ e ea in
+      b (output_in_inner (length before) (sum_by (λ (o : TxOut). o.value) before) pairs.0) (λ output. done (output, pairs.1) e));
+}
+
+many_inner : {X : Type 0} (item : List X → At → Result (X × At) PsbtFault) → ((before : List X) (at : At) → IsInner (item before at)) → (n : ℕ) (before : List X) (at : At) → IsInner (many_from item n before at)
+unfolding many_from
+many_inner item inner zero before at = record { inner = λ e is. done (before, at) e is }
+many_inner item inner (suc n) before at = record {
+  inner = λ e is.
+      let a = then _ _ e is in
+      a (inner before at) (λ read. (many_inner item inner n (before ++ read.0 ∷ []) read.1).inner e);
+}
+
+fields_inner : (place : ℕ) (pairs : List Pair) (at : At) → IsInner (fields_at place pairs at)
+unfolding fields_at
+fields_inner place pairs at = record {
+  inner = λ e is.
+      let a = then _ _ e is in
+      a (counts_inner place pairs) (λ counts ea.
+      let b = then _ _ e ea in
+      b (many_inner next_input_fields next_fields_inner counts.inputs [] at) (λ inputs eb.
+      let c = then _ _ e eb in
+      c (many_inner next_output_fields next_output_fields_inner counts.outputs [] inputs.1) (λ outputs. done (payment_of counts inputs.0 outputs.0, outputs.1) e)));
+}
+
+-- ---- the maps of either version
+
+behind_inner : (place : ℕ) (pairs : List Pair) (at : At) → IsInner (behind_global place pairs at)
+unfolding behind_global
+behind_inner place pairs at = record {
+  inner = λ e is.
+      let a = either (version_of pairs == 0) _ _ e is in
+      a (λ first. let f = then (whole_at pairs at) (in_version 0) e first in f (whole_inner pairs at) (λ read. done _ e)) (λ other.
+      let b = either (version_of pairs == 2) _ _ e other in
+      b (λ second. let f = then (fields_at place pairs at) (in_version 2) e second in f (fields_inner place pairs at) (λ read. done _ e)) (fails (Version (version_of pairs)) e refl));
+}
+
 pub maps_inner : (at : At) → IsInner (maps_at at)
 unfolding maps_at
 maps_inner at = record {
   inner = λ e is.
       let a = then _ _ e is in
-      a (global_inner at) (λ tx ea.
-      let b = then _ _ e ea in
-      b (each_inner next_input_at next_input_inner tx.0.inputs [] tx.1) (λ spent eb.
-      let c = then _ _ e eb in
-      c (each_inner next_output_at next_output_inner tx.0.outputs tt spent.1) (λ outputs. done (record { tx = tx.0; spent = spent.0 }, outputs.1) e)));
+      a (map_inner Global at) (λ pairs. (behind_inner at.place pairs.0 pairs.1).inner e);
 }

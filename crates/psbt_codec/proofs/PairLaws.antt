@@ -1,19 +1,18 @@
 -- A pair that is read is spelled by its text, and that text is read as it.
-use Rattle.std.proofs.Common.{◌≡◌, ℕ, zero, suc, ◌^◌, ◌<◌, true, false, ltb, get_or, List, [], ◌∷◌, ◌++◌, length, take, Ok, refl, sym, ap, subst, ◌∙◌, append_assoc, arith, inl, inr}
+use Rattle.std.proofs.Common.{◌≡◌, ℕ, zero, suc, ◌^◌, ◌<◌, Bool, true, false, cond, ltb, get_or, List, [], ◌∷◌, ◌++◌, length, Ok, refl, sym, ap, subst, ◌∙◌, append_assoc, arith, inl, inr}
 use Rattle.std.specs.Prelude.{Option, Some, None, Contains, not, ◌||◌, ◌&&◌, ◌==◌, is_some}
-use Rattle.std.specs.Int.{w32, from_le_bytes, to_le_bytes}
-use Rattle.std.proofs.lemmas.Bool.{eqb-true, eq-eqb, ne_eqb, or_cases, or_left, or_right, not-false, not_from_true, and_cases, and_left, and_right, cond_both, both_ways, cases_Bool}
-use Rattle.std.proofs.lemmas.List.{nil_from_length, take_all, length-append}
+use Rattle.std.proofs.lemmas.Bool.{eqb-true, eq-eqb, ne_eqb, or_cases, or_left, or_right, not-false, not_from_true, and_cases, and_from, and_left, and_parts, and_right, cond_both, both_ways, cases_Bool}
+use Rattle.std.proofs.lemmas.List.{nil_from_length, length-append}
 use Rattle.fund_base.specs.CompactSize.{compact, prefixed}
 use Rattle.fund_base.specs.Cursor.{At, IsBytes, take_at as bytes_at, compact_at}
 use Rattle.fund_base.specs.Parsing.{string_at}
 use Rattle.fund_base.proofs.Laws.{bind_ok, bind_is, guard_ok, guard_met, ok_is, told_ok, told_is, Takes, takes_then, Again, Reads, reads_told}
-use Rattle.fund_base.proofs.LawsOfNumbers.{wide32, bytes_reads, count_reads, string_reads}
+use Rattle.fund_base.proofs.LawsOfNumbers.{bytes_reads, count_reads, string_reads}
 use Rattle.psbt_codec.specs.declared.pairs.Part.{Part}
-use Rattle.psbt_codec.specs.declared.pairs.Part.TheVariants.{Global, Input, Output}
+use Rattle.psbt_codec.specs.declared.pairs.Part.TheVariants.{Global, Input, Output, InputFields, OutputFields}
 use Rattle.psbt_codec.specs.Fault.{cut_fault, type_fault}
-use Rattle.psbt_codec.specs.Psbt.{Pair, pair_text, IsString, IsKey, IsPair, global_types, input_types}
-use Rattle.psbt_codec.specs.Reading.{cut, start, tx_in, paid_in, has_meaning, kind_in, version_fits, input_value_fits, value_fits, has_key, keyed_at, pair_at}
+use Rattle.psbt_codec.specs.Psbt.{Pair, pair_text, IsString, IsKey, IsPair, global_types, input_types, input_field_types, output_field_types}
+use Rattle.psbt_codec.specs.Reading.{cut, start, tx_in, paid_in, number32_in, number64_in, txid_in, has_meaning, kind_in, form_fits, input_field_fits, spent_fits, value_fits, has_key, keyed_at, pair_at}
 
 bytes : (n : ℕ) → Reads (λ at. cut (bytes_at n at)) (λ x. x) (λ x. (length x ≡ n) × IsBytes x)
 bytes n = reads_told cut_fault (bytes_at n) (λ x. x) (λ x. (length x ≡ n) × IsBytes x) (bytes_reads n)
@@ -31,6 +30,8 @@ abbrev pub types_of : Part → List ℕ
 types_of Global = global_types
 types_of Input = input_types
 types_of Output = []
+types_of InputFields = input_field_types
+types_of OutputFields = output_field_types
 
 one_of_two : (m n kind : ℕ) → (kind == m || kind == n) ≡ true → Contains (m ∷ n ∷ []) kind
 one_of_two m n kind e =
@@ -44,15 +45,47 @@ is_one_of m n kind zero lt e = or_left (kind == m) (kind == n) (eq-eqb kind m (s
 is_one_of m n kind (suc zero) lt e = or_right (kind == m) (kind == n) (eq-eqb kind n (sym e))
 is_one_of m n kind (suc (suc i)) lt e = absurd (omega arith)
 
-meaning_listed : (part : Part) (kind : ℕ) → has_meaning part kind ≡ true → Contains (types_of part) kind
+own_listed : (kind : ℕ) → (kind == 14 || (kind == 15 || kind == 16)) ≡ true → Contains input_field_types kind
+own_listed kind e =
+    elim (or_cases (kind == 14) (kind == 15 || kind == 16) e) [
+      | inl txid ↦ (2, omega arith, sym (eqb-true kind 14 txid))
+      | inr later ↦ elim (or_cases (kind == 15) (kind == 16) later) [
+        | inl index ↦ (3, omega arith, sym (eqb-true kind 15 index))
+        | inr sequence ↦ (4, omega arith, sym (eqb-true kind 16 sequence))
+      ]
+    ]
+
+field_listed : (kind : ℕ) → has_meaning InputFields kind ≡ true → Contains input_field_types kind
+field_listed kind e =
+    elim (or_cases (kind == 0 || kind == 1) (kind == 14 || (kind == 15 || kind == 16)) e) [
+      | inl known ↦ elim (or_cases (kind == 0) (kind == 1) known) [
+        | inl whole ↦ (0, omega arith, sym (eqb-true kind 0 whole))
+        | inr paid ↦ (1, omega arith, sym (eqb-true kind 1 paid))
+      ]
+      | inr own ↦ own_listed kind own
+    ]
+
+is_field : (kind i : ℕ) → i < 5 → get_or input_field_types i kind ≡ kind → has_meaning InputFields kind ≡ true
+is_field kind zero lt e = or_left (kind == 0 || kind == 1) _ (or_left (kind == 0) (kind == 1) (eq-eqb kind 0 (sym e)))
+is_field kind (suc zero) lt e = or_left (kind == 0 || kind == 1) _ (or_right (kind == 0) (kind == 1) (eq-eqb kind 1 (sym e)))
+is_field kind (suc (suc zero)) lt e = or_right (kind == 0 || kind == 1) _ (or_left (kind == 14) _ (eq-eqb kind 14 (sym e)))
+is_field kind (suc (suc (suc zero))) lt e = or_right (kind == 0 || kind == 1) _ (or_right (kind == 14) _ (or_left (kind == 15) _ (eq-eqb kind 15 (sym e))))
+is_field kind (suc (suc (suc (suc zero)))) lt e = or_right (kind == 0 || kind == 1) _ (or_right (kind == 14) _ (or_right (kind == 15) _ (eq-eqb kind 16 (sym e))))
+is_field kind (suc (suc (suc (suc (suc i))))) lt e = absurd (omega arith)
+
+pub meaning_listed : (part : Part) (kind : ℕ) → has_meaning part kind ≡ true → Contains (types_of part) kind
 meaning_listed Global kind e = one_of_two 0 251 kind e
 meaning_listed Input kind e = one_of_two 0 1 kind e
 meaning_listed Output kind e = absurd cc
+meaning_listed InputFields kind e = field_listed kind e
+meaning_listed OutputFields kind e = one_of_two 3 4 kind e
 
-listed_meaning : (part : Part) (kind : ℕ) → Contains (types_of part) kind → has_meaning part kind ≡ true
+pub listed_meaning : (part : Part) (kind : ℕ) → Contains (types_of part) kind → has_meaning part kind ≡ true
 listed_meaning Global kind c = is_one_of 0 251 kind c.0 c.1 c.2
 listed_meaning Input kind c = is_one_of 0 1 kind c.0 c.1 c.2
 listed_meaning Output kind c = absurd (omega (arith, c.1))
+listed_meaning InputFields kind c = is_field kind c.0 c.1 c.2
+listed_meaning OutputFields kind c = is_one_of 3 4 kind c.0 c.1 c.2
 
 -- a key whose type was read
 pub record KeyOf (part : Part) (kind : ℕ) (key : List ℕ) : Type 0 where
@@ -95,57 +128,80 @@ kind_again part pair_place key_place key k =
 
 -- a value that is as its type asks
 abbrev pub ValueIs : Part → ℕ → List ℕ → Type 0
-ValueIs Global kind value = kind ≡ 251 → value ≡ 0 ∷ 0 ∷ 0 ∷ 0 ∷ []
-ValueIs Input kind value = (kind ≡ 0 → is_some (tx_in value) ≡ true) × (kind ≡ 1 → is_some (paid_in value) ≡ true)
-ValueIs Output kind value = Unit {0}
+ValueIs part kind value = form_fits part kind value ≡ true
 
-version_takes : (place : ℕ) (value : List ℕ) → IsBytes value → version_fits place value ≡ Ok tt → value ≡ 0 ∷ 0 ∷ 0 ∷ 0 ∷ []
-unfolding version_fits
-version_takes place value fits e =
-    let g = guard_ok _ _ _ _ e in
-    let z = guard_met _ _ _ _ g.1 in
-    let len : length value ≡ 4 = eqb-true _ _ (not-false _ g.0) in
-    let four : take 4 value ≡ value = take_all 4 value (omega (arith, len)) in
-    let none : from_le_bytes w32 value ≡ 0 = ap (λ (l : List ℕ). from_le_bytes w32 l) (sym four) ∙ eqb-true _ _ z.0 in
-    sym (wide32.back value len fits) ∙ ap (λ (n : ℕ). to_le_bytes w32 n) none
-
-version_again : (place : ℕ) (value : List ℕ) → value ≡ 0 ∷ 0 ∷ 0 ∷ 0 ∷ [] → version_fits place value ≡ Ok tt
-unfolding version_fits
-version_again place value is = rw is refl
-
-input_value_takes : (place kind : ℕ) (value : List ℕ) → input_value_fits place kind value ≡ Ok tt → ValueIs Input kind value
-input_value_takes place kind value e = (
-  λ whole. (guard_met _ _ _ _ (rw (eq-eqb kind 0 whole) at e)).0,
-  λ paid.
-      let other : (kind == 0) ≡ false = ne_eqb kind 0 (λ none. absurd (omega (arith, paid, none))) in
-      (guard_met _ _ _ _ (rw (other, eq-eqb kind 1 paid) at e)).0,
-)
-
-input_value_again : (place kind : ℕ) (value : List ℕ) → ValueIs Input kind value → input_value_fits place kind value ≡ Ok tt
-input_value_again place kind value is =
-    elim (cases_Bool (kind == 0)) [
-      | inl whole ↦ rw (whole, is.0 (eqb-true kind 0 whole)) refl
-      | inr other ↦ elim (cases_Bool (kind == 1)) [
-        | inl paid ↦ rw (other, paid, is.1 (eqb-true kind 1 paid)) refl
-        | inr neither ↦ rw (other, neither) refl
-      ]
-    ]
-
-value_takes : (part : Part) (place kind : ℕ) (value : List ℕ) → IsBytes value → value_fits part place kind value ≡ Ok tt → ValueIs part kind value
+value_takes : (part : Part) (place kind : ℕ) (value : List ℕ) → value_fits part place kind value ≡ Ok tt → ValueIs part kind value
 unfolding value_fits
-value_takes Global place kind value fits e = λ version. version_takes place value fits (rw (eq-eqb kind 251 version) at e)
-value_takes Input place kind value fits e = input_value_takes place kind value e
-value_takes Output place kind value fits e = tt
+value_takes part place kind value e = (guard_met _ _ _ _ e).0
 
 value_again : (part : Part) (place kind : ℕ) (value : List ℕ) → ValueIs part kind value → value_fits part place kind value ≡ Ok tt
 unfolding value_fits
-value_again Global place kind value is =
-    elim (cases_Bool (kind == 251)) [
-      | inl version ↦ rw version (version_again place value (is (eqb-true kind 251 version)))
-      | inr other ↦ rw other refl
-    ]
-value_again Input place kind value is = input_value_again place kind value is
-value_again Output place kind value is = refl
+value_again part place kind value is = rw is refl
+
+-- what holds of one of two holds of what a test picks
+pub picks : (b x y : Bool) → (b ≡ true → x ≡ true) → (b ≡ false → y ≡ true) → cond b x y ≡ true
+picks true x y h k = h refl
+picks false x y h k = k refl
+
+-- ---- the values of each part
+
+spent_is : (kind : ℕ) (value : List ℕ) → (kind ≡ 0 → is_some (tx_in value) ≡ true) → (kind ≡ 1 → is_some (paid_in value) ≡ true) → spent_fits kind value ≡ true
+spent_is kind value whole paid =
+    picks (kind == 0) _ _ (λ e. whole (eqb-true kind 0 e)) (λ _.
+    picks (kind == 1) _ true (λ e. paid (eqb-true kind 1 e)) (λ _. refl))
+
+pub global_value : (kind : ℕ) (value : List ℕ) → (kind ≡ 251 → is_some (number32_in value) ≡ true) → ValueIs Global kind value
+global_value kind value version = picks (kind == 251) _ true (λ e. version (eqb-true kind 251 e)) (λ _. refl)
+
+pub input_value : (kind : ℕ) (value : List ℕ) → (kind ≡ 0 → is_some (tx_in value) ≡ true) → (kind ≡ 1 → is_some (paid_in value) ≡ true) → ValueIs Input kind value
+input_value kind value whole paid = spent_is kind value whole paid
+
+-- what a value of an input's map of version 2 must be
+pub record FieldFits (kind : ℕ) (value : List ℕ) : Type 0 where
+  pub whole : kind ≡ 0 → is_some (tx_in value) ≡ true
+  pub paid : kind ≡ 1 → is_some (paid_in value) ≡ true
+  pub txid : kind ≡ 14 → is_some (txid_in value) ≡ true
+  pub index : kind ≡ 15 → is_some (number32_in value) ≡ true
+  pub sequence : kind ≡ 16 → is_some (number32_in value) ≡ true
+
+own_is : (kind : ℕ) (value : List ℕ) → FieldFits kind value → input_field_fits kind value ≡ true
+own_is kind value f =
+    picks (kind == 14) _ _ (λ e. f.txid (eqb-true kind 14 e)) (λ _.
+    picks (kind == 15 || kind == 16) _ true (λ e. elim (or_cases (kind == 15) (kind == 16) e) [
+      | inl index ↦ f.index (eqb-true kind 15 index)
+      | inr sequence ↦ f.sequence (eqb-true kind 16 sequence)
+    ]) (λ _. refl))
+
+pub field_value : (kind : ℕ) (value : List ℕ) → FieldFits kind value → ValueIs InputFields kind value
+field_value kind value f = and_from (spent_fits kind value) (input_field_fits kind value) (spent_is kind value f.whole f.paid) (own_is kind value f)
+
+pub output_value : (kind : ℕ) (value : List ℕ) → (kind ≡ 3 → is_some (number64_in value) ≡ true) → ValueIs OutputFields kind value
+output_value kind value amount = picks (kind == 3) _ true (λ e. amount (eqb-true kind 3 e)) (λ _. refl)
+
+-- the same of a value whose type is known
+at_kind : (part : Part) (kind known : ℕ) (value : List ℕ) → kind ≡ known → ValueIs part kind value → ValueIs part known value
+at_kind part kind known value is fits = subst (λ (k : ℕ). ValueIs part k value) is fits
+
+pub global_fits : (kind : ℕ) (value : List ℕ) → ValueIs Global kind value → kind ≡ 251 → is_some (number32_in value) ≡ true
+global_fits kind value fits is = at_kind Global kind 251 value is fits
+
+pub whole_fits : (kind : ℕ) (value : List ℕ) → ValueIs Input kind value → kind ≡ 0 → is_some (tx_in value) ≡ true
+whole_fits kind value fits is = at_kind Input kind 0 value is fits
+
+pub paid_fits : (kind : ℕ) (value : List ℕ) → ValueIs Input kind value → kind ≡ 1 → is_some (paid_in value) ≡ true
+paid_fits kind value fits is = at_kind Input kind 1 value is fits
+
+pub fields_fit : (kind : ℕ) (value : List ℕ) → ValueIs InputFields kind value → FieldFits kind value
+fields_fit kind value fits = record {
+  whole = λ is. (and_parts (spent_fits 0 value) _ (at_kind InputFields kind 0 value is fits)).0;
+  paid = λ is. (and_parts (spent_fits 1 value) _ (at_kind InputFields kind 1 value is fits)).0;
+  txid = λ is. (and_parts (spent_fits 14 value) (input_field_fits 14 value) (at_kind InputFields kind 14 value is fits)).1;
+  index = λ is. (and_parts (spent_fits 15 value) (input_field_fits 15 value) (at_kind InputFields kind 15 value is fits)).1;
+  sequence = λ is. (and_parts (spent_fits 16 value) (input_field_fits 16 value) (at_kind InputFields kind 16 value is fits)).1;
+}
+
+pub amount_fits : (kind : ℕ) (value : List ℕ) → ValueIs OutputFields kind value → kind ≡ 3 → is_some (number64_in value) ≡ true
+amount_fits kind value fits is = at_kind OutputFields kind 3 value is fits
 
 -- ---- a pair after others of its map
 
@@ -175,7 +231,7 @@ keyed_takes part before place len at x fits small e =
     let ta = (bytes len).takes at a.0 fits a.1 in
     let tc = string.takes a.0.1 c.0 ta.0.rest_fits c.1 in
     let key = kind_takes part place at.place a.0.0 b.0 ta.1.1 b.1 in
-    let value = value_takes part place b.0 c.0.0 tc.1.0 d.1 in
+    let value = value_takes part place b.0 c.0.0 d.1 in
     let made : Pair × At = (record { key = a.0.0; value = c.0.0 }, c.0.1) in
     let is_pair : IsPair (types_of part) made.0 = record { key = key.is_key; key_fits = (ta.1.1, omega (arith, ta.1.0)); value_fits = tc.1 } in
     let right : FitsBehind part before made.0 = record { fits = record { is_pair = is_pair; value_is = rw key.kind_is value }; fresh = g.0 } in

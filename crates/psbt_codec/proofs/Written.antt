@@ -1,66 +1,18 @@
 -- What is written of a PSBT is readable as it.
-use Rattle.std.proofs.Common.{◌≡◌, ◌≢◌, ℕ, ◌<◌, ◌^◌, List, [], ◌∷◌, ◌++◌, length, get_or, map, All, refl, sym, ap, subst, ◌∙◌, arith}
-use Rattle.std.specs.Prelude.{Option, Some, None}
-use Rattle.std.specs.List.{flat_map, AllZip, AllByRecursion}
-use Rattle.std.proofs.lemmas.List.{append-nil, take_at, drop_at, length-append}
-use Rattle.std.proofs.lemmas.List.Elements.{All-from_get_or, All-nil, All-cons, All-take, All-drop}
-use Rattle.std.proofs.lemmas.List.Kept.{AllPairs-cons}
-use Rattle.fund_base.specs.CompactSize.{compact, prefixed}
+use Rattle.std.proofs.Common.{◌≡◌, ◌≢◌, ℕ, List, [], ◌∷◌, ◌++◌, map, refl, ap, ◌∙◌, arith, inl, inr}
+use Rattle.std.specs.Prelude.{Option, Some, None, ◌==◌}
+use Rattle.std.specs.List.{flat_map, AllZip}
+use Rattle.std.proofs.lemmas.Bool.{cases_Bool}
+use Rattle.fund_base.specs.CompactSize.{compact}
 use Rattle.tx_codec.specs.declared.tx.TxOut.{TxOut}
 use Rattle.tx_codec.specs.Transaction.{Transaction}
 use Rattle.tx_codec.specs.TransactionText.{bare_text, text_of, output_text}
 use Rattle.psbt_codec.specs.declared.psbt.Spent.{Spent}
 use Rattle.psbt_codec.specs.PartialTransaction.{PartialTransaction}
-use Rattle.psbt_codec.specs.Psbt.{Pair, magic, typed, pair_text, map_text, global_map, input_map, output_map, written, IsString, HaveOtherKeys, IsPair, IsMap, global_types, input_types, IsGlobalMap, IsInputMap, IsOutputMap, IsPsbt, spelled, IsReadable}
-use Rattle.psbt_codec.proofs.MapReads.{map_text-cons}
+use Rattle.psbt_codec.specs.Psbt.{magic, typed, map_text, global_map, input_map, output_map, written, written_whole, IsString, IsMap, global_types, input_types, IsGlobalMap, IsInputMap, IsOutputMap, AreMaps, IsPsbt, spelled, IsReadable, IsReadableIn}
 use Rattle.psbt_codec.proofs.MapMeaning.{tells_value, missing_typed}
-
--- what a slice of bytes holds is a string
-pub all_bytes : (bytes : List ℕ) → ((i : ℕ) → get_or bytes i 0 < 256) → length bytes < 2 ^ 64 → IsString bytes
-all_bytes bytes each len = (All-from_get_or (λ n. n < 256) bytes 0 (λ i lt. each i), len)
-
--- ---- the parts of a string are strings
-
-string_left : (a b : List ℕ) → IsString (a ++ b) → IsString a
-string_left a b s = (subst (λ (l : List ℕ). All (λ n. n < 256) l) (take_at a b (length a) refl) (All-take (λ n. n < 256) (length a) (a ++ b) s.0), omega (arith, s.1, length-append a b))
-
-string_right : (a b : List ℕ) → IsString (a ++ b) → IsString b
-string_right a b s = (subst (λ (l : List ℕ). All (λ n. n < 256) l) (drop_at a b (length a) refl) (All-drop (λ n. n < 256) (length a) (a ++ b) s.0), omega (arith, s.1, length-append a b))
-
--- the key and the value of a pair
-abbrev AreStrings : Pair → Type 0
-AreStrings p = IsString p.key × IsString p.value
-
-pair_strings : (p : Pair) → IsString (pair_text p) → AreStrings p
-unfolding pair_text
-pair_strings p s = (string_right (compact (length p.key)) p.key (string_left (prefixed p.key) (prefixed p.value) s), string_right (compact (length p.value)) p.value (string_right (prefixed p.key) (prefixed p.value) s))
-
-map_strings : (pairs : List Pair) → IsString (map_text pairs) → AllByRecursion AreStrings pairs
-map_strings [] s = tt
-map_strings (p ∷ pairs) s =
-    let parted : IsString (pair_text p ++ map_text pairs) = rw (← map_text-cons p pairs) s in
-    (pair_strings p (string_left (pair_text p) (map_text pairs) parted), map_strings pairs (string_right (pair_text p) (map_text pairs) parted))
-
--- ---- maps of at most two pairs
-
-typed_pair : (meant : List ℕ) (kind : ℕ) (value : List ℕ) → kind < 2 ^ 64 → AreStrings (typed kind value) → IsPair meant (typed kind value)
-typed_pair meant kind value small fit = record {
-  key = record { kind = kind; key_data = []; kind_fits = small; parts = sym (append-nil (compact kind)); whole = λ listed. refl };
-  key_fits = fit.0;
-  value_fits = fit.1;
-}
-
-empty_map : (meant : List ℕ) → IsMap meant []
-empty_map meant = record { each = All-nil (IsPair meant); distinct = λ i j d lt end. absurd (omega (arith, end)) }
-
-map_of_one : (meant : List ℕ) (p : Pair) → IsPair meant p → IsMap meant (p ∷ [])
-map_of_one meant p is = record { each = All-cons (IsPair meant) p [] is (All-nil (IsPair meant)); distinct = AllPairs-cons HaveOtherKeys p [] (All-nil (HaveOtherKeys p)) (empty_map meant).distinct }
-
-map_of_two : (meant : List ℕ) (p q : Pair) → IsPair meant p → IsPair meant q → HaveOtherKeys p q → IsMap meant (p ∷ q ∷ [])
-map_of_two meant p q is_p is_q other = record {
-  each = All-cons (IsPair meant) p (q ∷ []) is_p (map_of_one meant q is_q).each;
-  distinct = AllPairs-cons HaveOtherKeys p (q ∷ []) (All-cons (HaveOtherKeys p) q [] other (All-nil (HaveOtherKeys p))) (map_of_one meant q is_q).distinct;
-}
+use Rattle.psbt_codec.proofs.Strings.{string_left, string_right, map_strings, typed_pair, empty_map, map_of_one, map_of_two, texts_of}
+use Rattle.psbt_codec.proofs.WrittenFields.{fields_are}
 
 -- ---- the maps that are written
 
@@ -110,31 +62,39 @@ outputs_are (o ∷ outputs) = (empty_map [], outputs_are outputs)
 
 -- ---- the whole
 
-texts_of : {X : Type 0} (pairs_of : X → List Pair) (xs : List X) → flat_map (λ x. map_text (pairs_of x)) xs ≡ flat_map map_text (map pairs_of xs)
-texts_of pairs_of [] = refl
-texts_of pairs_of (x ∷ xs) = ap (λ (l : List ℕ). map_text (pairs_of x) ++ l) (texts_of pairs_of xs)
-
-written_spelled : (p : PartialTransaction) → written p ≡ spelled (global_map p.tx) (map input_map p.spent) (map output_map p.tx.outputs)
-unfolding written
+written_spelled : (p : PartialTransaction) → written_whole p ≡ spelled (global_map p.tx) (map input_map p.spent) (map output_map p.tx.outputs)
+unfolding written_whole
 written_spelled p =
     ap (λ (l : List ℕ). magic ++ (map_text (global_map p.tx) ++ (l ++ flat_map (λ o. map_text (output_map o)) p.tx.outputs))) (texts_of input_map p.spent)
     ∙ ap (λ (l : List ℕ). magic ++ (map_text (global_map p.tx) ++ (flat_map map_text (map input_map p.spent) ++ l))) (texts_of output_map p.tx.outputs)
 
-pub written_is : (bytes : List ℕ) (p : PartialTransaction) → IsString bytes → IsPsbt p → bytes ≡ written p → IsReadable bytes p
-unfolding written
-written_is bytes p fits psbt is =
+whole_is : (bytes : List ℕ) (p : PartialTransaction) → IsString bytes → IsPsbt p → bytes ≡ written_whole p → IsReadableIn 0 bytes p
+unfolding written_whole
+whole_is bytes p fits psbt is =
     let global = map_text (global_map p.tx) in
     let inputs = flat_map (λ s. map_text (input_map s)) p.spent in
     let outputs = flat_map (λ o. map_text (output_map o)) p.tx.outputs in
     let whole : IsString (magic ++ (global ++ (inputs ++ outputs))) = rw is at fits in
     let behind = string_right magic (global ++ (inputs ++ outputs)) whole in
-    record {
-      psbt = psbt;
-      global = global_map p.tx;
-      inputs = map input_map p.spent;
-      outputs = map output_map p.tx.outputs;
-      spelling = is ∙ written_spelled p;
+    let maps : AreMaps p (global_map p.tx) (map input_map p.spent) (map output_map p.tx.outputs) = record {
       global_is = global_is p.tx (string_left global (inputs ++ outputs) behind);
       inputs_are = inputs_are p.spent (string_left inputs outputs (string_right global (inputs ++ outputs) behind));
       outputs_are = outputs_are p.tx.outputs;
-    }
+    } in
+    let readable : IsReadable bytes p = record { version = 0; psbt = psbt; global = global_map p.tx; inputs = map input_map p.spent; outputs = map output_map p.tx.outputs; spelling = is ∙ written_spelled p; maps = inl (refl, maps) } in
+    (readable, refl)
+
+-- ---- in either version
+
+pub first_is : (bytes : List ℕ) (p : PartialTransaction) → IsString bytes → IsPsbt p → bytes ≡ written 0 p → IsReadableIn 0 bytes p
+first_is bytes p fits psbt is = whole_is bytes p fits psbt is
+
+pub second_is : (bytes : List ℕ) (p : PartialTransaction) → IsString bytes → IsPsbt p → bytes ≡ written 2 p → IsReadableIn 2 bytes p
+second_is bytes p fits psbt is = fields_are bytes p fits psbt is
+
+pub written_is : (version : ℕ) (bytes : List ℕ) (p : PartialTransaction) → IsString bytes → IsPsbt p → bytes ≡ written version p → IsReadable bytes p
+written_is version bytes p fits psbt is =
+    elim (cases_Bool (version == 2)) [
+      | inl second ↦ (fields_are bytes p fits psbt (rw second at is)).0
+      | inr first ↦ (whole_is bytes p fits psbt (rw first at is)).0
+    ]

@@ -1,5 +1,5 @@
 -- How the faults of what stands within a PSBT are reported.
-use Rattle.std.specs.Prelude.{ℕ}
+use Rattle.std.specs.Prelude.{ℕ, min}
 use Rattle.base64.specs.declared.decode.DecodeAllocError.{DecodeAllocError}
 use Rattle.base64.specs.declared.decode.DecodeAllocError.TheVariants as texts
 use Rattle.fund_base.specs.declared.cursor.CutFault.{CutFault}
@@ -28,3 +28,7 @@ unsigned_fault fault = Unsigned fault
 abbrev pub text_fault : DecodeAllocError → PsbtFault
 text_fault texts.OutOfMemory = Memory
 text_fault (texts.DecodeError fault) = NotBase64
+
+-- an index as a fault shows it: one that doesn't fit counts as the greatest that does
+abbrev pub shown : ℕ → ℕ
+shown index = min index 4_294_967_295

@@ -1,5 +1,7 @@
--- The spelling of a partially signed transaction: BIP 174, version 0, 'Specification'.
-use Rattle.std.specs.Prelude.{ℕ, ◌≡◌, ◌≢◌, ◌<◌, ◌≤◌, ◌^◌, ◌↔◌, List, [], ◌∷◌, ◌++◌, length, All, AllPairs, Contains, Option, Some, None, option_map, IfSome}
+-- The spelling of a partially signed transaction in both versions: BIP 174, 'Specification', has version 0, whose global map
+-- holds the unsigned transaction, and BIP 370, 'Specification', has version 2, whose maps tell it field by field.
+use Rattle.std.specs.Prelude.{ℕ, ◌≡◌, ◌≢◌, ◌<◌, ◌≤◌, ◌^◌, ◌==◌, ◌⊎◌, ◌↔◌, List, [], ◌∷◌, ◌++◌, length, All, Any, AllPairs, Contains, Option, Some, None, option_map, IfSome, if◌then◌else◌}
+use Rattle.std.specs.Int.{w32, w64, to_le_bytes}
 use Rattle.std.specs.List.{flat_map, zip, AllZip}
 use Rattle.fund_base.specs.CompactSize.{compact, prefixed}
 use Rattle.tx_codec.specs.declared.tx.TxIn.{TxIn}
@@ -31,6 +33,8 @@ pair_text p = prefixed p.key ++ prefixed p.value
 unfoldable pub map_text : List Pair → List ℕ
 map_text pairs = flat_map pair_text pairs ++ 0 ∷ []
 
+-- ---- version 0
+
 -- the global map: type 00 is the unsigned transaction, in the form without marker, flag and witnesses
 abbrev pub global_map : Transaction → List Pair
 global_map tx = typed 0 (bare_text tx) ∷ []
@@ -53,11 +57,46 @@ input_map s = whole_pairs s.whole ++ paid_pairs s.paid
 abbrev pub output_map : TxOut → List Pair
 output_map o = []
 
--- the one spelling that is written: the magic, the global map, a map for each input, a map for each output
-unfoldable pub written : PartialTransaction → List ℕ
-written p =
+-- the one spelling of version 0 that is written: the magic, the global map, a map for each input, a map for each output
+unfoldable pub written_whole : PartialTransaction → List ℕ
+written_whole p =
     magic
     ++ (map_text (global_map p.tx) ++ (flat_map (λ s. map_text (input_map s)) p.spent ++ flat_map (λ o. map_text (output_map o)) p.tx.outputs))
+
+-- ---- version 2
+
+-- The global map: types 02 to 05 are the transaction's version, its lock time, and the numbers of its inputs and outputs.
+-- Type FB is the version of the PSBT.
+abbrev pub global_fields : Transaction → List Pair
+global_fields tx =
+    typed 2 (to_le_bytes w32 tx.version)
+    ∷ typed 3 (to_le_bytes w32 tx.locktime)
+    ∷ typed 4 (compact (length tx.inputs))
+    ∷ typed 5 (compact (length tx.outputs))
+    ∷ typed 251 (to_le_bytes w32 2)
+    ∷ []
+
+-- the fields of an input: types 0E to 10 are the txid and the index of what it spends, and its sequence
+abbrev pub own_fields : TxIn → List Pair
+own_fields i = typed 14 i.prev.txid ∷ typed 15 (to_le_bytes w32 i.prev.index) ∷ typed 16 (to_le_bytes w32 i.sequence) ∷ []
+
+-- the map of an input: what is known of the output that it spends, and its fields
+abbrev pub input_fields : TxIn × Spent → List Pair
+input_fields k = input_map k.1 ++ own_fields k.0
+
+-- the map of an output: types 03 and 04 are its value and its script
+abbrev pub output_fields : TxOut → List Pair
+output_fields o = typed 3 (to_le_bytes w64 o.value) ∷ typed 4 o.script ∷ []
+
+-- the one spelling of version 2 that is written
+unfoldable pub written_fields : PartialTransaction → List ℕ
+written_fields p =
+    magic
+    ++ (map_text (global_fields p.tx) ++ (flat_map (λ k. map_text (input_fields k)) (zip p.tx.inputs p.spent) ++ flat_map (λ o. map_text (output_fields o)) p.tx.outputs))
+
+-- the one spelling of version 2, and that of version 0 under any other number
+abbrev pub written : ℕ → PartialTransaction → List ℕ
+written version p = if version == 2 then written_fields p else written_whole p
 
 -- ---- what has a spelling
 
@@ -127,40 +166,118 @@ abbrev pub input_types : List ℕ
 input_types = 0 ∷ 1 ∷ []
 
 -- A pair of this type has this value exactly where something is known and the value is its text.
-abbrev pub Tells : {X : Type 0} → List Pair → ℕ → (X → List ℕ) → Option X → Type 0
-Tells pairs kind text known = (value : List ℕ) → Contains pairs (typed kind value) ↔ (option_map text known ≡ Some value)
+abbrev pub HasKnownPair : {X : Type 0} → List Pair → ℕ → (X → List ℕ) → Option X → Type 0
+HasKnownPair pairs kind text known = (value : List ℕ) → Contains pairs (typed kind value) ↔ (option_map text known ≡ Some value)
 
--- a global map: it has the unsigned transaction, and tells no other version than 0
-pub record IsGlobalMap (tx : Transaction) (pairs : List Pair) : Type 0 where
-  pub pairs_fit : IsMap global_types pairs
-  pub unsigned : Tells pairs 0 bare_text (Some tx)
-  pub version : (value : List ℕ) → Contains pairs (typed 251 value) → value ≡ 0 ∷ 0 ∷ 0 ∷ 0 ∷ []
+-- the same, but that a value which the type stands for is told where no pair has it
+abbrev pub TellsOr : {X : Type 0} → List Pair → ℕ → (X → List ℕ) → (without told : X) → Type 0
+TellsOr pairs kind text without told = HasKnownPair pairs kind text (Some told) ⊎ (HasKnownPair pairs kind text None × (told ≡ without))
 
--- an input's map: it tells what is known of the output that the input spends
-pub record IsInputMap (s : Spent) (pairs : List Pair) : Type 0 where
-  pub pairs_fit : IsMap input_types pairs
-  pub whole : Tells pairs 0 text_of s.whole
-  pub paid : Tells pairs 1 output_text s.paid
-
--- an output's map, in which no type has a meaning
-abbrev pub IsOutputMap : TxOut → List Pair → Type 0
-IsOutputMap o pairs = IsMap [] pairs
+-- a pair whose key begins with this type, be there key data or not
+abbrev pub IsOfType : ℕ → Pair → Type 0
+IsOfType kind p = (key_data : List ℕ) × (p.key ≡ compact kind ++ key_data)
 
 -- the magic, the global map, the inputs' maps and the outputs' maps, one after the other
 abbrev pub spelled : List Pair → List (List Pair) → List (List Pair) → List ℕ
 spelled global inputs outputs = magic ++ (map_text global ++ (flat_map map_text inputs ++ flat_map map_text outputs))
 
--- The bytes are a PSBT of version 0 of this transaction and of what is known of the outputs that it spends: they spell
+-- ---- maps of version 0
+
+-- a global map: it has the unsigned transaction, and tells no other version than 0
+pub record IsGlobalMap (tx : Transaction) (pairs : List Pair) : Type 0 where
+  pub pairs_fit : IsMap global_types pairs
+  pub unsigned : HasKnownPair pairs 0 bare_text (Some tx)
+  pub version : (value : List ℕ) → Contains pairs (typed 251 value) → value ≡ 0 ∷ 0 ∷ 0 ∷ 0 ∷ []
+
+-- an input's map: it tells what is known of the output that the input spends
+pub record IsInputMap (s : Spent) (pairs : List Pair) : Type 0 where
+  pub pairs_fit : IsMap input_types pairs
+  pub whole : HasKnownPair pairs 0 text_of s.whole
+  pub paid : HasKnownPair pairs 1 output_text s.paid
+
+-- an output's map, in which no type has a meaning
+abbrev pub IsOutputMap : TxOut → List Pair → Type 0
+IsOutputMap o pairs = IsMap [] pairs
+
+-- the maps of a PSBT of version 0
+pub record AreMaps (p : PartialTransaction) (global : List Pair) (inputs outputs : List (List Pair)) : Type 0 where
+  pub global_is : IsGlobalMap p.tx global
+  pub inputs_are : AllZip IsInputMap p.spent inputs
+  pub outputs_are : AllZip IsOutputMap p.tx.outputs outputs
+
+-- ---- maps of version 2
+
+-- The types that have a meaning in the global map: beside those of version 0 the transaction's version, its lock time, and
+-- the numbers of its inputs and outputs.
+abbrev pub global_field_types : List ℕ
+global_field_types = 0 ∷ 2 ∷ 3 ∷ 4 ∷ 5 ∷ 251 ∷ []
+
+-- those in an input's map: beside those of version 0 the txid and the index of what it spends, and its sequence
+abbrev pub input_field_types : List ℕ
+input_field_types = 0 ∷ 1 ∷ 14 ∷ 15 ∷ 16 ∷ []
+
+-- those in an output's map: its value, and its script
+abbrev pub output_field_types : List ℕ
+output_field_types = 3 ∷ 4 ∷ []
+
+-- A global map: it tells version 2, the transaction's version, its lock time unless that is 0, and how many inputs and
+-- outputs it has. It has no unsigned transaction.
+pub record IsGlobalFields (tx : Transaction) (pairs : List Pair) : Type 0 where
+  pub pairs_fit : IsMap global_field_types pairs
+  pub unmixed : (value : List ℕ) → Contains pairs (typed 0 value) → ⊥
+  pub version : HasKnownPair pairs 251 (to_le_bytes w32) (Some 2)
+  pub tx_version : HasKnownPair pairs 2 (to_le_bytes w32) (Some tx.version)
+  pub locktime : TellsOr pairs 3 (to_le_bytes w32) 0 tx.locktime
+  pub inputs : HasKnownPair pairs 4 compact (Some (length tx.inputs))
+  pub outputs : HasKnownPair pairs 5 compact (Some (length tx.outputs))
+
+-- A pair asks for a lock time of the transaction: type 11 by time, and type 12 by height.
+abbrev pub RequiresLock : List Pair → Type 0
+RequiresLock pairs = Any (λ (p : Pair). IsOfType 17 p ⊎ IsOfType 18 p) pairs
+
+-- An input's map: it tells what the input spends, its sequence unless that is FFFFFFFF, and what is known of the output that
+-- it spends. It asks for no lock time.
+pub record IsInputFields (k : TxIn × Spent) (pairs : List Pair) : Type 0 where
+  pub pairs_fit : IsMap input_field_types pairs
+  pub whole : HasKnownPair pairs 0 text_of k.1.whole
+  pub paid : HasKnownPair pairs 1 output_text k.1.paid
+  pub txid : HasKnownPair pairs 14 (λ (bytes : List ℕ). bytes) (Some k.0.prev.txid)
+  pub index : HasKnownPair pairs 15 (to_le_bytes w32) (Some k.0.prev.index)
+  pub sequence : TellsOr pairs 16 (to_le_bytes w32) 4_294_967_295 k.0.sequence
+  pub unlocked : RequiresLock pairs → ⊥
+
+-- an output's map: it tells its value and its script
+pub record IsOutputFields (o : TxOut) (pairs : List Pair) : Type 0 where
+  pub pairs_fit : IsMap output_field_types pairs
+  pub value : HasKnownPair pairs 3 (to_le_bytes w64) (Some o.value)
+  pub script : HasKnownPair pairs 4 (λ (bytes : List ℕ). bytes) (Some o.script)
+
+-- the maps of a PSBT of version 2
+pub record AreFields (p : PartialTransaction) (global : List Pair) (inputs outputs : List (List Pair)) : Type 0 where
+  pub global_is : IsGlobalFields p.tx global
+  pub inputs_are : AllZip IsInputFields (zip p.tx.inputs p.spent) inputs
+  pub outputs_are : AllZip IsOutputFields p.tx.outputs outputs
+
+-- ---- the whole
+
+-- the maps of a PSBT of this version
+abbrev pub AreMapsOf : ℕ → PartialTransaction → List Pair → List (List Pair) → List (List Pair) → Type 0
+AreMapsOf version p global inputs outputs = ((version ≡ 0) × AreMaps p global inputs outputs) ⊎ ((version ≡ 2) × AreFields p global inputs outputs)
+
+-- The bytes are a PSBT of version 0 or 2 of this transaction and of what is known of the outputs that it spends: they spell
 -- a global map, a map for each input and a map for each output. Pairs of other types stand there as they like.
 pub record IsReadable (bytes : List ℕ) (p : PartialTransaction) : Type 0 where
+  pub version : ℕ
   pub psbt : IsPsbt p
   pub global : List Pair
   pub inputs : List (List Pair)
   pub outputs : List (List Pair)
   pub spelling : bytes ≡ spelled global inputs outputs
-  pub global_is : IsGlobalMap p.tx global
-  pub inputs_are : AllZip IsInputMap p.spent inputs
-  pub outputs_are : AllZip IsOutputMap p.tx.outputs outputs
+  pub maps : AreMapsOf version p global inputs outputs
+
+-- and they are of this version
+abbrev pub IsReadableIn : ℕ → List ℕ → PartialTransaction → Type 0
+IsReadableIn version bytes p = (r : IsReadable bytes p) × (r.version ≡ version)
 
 -- such bytes, and from this place on others after them
 pub record IsFollowed (bytes : List ℕ) (place : ℕ) : Type 0 where

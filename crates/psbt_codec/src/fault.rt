@@ -23,14 +23,15 @@ pub enum PsbtFault {
     /// The global map has no unsigned transaction.
     NoUnsigned,
     /// The unsigned transaction can't be read. A place in the fault counts from the transaction's first
-    /// byte. It never holds [`TxFault::Memory`].
+    /// byte. In version 2 the maps tell of no inputs, of no outputs, or of values above 21,000,000 bitcoin. It
+    /// never holds [`TxFault::Memory`].
     Unsigned(TxFault),
     /// A script of the unsigned transaction isn't empty.
     NotBare,
     /// The pair that begins at this place isn't as its type asks: the type doesn't end within the key, or
     /// it is one that is read and the key has more than the type, or the value isn't of its form.
     Field(u64),
-    /// The PSBT is of this version, and not of version 0.
+    /// The PSBT is of this version, and neither of version 0 nor of version 2.
     Version(u32),
     /// The whole previous transaction of the input of this index doesn't have the txid that the input
     /// spends, or has no output of the index that it spends. An index that doesn't fit counts as the
@@ -42,6 +43,13 @@ pub enum PsbtFault {
     NotBase64,
     /// There was not enough memory.
     Memory,
+    /// A global map of version 2 has the unsigned transaction, in the pair that begins at this place.
+    Mixed(u64),
+    /// A map of version 2 doesn't have this type, which it needs.
+    Lacking(u8),
+    /// The input of this index asks for a lock time of the transaction, by time or by height. An index that
+    /// doesn't fit counts as the greatest that does.
+    RequiredLock(u32),
 }
 
 impl From<CutFault> for PsbtFault {

@@ -1,34 +1,35 @@
 //! Reading the maps of a PSBT, pair by pair.
 
-ghost use Rattle.std.specs.Prelude.{◌≡◌, ◌≢◌, ◌<◌, ◌==◌, ◌⊎◌, [], ◌∷◌, ◌++◌, false, length, Err, IfOk, IsOkAnd, option_copied};
+ghost use Rattle.std.specs.Prelude.{◌≡◌, ◌≢◌, ◌<◌, ◌⊎◌, [], ◌∷◌, ◌++◌, false, length, Err, IfOk, IsOkAnd, OnErr, option_copied};
 ghost use Rattle.fund_base.specs.Cursor.{compact_at, take_at};
 ghost use Rattle.fund_base.specs.Parsing.{Yields, YieldsAll, string_at};
 ghost use Rattle.psbt_codec.specs.declared.fault.PsbtFault.TheVariants.{Field, Memory as OutOfMemory};
-ghost use Rattle.psbt_codec.specs.declared.pairs.Part.TheVariants.{Input};
-ghost use Rattle.psbt_codec.specs.Reading.{cut, has_meaning, kind_in, unless, value_fits, has_key, input_value_fits, keyed_at, pair_at, map_at, value_of};
+ghost use Rattle.psbt_codec.specs.Reading.{cut, has_meaning, kind_in, unless, value_fits, has_key, form_fits, input_field_fits, spent_fits, keyed_at, pair_at, map_at, value_of};
 ghost use Rattle.psbt_codec.specs.Fault.{type_fault};
-ghost use Rattle.psbt_codec.specs.FirstPair.{HasFirstPair};
+ghost use Rattle.psbt_codec.specs.FirstPair.{HasFirstPair, IsInput};
 
 use crate::fault::PsbtFault;
-use crate::values::{check_version, paid_in, tx_in};
+use crate::values::{number32_in, number64_in, paid_in, tx_in, txid_in};
 use fund_base::{Cursor, CutFault, Memory};
 use std::alloc::Global;
 use std::collections::BTreeSet;
 use std::marker::Model;
 
-/// Whose map it is.
+/// Whose map it is. The last two are those of version 2, which tell the input or the output itself.
 #[derive(Clone, Copy, PartialEq, Eq)]
 pub enum Part {
     Global,
     Input,
     Output,
+    InputFields,
+    OutputFields,
 }
 
 /// A key and its value.
 #[derive(Drop)]
 pub struct Pair<'a> {
-    key: &'a [u8],
-    value: &'a [u8],
+    pub key: &'a [u8],
+    pub value: &'a [u8],
 }
 
 impl<'a> Model for Pair<'a> {
@@ -112,6 +113,8 @@ fn has_meaning(part: Part, kind: u64) -> bool
         Part::Global => kind == 0 || kind == 251,
         Part::Input => kind == 0 || kind == 1,
         Part::Output => false,
+        Part::InputFields => (kind == 0 || kind == 1) || (kind == 14 || (kind == 15 || kind == 16)),
+        Part::OutputFields => kind == 3 || kind == 4,
     }
 }
 
@@ -151,20 +154,47 @@ fn check_form(place: u64, fits: bool) -> Result<(), PsbtFault>
     }
 }
 
-/// Whether an input's value is of the form that its type asks for.
-fn check_input_value(alloc: Global, place: u64, kind: u64, value: &[u8]) -> Result<(), PsbtFault>
-    ensures gives { YieldsAll OutOfMemory (λ u. u) result (input_value_fits place kind value.now) }
-    ensures short { result ≡ Err OutOfMemory → (kind ≡ 0) ⊎ (kind ≡ 1) }
+/// Whether an input's value is of the form that its type asks for, where it tells of the spent output.
+fn spent_fits(alloc: Global, kind: u64, value: &[u8]) -> Result<bool, Memory>
+    ensures gives { IfOk result (λ fits. fits ≡ spent_fits kind value.now) }
+    ensures short { OnErr result ((kind ≡ 0) ⊎ (kind ≡ 1)) }
 {
-    let fits = match kind {
-        0 => tx_in(alloc, value)?.is_some(),
-        1 => paid_in(alloc, value)?.is_some(),
+    match kind {
+        0 => Ok(tx_in(alloc, value)?.is_some()),
+        1 => Ok(paid_in(alloc, value)?.is_some()),
+        _ => Ok(true),
+    }
+}
+
+/// The same where it tells of the input itself.
+fn input_field_fits(kind: u64, value: &[u8]) -> bool
+    ensures { result ≡ input_field_fits kind value.now }
+{
+    match kind {
+        14 => txid_in(value).is_some(),
+        15 | 16 => number32_in(value).is_some(),
         _ => true,
-    };
-    check_form(place, fits)
+    }
 }
 
 /// Whether a value is of the form that its type asks for.
+fn form_fits(alloc: Global, part: Part, kind: u64, value: &[u8]) -> Result<bool, Memory>
+    ensures gives { IfOk result (λ fits. fits ≡ form_fits part kind value.now) }
+    ensures short { OnErr result (IsInput part × ((kind ≡ 0) ⊎ (kind ≡ 1))) }
+{
+    match part {
+        Part::Global if kind == 251 => Ok(number32_in(value).is_some()),
+        Part::Input => spent_fits(alloc, kind, value),
+        Part::InputFields => {
+            let fits = spent_fits(alloc, kind, value)?;
+            Ok(fits && input_field_fits(kind, value))
+        }
+        Part::OutputFields if kind == 3 => Ok(number64_in(value).is_some()),
+        _ => Ok(true),
+    }
+}
+
+/// That a value is of the form that its type asks for.
 #[tactic(auto, unfolding(crate::specs::Reading::value_fits))]
 fn check_value(
     alloc: Global,
@@ -174,13 +204,10 @@ fn check_value(
     value: &[u8],
 ) -> Result<(), PsbtFault>
     ensures gives { YieldsAll OutOfMemory (λ u. u) result (value_fits part place kind value.now) }
-    ensures short { result ≡ Err OutOfMemory → (part ≡ Input) × ((kind ≡ 0) ⊎ (kind ≡ 1)) }
+    ensures short { result ≡ Err OutOfMemory → IsInput part × ((kind ≡ 0) ⊎ (kind ≡ 1)) }
 {
-    match part {
-        Part::Global if kind == 251 => check_version(place, value),
-        Part::Input => check_input_value(alloc, place, kind, value),
-        _ => Ok(()),
-    }
+    let fits = form_fits(alloc, part, kind, value)?;
+    check_form(place, fits)
 }
 
 #[tactic(auto, unfolding(crate::specs::Reading::keyed_at))]
@@ -194,7 +221,7 @@ fn keyed_of<'a>(
 ) -> Result<Pair<'a>, PsbtFault>
     ensures gives { Yields OutOfMemory (λ p. p) cursor.new result (keyed_at part before.now place len cursor.old) }
     ensures short { result ≡ Err OutOfMemory → IsOkAnd (take_at len cursor.old) (λ key. has_key key.0 before.now ≡ false) }
-    ensures input { result ≡ Err OutOfMemory → part ≡ Input }
+    ensures input { result ≡ Err OutOfMemory → IsInput part }
     ensures meant { result ≡ Err OutOfMemory → IsOkAnd (take_at len cursor.old) (λ key. IsOkAnd (kind_in part place cursor.old.place key.0) (λ kind. (kind ≡ 0) ⊎ (kind ≡ 1))) }
 {
     let key_place = cursor.place();
@@ -218,7 +245,7 @@ fn pair_of<'a>(
 ) -> Result<Option<Pair<'a>>, PsbtFault>
     ensures gives { Yields OutOfMemory (λ o. o) cursor.new result (pair_at part before.now cursor.old) }
     ensures short { result ≡ Err OutOfMemory → IsOkAnd (compact_at cursor.old) (λ len. len.0 ≢ 0) }
-    ensures input { result ≡ Err OutOfMemory → part ≡ Input }
+    ensures input { result ≡ Err OutOfMemory → IsInput part }
 {
     let place = cursor.place();
     let len = cursor.compact()?;
@@ -238,7 +265,7 @@ pub fn pairs_of<'a>(
 ) -> Result<Vec<Pair<'a>>, PsbtFault>
     ensures gives { Yields OutOfMemory (λ v. v.items) cursor.new result (map_at part cursor.old) }
     ensures short { result ≡ Err OutOfMemory → 0 < length cursor.old.rest }
-    ensures begun { result ≡ Err OutOfMemory → part ≢ Input → HasFirstPair part cursor.old }
+    ensures begun { result ≡ Err OutOfMemory → (IsInput part → ⊥) → HasFirstPair part cursor.old }
 {
     let mut seen = Seen::new(alloc);
     for _ in 0..cursor.rest().len() {

@@ -5,7 +5,7 @@ use tx_codec::{Tx, TxOut};
 
 /// An unsigned transaction, and what a signer needs to know of the outputs that it spends.
 ///
-/// It is a PSBT of version 0 where the transaction has a text, its inputs have empty scripts and no witnesses,
+/// It is a PSBT where the transaction has a text, its inputs have empty scripts and no witnesses,
 /// `spent` has an entry for each input, and each `whole` has a text, the txid that its input spends and an
 /// output of the index that its input spends.
 #[derive(Drop)]
@@ -14,6 +14,15 @@ pub struct Psbt {
     pub tx: Tx,
     /// What is known of the output that each input spends, in the order of the inputs.
     pub spent: Vec<Spent>,
+}
+
+/// A PSBT, and the version in which it was written: 0 or 2.
+#[derive(Drop)]
+pub struct Versioned {
+    /// The version.
+    pub version: u32,
+    /// The PSBT.
+    pub psbt: Psbt,
 }
 
 /// What is known of the output that an input spends.

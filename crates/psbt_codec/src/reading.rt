@@ -1,20 +1,24 @@
 //! PSBTs read. Pairs of a type that has no meaning here are passed over.
 
-ghost use Rattle.std.specs.Prelude.{◌≡◌, ◌≢◌, ◌==◌, ◌⊎◌, ℕ, List, [], ◌++◌, length, min, take, Err, IfOk, OnErr, IsSome, MatchResult};
+ghost use Rattle.std.specs.Prelude.{◌≡◌, ◌≢◌, ◌==◌, ◌⊎◌, ◌+◌, ◌<◌, ◌^◌, ℕ, List, [], ◌++◌, length, take, Err, IfOk, IsSome, MatchResult};
+ghost use Rattle.std.specs.List.{flat_map};
 ghost use Rattle.fund_base.specs.Cursor.{IsBytes, after};
 ghost use Rattle.fund_base.specs.Parsing.{Yields, YieldsAll};
-ghost use Rattle.psbt_codec.specs.declared.fault.PsbtFault.TheVariants.{Magic, WrongParent, Trailing, NotBase64, Memory as OutOfMemory};
+ghost use Rattle.psbt_codec.specs.declared.fault.PsbtFault.TheVariants.{Magic, Trailing, NotBase64, Memory as OutOfMemory};
 ghost use Rattle.psbt_codec.specs.declared.pairs.Part.TheVariants.{Global as OfGlobal};
 ghost use Rattle.psbt_codec.specs.FirstPair.{BeginsByPair, HasFirstPair};
 ghost use Rattle.psbt_codec.specs.PartialTransaction.{PartialTransaction};
-ghost use Rattle.psbt_codec.specs.Psbt.{IsFollowed, IsReadable, magic};
-ghost use Rattle.psbt_codec.specs.Reading.{start, unless, value_of, unsigned_of, global_at, spent_in, fits_input, input_at, each_at, next_input_at, next_output_at, maps_at, psbt_at, read_of};
+ghost use Rattle.psbt_codec.specs.Psbt.{IsFollowed, IsReadable, IsReadableIn, magic, pair_text};
+ghost use Rattle.psbt_codec.specs.Reading.{start, unless, value_of, unsigned_of, input_at, each_at, next_input_at, next_output_at, whole_at, version_of, behind_global, maps_at, psbt_at, versioned_of, read_of};
 
+use crate::counts::version_of;
 use crate::fault::PsbtFault;
+use crate::fields::fields_behind;
+use crate::known::{check_parent, spent_in};
 use crate::pairs::{Pair, Part, pairs_of, value_of};
-use crate::psbt::{Psbt, Spent};
-use crate::values::{is_parent, paid_in, tx_in, unsigned_in};
-use fund_base::{Cursor, Memory};
+use crate::psbt::{Psbt, Spent, Versioned};
+use crate::values::unsigned_in;
+use fund_base::Cursor;
 use std::alloc::Global;
 use tx_codec::{Tx, TxIn, TxOut};
 
@@ -30,50 +34,6 @@ fn unsigned_of(alloc: Global, pairs: &[Pair]) -> Result<Tx, PsbtFault>
         Some(bytes) => unsigned_in(alloc, bytes),
         None => Err(PsbtFault::NoUnsigned),
     }
-}
-
-#[tactic(auto, unfolding(crate::specs::Reading::global_at))]
-fn global_of(alloc: Global, cursor: &mut Cursor) -> Result<Tx, PsbtFault>
-    ensures gives { Yields OutOfMemory (λ t. t) cursor.new result (global_at cursor.old) }
-    ensures begun { result ≡ Err OutOfMemory → HasFirstPair OfGlobal cursor.old }
-{
-    let pairs = pairs_of(alloc, Part::Global, cursor)?;
-    unsigned_of(alloc, &pairs)
-}
-
-/// What an input's pairs say of the output that it spends.
-fn spent_in(alloc: Global, pairs: &[Pair]) -> Result<Spent, Memory>
-    ensures gives { IfOk result (λ s. s ≡ spent_in pairs.now) }
-    ensures short { OnErr result (IsSome (value_of 0 pairs.now) ⊎ IsSome (value_of 1 pairs.now)) }
-{
-    let whole = match value_of(pairs, 0) {
-        Some(bytes) => tx_in(alloc, bytes)?,
-        None => None,
-    };
-    let paid = match value_of(pairs, 1) {
-        Some(bytes) => paid_in(alloc, bytes)?,
-        None => None,
-    };
-    Ok(Spent { whole, paid })
-}
-
-fn fits_input(input: &TxIn, whole: &Option<Tx>) -> bool
-    ensures { result ≡ fits_input input.now whole.now }
-{
-    match whole {
-        Some(whole) => is_parent(input, whole),
-        None => true,
-    }
-}
-
-/// That the whole previous transaction is of the input of this index. It never runs out of memory.
-fn check_parent(index: u64, input: &TxIn, whole: &Option<Tx>) -> Result<(), PsbtFault>
-    ensures { result ≡ unless (fits_input input.now whole.now) (WrongParent (min index 4_294_967_295)) }
-{
-    if fits_input(input, whole) {
-        return Ok(());
-    }
-    Err(PsbtFault::WrongParent(index.min(u32::MAX as u64) as u32))
 }
 
 #[tactic(auto, unfolding(crate::specs::Reading::input_at))]
@@ -113,20 +73,56 @@ fn outputs_of(alloc: Global, outputs: &[TxOut], cursor: &mut Cursor) -> Result<(
     Ok(())
 }
 
-#[tactic(auto, unfolding(crate::specs::Reading::maps_at))]
-fn maps_of(alloc: Global, cursor: &mut Cursor) -> Result<Psbt, PsbtFault>
-    ensures gives { Yields OutOfMemory (λ p. p) cursor.new result (maps_at cursor.old) }
-    ensures begun { result ≡ Err OutOfMemory → HasFirstPair OfGlobal cursor.old }
+/// What stands behind the pairs of a global map of version 0.
+#[tactic(auto, unfolding(crate::specs::Reading::whole_at))]
+fn whole_behind(alloc: Global, pairs: &[Pair], cursor: &mut Cursor) -> Result<Psbt, PsbtFault>
+    ensures gives { Yields OutOfMemory (λ p. p) cursor.new result (whole_at pairs.now cursor.old) }
+    ensures short { result ≡ Err OutOfMemory → IsSome (value_of 0 pairs.now) }
 {
-    let tx = global_of(alloc, cursor)?;
+    let tx = unsigned_of(alloc, pairs)?;
     let spent = inputs_of(alloc, &tx.inputs, cursor)?;
     outputs_of(alloc, &tx.outputs, cursor)?;
     Ok(Psbt { tx, spent })
 }
 
+/// What stands behind the pairs of a global map, which begins at this place.
+#[tactic(auto, unfolding(crate::specs::Reading::behind_global))]
+fn behind_global(
+    alloc: Global,
+    place: u64,
+    pairs: &[Pair],
+    cursor: &mut Cursor,
+) -> Result<Versioned, PsbtFault>
+    requires room { place + length (flat_map pair_text pairs.now) < 2 ^ 64 }
+    ensures gives { Yields OutOfMemory (λ v. v) cursor.new result (behind_global place pairs.now cursor.old) }
+    ensures short { result ≡ Err OutOfMemory → IsSome (value_of 0 pairs.now) ⊎ (version_of pairs.now ≡ 2) }
+{
+    match version_of(pairs) {
+        0 => {
+            let psbt = whole_behind(alloc, pairs, cursor)?;
+            Ok(Versioned { version: 0, psbt })
+        }
+        2 => {
+            let psbt = fields_behind(alloc, place, pairs, cursor)?;
+            Ok(Versioned { version: 2, psbt })
+        }
+        version => Err(PsbtFault::Version(version)),
+    }
+}
+
+#[tactic(auto, unfolding(crate::specs::Reading::maps_at))]
+fn maps_of(alloc: Global, cursor: &mut Cursor) -> Result<Versioned, PsbtFault>
+    ensures gives { Yields OutOfMemory (λ v. v) cursor.new result (maps_at cursor.old) }
+    ensures begun { result ≡ Err OutOfMemory → HasFirstPair OfGlobal cursor.old }
+{
+    let front = cursor.fork();
+    let pairs = pairs_of(alloc, Part::Global, cursor)?;
+    behind_global(alloc, front.place(), &pairs, cursor)
+}
+
 #[tactic(auto, unfolding(crate::specs::Reading::psbt_at))]
-fn psbt_of(alloc: Global, cursor: &mut Cursor) -> Result<Psbt, PsbtFault>
-    ensures gives { Yields OutOfMemory (λ p. p) cursor.new result (psbt_at cursor.old) }
+fn psbt_of(alloc: Global, cursor: &mut Cursor) -> Result<Versioned, PsbtFault>
+    ensures gives { Yields OutOfMemory (λ v. v) cursor.new result (psbt_at cursor.old) }
     ensures short { result ≡ Err OutOfMemory → take 5 cursor.old.rest ≡ magic }
     ensures begun { result ≡ Err OutOfMemory → HasFirstPair OfGlobal (after 5 cursor.old) }
 {
@@ -146,25 +142,59 @@ fn check_end(cursor: &Cursor) -> Result<(), PsbtFault>
     Err(PsbtFault::Trailing(cursor.place()))
 }
 
-fn whole_of(alloc: Global, bytes: &[u8]) -> Result<Psbt, PsbtFault>
-    ensures exact { YieldsAll OutOfMemory (λ p. p) result (read_of bytes.now) }
+fn whole_of(alloc: Global, bytes: &[u8]) -> Result<Versioned, PsbtFault>
+    ensures exact { YieldsAll OutOfMemory (λ v. v) result (versioned_of bytes.now) }
     ensures short { result ≡ Err OutOfMemory → take 5 bytes.now ≡ magic }
     ensures begun { result ≡ Err OutOfMemory → HasFirstPair OfGlobal (after 5 (start bytes.now)) }
     ensures bytes { IsBytes bytes.now }
 {
     let mut cursor = Cursor::new(bytes);
-    let psbt = psbt_of(alloc, &mut cursor)?;
+    let read = psbt_of(alloc, &mut cursor)?;
     check_end(&cursor)?;
-    Ok(psbt)
+    Ok(read)
 }
 
-/// The PSBT that the bytes are, all of them (BIP 174, version 0): the unsigned transaction, and what the
-/// inputs' maps tell of the outputs that it spends. Pairs of other types are passed over.
+/// The PSBT that the bytes are, all of them, and its version: as [`read_psbt`] reads it, with the same faults.
+/// [`PsbtFault::NotBase64`] never comes.
+pub fn read_versioned(alloc: Global, bytes: &[u8]) -> Result<Versioned, PsbtFault>
+    // What is read is readable as the answer in its version, and what is readable as a PSBT is read as it, memory aside.
+    ensures found { IfOk result (λ v. IsReadableIn v.version bytes.now v.psbt) }
+    ensures only { (version : ℕ) (p : PartialTransaction) → IsReadableIn version bytes.now p → MatchResult result (λ v. (v.version ≡ version) × (v.psbt ≡ p)) (λ e. e ≡ OutOfMemory) }
+
+    // Which fault it is.
+    ensures exact { YieldsAll OutOfMemory (λ v. v) result (versioned_of bytes.now) }
+    ensures magic { result ≡ Err Magic → (rest : List ℕ) → bytes.now ≢ magic ++ rest }
+    ensures unmarked { ((rest : List ℕ) → bytes.now ≢ magic ++ rest) → result ≡ Err Magic }
+    ensures trailing { (place : ℕ) → result ≡ Err (Trailing place) → IsFollowed bytes.now place }
+    ensures followed { (place : ℕ) → IsFollowed bytes.now place → MatchResult result (λ _. ⊥) (λ e. e ≢ OutOfMemory → e ≡ Trailing place) }
+    ensures never_text { result ≢ Err NotBase64 }
+
+    // Memory is asked for behind the first pair of the global map, so no fault that shows before is out of memory.
+    ensures begun { result ≡ Err OutOfMemory → BeginsByPair bytes.now }
+{
+    whole_of(alloc, bytes)
+}
+
+/// The same without the version.
+fn psbt_in(alloc: Global, bytes: &[u8]) -> Result<Psbt, PsbtFault>
+    ensures exact { YieldsAll OutOfMemory (λ p. p) result (read_of bytes.now) }
+    ensures short { result ≡ Err OutOfMemory → take 5 bytes.now ≡ magic }
+    ensures begun { result ≡ Err OutOfMemory → HasFirstPair OfGlobal (after 5 (start bytes.now)) }
+    ensures bytes { IsBytes bytes.now }
+{
+    let read = whole_of(alloc, bytes)?;
+    Ok(read.psbt)
+}
+
+/// The PSBT that the bytes are, all of them, in version 0 (BIP 174) or 2 (BIP 370): the unsigned transaction, and
+/// what the inputs' maps tell of the outputs that it spends. Pairs of other types are passed over.
 ///
 /// The fault is the first in reading order. Magic, Truncated, LongCompact and Trailing come where the
 /// bytes stop being maps of pairs; RepeatKey at the second pair of a key, and Field at a pair that isn't
-/// as its type asks; NoUnsigned, Unsigned and NotBare at the end of the global map, Version at its pair;
-/// WrongParent at the end of an input's map. [`PsbtFault::NotBase64`] never comes.
+/// as its type asks. At the end of the global map come Version, and NoUnsigned, Unsigned and NotBare in version 0,
+/// but in version 2 Mixed, Field for types 02 to 05, Lacking and Unsigned. At the end of an input's map come
+/// Lacking and RequiredLock in version 2, and WrongParent; at the end of an output's in version 2 Lacking and
+/// Unsigned. [`PsbtFault::NotBase64`] never comes.
 pub fn read_psbt(alloc: Global, bytes: &[u8]) -> Result<Psbt, PsbtFault>
     // What is read is readable as the answer, and what is readable as a PSBT is read as it, memory aside.
     ensures found { IfOk result (λ p. IsReadable bytes.now p) }
@@ -181,5 +211,5 @@ pub fn read_psbt(alloc: Global, bytes: &[u8]) -> Result<Psbt, PsbtFault>
     // Memory is asked for behind the first pair of the global map, so no fault that shows before is out of memory.
     ensures begun { result ≡ Err OutOfMemory → BeginsByPair bytes.now }
 {
-    whole_of(alloc, bytes)
+    psbt_in(alloc, bytes)
 }

@@ -1,17 +1,15 @@
 //! What the values of a PSBT's pairs hold.
 
-ghost use Rattle.std.specs.Prelude.{◌≡◌, ◌≢◌, ◌==◌, length, take, Ok, Err, IfOk, OnErr, IsSome, MatchResult, if◌then◌else◌};
-ghost use Rattle.std.specs.Int.{w32, from_le_bytes};
+ghost use Rattle.std.specs.Prelude.{◌≡◌, ◌≢◌, Ok, Err, IfOk, OnErr, IsSome, MatchResult, if◌then◌else◌};
 ghost use Rattle.std.specs.Result.{result_ok};
 ghost use Rattle.fund_base.specs.Parsing.{YieldsAll};
-ghost use Rattle.tx_codec.specs.Txid.{txid_of};
 ghost use Rattle.tx_codec.specs.declared.fault.TxFault.TheVariants.{Memory as TxOutOfMemory};
 ghost use Rattle.psbt_codec.specs.declared.fault.PsbtFault.TheVariants.{NotBare, Memory as OutOfMemory};
-ghost use Rattle.psbt_codec.specs.Reading.{tx_in, paid_in, are_bare, is_parent, version_fits, unsigned_in};
+ghost use Rattle.psbt_codec.specs.Reading.{tx_in, paid_in, number32_in, number64_in, count_in, txid_in, are_bare, is_parent, unsigned_in};
 ghost use Rattle.psbt_codec.specs.Fault.{unsigned_fault};
 
 use crate::fault::PsbtFault;
-use fund_base::{Cursor, Memory, Sat, Script};
+use fund_base::{Cursor, Memory, Sat, Script, Txid};
 use std::alloc::Global;
 use tx_codec::{Tx, TxFault, TxIn, TxOut, read_whole_legacy_tx, read_whole_tx, txid};
 
@@ -61,20 +59,66 @@ pub fn paid_in(alloc: Global, bytes: &[u8]) -> Result<Option<TxOut>, Memory>
     }))
 }
 
-/// Whether a global pair's value says version 0, in four bytes.
-#[tactic(auto, unfolding(crate::specs::Reading::version_fits))]
-pub fn check_version(place: u64, value: &[u8]) -> Result<(), PsbtFault>
-    ensures gives { YieldsAll OutOfMemory (λ u. u) result (version_fits place value.now) }
-    ensures never_short { result ≢ Err OutOfMemory }
+/// The number that the bytes are, which are four, the low byte first.
+#[tactic(auto, unfolding(crate::specs::Reading::number32_in))]
+pub fn number32_in(bytes: &[u8]) -> Option<u32>
+    ensures { result ≡ number32_in bytes.now }
 {
-    if value.len() != 4 {
-        return Err(PsbtFault::Field(place));
+    let mut cursor = Cursor::new(bytes);
+    let Ok(number) = cursor.u32_le() else {
+        return None;
+    };
+    if !cursor.rest().is_empty() {
+        return None;
     }
-    let version = u32::from_le_bytes([value[0], value[1], value[2], value[3]]);
-    if version != 0 {
-        return Err(PsbtFault::Version(version));
+    Some(number)
+}
+
+/// The number that the bytes are, which are eight, the low byte first.
+#[tactic(auto, unfolding(crate::specs::Reading::number64_in))]
+pub fn number64_in(bytes: &[u8]) -> Option<u64>
+    ensures { result ≡ number64_in bytes.now }
+{
+    let mut cursor = Cursor::new(bytes);
+    let Ok(number) = cursor.u64_le() else {
+        return None;
+    };
+    if !cursor.rest().is_empty() {
+        return None;
     }
-    Ok(())
+    Some(number)
+}
+
+/// The number that the bytes are in CompactSize, all of them.
+#[tactic(auto, unfolding(crate::specs::Reading::count_in))]
+pub fn count_in(bytes: &[u8]) -> Option<u64>
+    ensures { result ≡ count_in bytes.now }
+{
+    let mut cursor = Cursor::new(bytes);
+    let Ok(number) = cursor.compact() else {
+        return None;
+    };
+    if !cursor.rest().is_empty() {
+        return None;
+    }
+    Some(number)
+}
+
+/// The txid that the bytes are, which are 32.
+#[tactic(auto, unfolding(crate::specs::Reading::txid_in))]
+pub fn txid_in(bytes: &[u8]) -> Option<Txid>
+    ensures { result ≡ txid_in bytes.now }
+{
+    let mut cursor = Cursor::new(bytes);
+    let Ok(front) = cursor.take(32) else {
+        return None;
+    };
+    if !cursor.rest().is_empty() {
+        return None;
+    }
+    let mut txid = [0; 32];
+    txid.copy_from_slice(front);
+    Some(Txid(txid))
 }
 
 fn unsigned_fault(fault: TxFault) -> PsbtFault

@@ -1,33 +1,33 @@
 -- Keys and values of a PSBT's pairs: how they are read, and when they aren't.
-use Rattle.std.proofs.Common.{◌≡◌, ◌≢◌, ℕ, zero, suc, ◌+◌, ◌<◌, Bool, true, false, cond, get_or, List, [], ◌∷◌, length, take, Result, Ok, Err, refl, sym, ap, subst, ◌∙◌, arith, inl, inr}
-use Rattle.std.specs.Prelude.{Option, Some, None, ◌⊎◌, ◌||◌, ◌&&◌, ◌==◌, not, is_some, bytes_eq, Contains}
-use Rattle.std.specs.Int.{w32, from_le_bytes, to_le_bytes}
-use Rattle.std.proofs.lemmas.Bool.{cases_Bool, both_ways, eqb-true, eqb-false, eq-eqb, ne_eqb, or_cases, or_left, or_right, and_cases, and_from, and_left, and_parts, and_right, not-false, not_from_true, false_from_ne_true}
-use Rattle.std.proofs.lemmas.List.{nil_from_length, take_all}
+use Rattle.std.proofs.Common.{◌≡◌, ◌≢◌, ℕ, ◌+◌, ◌<◌, ◌^◌, Bool, true, false, cond, List, [], ◌∷◌, length, Result, Ok, Err, refl, sym, ap, subst, ◌∙◌, arith, inl, inr}
+use Rattle.std.specs.Prelude.{Option, Some, None, ◌⊎◌, ◌&&◌, ◌==◌, not, is_some, bytes_eq, Contains}
+use Rattle.std.specs.Int.{w32, w64, from_le_bytes, to_le_bytes}
+use Rattle.std.proofs.lemmas.Bool.{cases_Bool, both_ways, eqb-true, eq-eqb, ne_eqb, and_cases, and_from, and_left, and_parts, and_right, not-false, not_from_true, false_from_ne_true}
+use Rattle.std.proofs.lemmas.List.{nil_from_length}
 use Rattle.std.proofs.lemmas.List.Folds.{Any-from_list_any, list_any-from_Any}
 use Rattle.fund_base.specs.declared.cursor.CutFault.{CutFault}
 use Rattle.fund_base.specs.declared.cursor.CutFault.TheVariants as cuts
 use Rattle.fund_base.specs.Cursor.{At, IsBytes, take_at as bytes_at, compact_at}
 use Rattle.fund_base.specs.Parsing.{◌>>=◌, fault_as}
-use Rattle.fund_base.proofs.Laws.{bind_ok, bind_is, guard_ok, guard_met, ok_is, told_ok, told_is, Takes, Reads, reads_told}
-use Rattle.fund_base.proofs.LawsOfNumbers.{wide32, bytes_reads, count_reads}
+use Rattle.fund_base.proofs.Laws.{bind_ok, bind_is, guard_ok, ok_is, told_ok, told_is, Takes, Reads, reads_told}
+use Rattle.fund_base.proofs.LawsOfNumbers.{wide32, wide64, bytes_reads, count_reads}
 use Rattle.fund_base.proofs.Lists.{equal_bytes, same_bytes}
 use Rattle.fund_base.proofs.Spellings.{truncated_where, long_where, no_others}
 use Rattle.tx_codec.specs.TransactionText.{text_of, output_text, IsTransaction}
 use Rattle.psbt_codec.specs.declared.fault.PsbtFault.{PsbtFault}
 use Rattle.psbt_codec.specs.declared.fault.PsbtFault.TheVariants as faults
 use Rattle.psbt_codec.specs.declared.pairs.Part.{Part}
-use Rattle.psbt_codec.specs.declared.pairs.Part.TheVariants.{Global, Input, Output}
+use Rattle.psbt_codec.specs.declared.pairs.Part.TheVariants.{Global, Input, Output, InputFields, OutputFields}
 use Rattle.psbt_codec.specs.Fault.{cut_fault, type_fault}
 use Rattle.psbt_codec.specs.Psbt.{Pair, IsKey, IsPaid}
-use Rattle.psbt_codec.specs.Reading.{cut, start, tx_in, paid_in, has_meaning, kind_in, unless, version_fits, value_fits, has_key}
-use Rattle.psbt_codec.proofs.Decoded.{Decodes, tx_decodes, paid_decodes}
+use Rattle.psbt_codec.specs.Reading.{cut, start, tx_in, paid_in, number32_in, number64_in, txid_in, has_meaning, kind_in, form_fits, value_fits, has_key}
+use Rattle.psbt_codec.proofs.Decoded.{Decodes, IsTxid, tx_decodes, paid_decodes, number32_decodes, number64_decodes, txid_decodes}
+use Rattle.psbt_codec.proofs.PairLaws.{types_of, meaning_listed, listed_meaning, ValueIs, global_value, global_fits, input_value, whole_fits, paid_fits, field_value, fields_fit, output_value, amount_fits}
 use Rattle.tx_laws.specs.Broken.{IsShort}
 use Rattle.tx_laws.proofs.Cuts.{err_told, err_given, guard_told, met_told, short_told, short_given}
 use Rattle.tx_laws.proofs.Judged.{bind_err, bind_fails}
 use Rattle.tx_laws.proofs.Parts.{front_fits}
-use Rattle.psbt_laws.specs.Fields.{meant, HasKey, IsMistyped, IsWrongKey, HoldsWrongKey, IsWrongVersion, IsWrongValue, HoldsWrongValue}
-use Rattle.psbt_laws.specs.Order.{IsRightValue}
+use Rattle.psbt_laws.specs.Fields.{meant, HasKey, IsMistyped, IsWrongKey, HoldsWrongKey, IsRightValue, IsWrongValue, HoldsWrongValue}
 
 pub bytes : (n : ℕ) → Reads (λ at. cut (bytes_at n at)) (λ x. x) (λ x. (length x ≡ n) × IsBytes x)
 bytes n = reads_told cut_fault (bytes_at n) (λ x. x) (λ x. (length x ≡ n) × IsBytes x) (bytes_reads n)
@@ -50,27 +50,18 @@ not_fresh key pairs none = false_from_ne_true (has_key key pairs) (λ e. none (k
 
 -- ---- the types that have a meaning
 
-one_of_two : (m n kind : ℕ) → (kind == m || kind == n) ≡ true → Contains (m ∷ n ∷ []) kind
-one_of_two m n kind e =
-    elim (or_cases (kind == m) (kind == n) e) [
-      | inl one ↦ (0, omega arith, sym (eqb-true kind m one))
-      | inr two ↦ (1, omega arith, sym (eqb-true kind n two))
-    ]
-
-is_one_of : (m n kind i : ℕ) → i < 2 → get_or (m ∷ n ∷ []) i kind ≡ kind → (kind == m || kind == n) ≡ true
-is_one_of m n kind zero lt e = or_left (kind == m) (kind == n) (eq-eqb kind m (sym e))
-is_one_of m n kind (suc zero) lt e = or_right (kind == m) (kind == n) (eq-eqb kind n (sym e))
-is_one_of m n kind (suc (suc i)) lt e = absurd (omega arith)
+pub same_types : (part : Part) → types_of part ≡ meant part
+same_types Global = refl
+same_types Input = refl
+same_types Output = refl
+same_types InputFields = refl
+same_types OutputFields = refl
 
 means : (part : Part) (kind : ℕ) → has_meaning part kind ≡ true → Contains (meant part) kind
-means Global kind e = one_of_two 0 251 kind e
-means Input kind e = one_of_two 0 1 kind e
-means Output kind e = absurd cc
+means part kind e = subst (λ (l : List ℕ). Contains l kind) (same_types part) (meaning_listed part kind e)
 
 meaning : (part : Part) (kind : ℕ) → Contains (meant part) kind → has_meaning part kind ≡ true
-meaning Global kind c = is_one_of 0 251 kind c.0 c.1 c.2
-meaning Input kind c = is_one_of 0 1 kind c.0 c.1 c.2
-meaning Output kind c = absurd (omega (arith, c.1))
+meaning part kind c = listed_meaning part kind (subst (λ (l : List ℕ). Contains l kind) (sym (same_types part)) c)
 
 -- ---- the type of a key
 
@@ -215,35 +206,6 @@ key_given part before pair since size at fault fits place (inr w) =
 
 -- ---- a value
 
-version_told : (pair : ℕ) (value : List ℕ) (fault : PsbtFault) → IsBytes value → version_fits pair value ≡ Err fault → IsWrongVersion pair value fault
-unfolding version_fits
-version_told pair value fault fits e = elim (cases_Bool (length value == 4)) [
-  | inl four ↦
-      let f = rw four at e in
-      let len : length value ≡ 4 = eqb-true (length value) 4 four in
-      let all : take 4 value ≡ value = take_all 4 value (omega (arith, len)) in
-      let g = met_told (from_le_bytes w32 (take 4 value) == 0) (faults.Version (from_le_bytes w32 (take 4 value))) tt fault f in
-      let n : ℕ = from_le_bytes w32 value in
-      let told : fault ≡ faults.Version n = g.1 ∙ ap (λ (l : List ℕ). faults.Version (from_le_bytes w32 l)) all in
-      let some : n ≢ 0 = λ none. eqb-false (from_le_bytes w32 (take 4 value)) 0 g.0 (ap (λ (l : List ℕ). from_le_bytes w32 l) all ∙ none) in
-      inr (n, sym (wide32.back value len fits), wide32.below value fits, some, told)
-  | inr other ↦
-      let f = rw other at e in
-      inl (λ len. eqb-false (length value) 4 other len, cc)
-]
-
-version_given : (pair : ℕ) (value : List ℕ) (fault : PsbtFault) → IsWrongVersion pair value fault → version_fits pair value ≡ Err fault
-unfolding version_fits
-version_given pair value fault (inl other) = rw (ne_eqb (length value) 4 other.0) (ap (λ (f : PsbtFault). Err f) (sym other.1))
-version_given pair value fault (inr v) =
-    let len : length value ≡ 4 = ap (λ (l : List ℕ). length l) v.1 ∙ wide32.len v.0 in
-    let all : take 4 value ≡ value = take_all 4 value (omega (arith, len)) in
-    let n : from_le_bytes w32 (take 4 value) ≡ v.0 = ap (λ (l : List ℕ). from_le_bytes w32 l) (all ∙ v.1) ∙ wide32.again v.0 v.2 in
-    rw (eq-eqb (length value) 4 len, n, ne_eqb v.0 0 v.3) (ap (λ (f : PsbtFault). Err f) (sym v.4))
-
-none_decoded : {X : Type 0} (decode : List ℕ → Option X) (text : X → List ℕ) (Fits : X → Type 0) → Decodes decode text Fits → (value : List ℕ) → is_some (decode value) ≡ false → (x : X) → Fits x → value ≢ text x
-none_decoded decode text Fits laws value none x fits is = both_ways (is_some (decode value)) none (ap (λ (l : List ℕ). is_some (decode l)) is ∙ ap is_some (laws.again x fits))
-
 decoded_at : {X : Type 0} (text : X → List ℕ) (Fits : X → Type 0) (value : List ℕ) (o : Option X) → ((x : X) → o ≡ Some x → Fits x × (value ≡ text x)) → is_some o ≡ true → (x : X) × Fits x × (value ≡ text x)
 decoded_at text Fits value None known some = absurd cc
 decoded_at text Fits value (Some x) known some = let k = known x refl in (x, k.0, k.1)
@@ -251,75 +213,78 @@ decoded_at text Fits value (Some x) known some = let k = known x refl in (x, k.0
 pub decoded : {X : Type 0} (decode : List ℕ → Option X) (text : X → List ℕ) (Fits : X → Type 0) → Decodes decode text Fits → (value : List ℕ) → IsBytes value → is_some (decode value) ≡ true → (x : X) × Fits x × (value ≡ text x)
 decoded decode text Fits laws value fits some = decoded_at text Fits value (decode value) (λ x e. laws.takes value x fits e) some
 
-not_decoded : {X : Type 0} (decode : List ℕ → Option X) (text : X → List ℕ) (Fits : X → Type 0) → Decodes decode text Fits → (value : List ℕ) → IsBytes value → ((x : X) → Fits x → value ≢ text x) → is_some (decode value) ≡ false
-not_decoded decode text Fits laws value fits none = false_from_ne_true (is_some (decode value)) (λ some. let d = decoded decode text Fits laws value fits some in none d.0 d.1 d.2)
-
--- what is read under a type is as it asks
-pub right_from : (part : Part) (pair kind : ℕ) (value : List ℕ) → IsBytes value → value_fits part pair kind value ≡ Ok tt → IsRightValue part kind value
-unfolding value_fits version_fits
-right_from Global pair kind value fits e = λ version.
-    let f = rw (eq-eqb kind 251 version) at e in
-    let n : ℕ = from_le_bytes w32 (take 4 value) in
-    let g = guard_ok (not (length value == 4)) (faults.Field pair) (unless (n == 0) (faults.Version n)) tt f in
-    let z = guard_met (n == 0) (faults.Version n) (Ok tt) tt g.1 in
-    let len : length value ≡ 4 = eqb-true (length value) 4 (not-false (length value == 4) g.0) in
-    let four : take 4 value ≡ value = take_all 4 value (omega (arith, len)) in
-    let none : from_le_bytes w32 value ≡ 0 = ap (λ (l : List ℕ). from_le_bytes w32 l) (sym four) ∙ eqb-true n 0 z.0 in
-    sym (wide32.back value len fits) ∙ ap (λ (n : ℕ). to_le_bytes w32 n) none
-right_from Input pair kind value fits e = (
-  λ whole. decoded tx_in text_of IsTransaction tx_decodes value fits (guard_met _ _ _ _ (rw (eq-eqb kind 0 whole) at e)).0,
-  λ paid.
-      let other : (kind == 0) ≡ false = ne_eqb kind 0 (λ none. absurd (omega (arith, paid, none))) in
-      decoded paid_in output_text IsPaid paid_decodes value fits (guard_met _ _ _ _ (rw (other, eq-eqb kind 1 paid) at e)).0,
-)
-right_from Output pair kind value fits e = tt
-
 pub encoded : {X : Type 0} (decode : List ℕ → Option X) (text : X → List ℕ) (Fits : X → Type 0) → Decodes decode text Fits → (value : List ℕ) → (x : X) × Fits x × (value ≡ text x) → is_some (decode value) ≡ true
 encoded decode text Fits laws value h = ap (λ (l : List ℕ). is_some (decode l)) h.2 ∙ ap is_some (laws.again h.0 h.1)
 
-pub right_to : (part : Part) (pair kind : ℕ) (value : List ℕ) → IsRightValue part kind value → value_fits part pair kind value ≡ Ok tt
-unfolding value_fits version_fits
-right_to Global pair kind value is = elim (cases_Bool (kind == 251)) [
-  | inl version ↦ rw (version, is (eqb-true kind 251 version)) refl
-  | inr other ↦ rw other refl
-]
-right_to Input pair kind value is = elim (cases_Bool (kind == 0)) [
-  | inl whole ↦ rw (whole, encoded tx_in text_of IsTransaction tx_decodes value (is.0 (eqb-true kind 0 whole))) refl
-  | inr other ↦ elim (cases_Bool (kind == 1)) [
-    | inl paid ↦ rw (other, paid, encoded paid_in output_text IsPaid paid_decodes value (is.1 (eqb-true kind 1 paid))) refl
-    | inr neither ↦ rw (other, neither) refl
-  ]
-]
-right_to Output pair kind value is = refl
+-- ---- the lengths of numbers and txids
+
+len_of : {X : Type 0} (decode : List ℕ → Option X) (text : X → List ℕ) (Fits : X → Type 0) → Decodes decode text Fits → (n : ℕ) → ((x : X) → Fits x → length (text x) ≡ n) → (value : List ℕ) → IsBytes value → is_some (decode value) ≡ true → length value ≡ n
+len_of decode text Fits laws n len value fits some =
+    let d = decoded decode text Fits laws value fits some in
+    ap (λ (l : List ℕ). length l) d.2 ∙ len d.0 d.1
+
+pub len4 : (value : List ℕ) → IsBytes value → is_some (number32_in value) ≡ true → length value ≡ 4
+len4 value fits some = len_of number32_in (to_le_bytes w32) (λ n. n < 2 ^ 32) number32_decodes 4 (λ n small. wide32.len n) value fits some
+
+len8 : (value : List ℕ) → IsBytes value → is_some (number64_in value) ≡ true → length value ≡ 8
+len8 value fits some = len_of number64_in (to_le_bytes w64) (λ n. n < 2 ^ 64) number64_decodes 8 (λ n small. wide64.len n) value fits some
+
+len32 : (value : List ℕ) → IsBytes value → is_some (txid_in value) ≡ true → length value ≡ 32
+len32 value fits some = len_of txid_in (λ (x : List ℕ). x) IsTxid txid_decodes 32 (λ x is. is.0) value fits some
+
+pub some4 : (value : List ℕ) → IsBytes value → length value ≡ 4 → is_some (number32_in value) ≡ true
+some4 value fits len = encoded number32_in (to_le_bytes w32) (λ n. n < 2 ^ 32) number32_decodes value (from_le_bytes w32 value, wide32.below value fits, sym (wide32.back value len fits))
+
+pub some8 : (value : List ℕ) → IsBytes value → length value ≡ 8 → is_some (number64_in value) ≡ true
+some8 value fits len = encoded number64_in (to_le_bytes w64) (λ n. n < 2 ^ 64) number64_decodes value (from_le_bytes w64 value, wide64.below value fits, sym (wide64.back value len fits))
+
+pub some32 : (value : List ℕ) → IsBytes value → length value ≡ 32 → is_some (txid_in value) ≡ true
+some32 value fits len = encoded txid_in (λ (x : List ℕ). x) IsTxid txid_decodes value (value, (len, fits), refl)
+
+-- ---- a value is as its type asks exactly where it is of the form
+
+pub right_of : (part : Part) (kind : ℕ) (value : List ℕ) → IsBytes value → ValueIs part kind value → IsRightValue part kind value
+right_of Global kind value fits is = λ version. len4 value fits (global_fits kind value is version)
+right_of Input kind value fits is = (
+  λ whole. decoded tx_in text_of IsTransaction tx_decodes value fits (whole_fits kind value is whole),
+  λ paid. decoded paid_in output_text IsPaid paid_decodes value fits (paid_fits kind value is paid),
+)
+right_of Output kind value fits is = tt
+right_of InputFields kind value fits is =
+    let f = fields_fit kind value is in
+    record {
+      whole = λ e. decoded tx_in text_of IsTransaction tx_decodes value fits (f.whole e);
+      paid = λ e. decoded paid_in output_text IsPaid paid_decodes value fits (f.paid e);
+      txid = λ e. len32 value fits (f.txid e);
+      index = λ e. len4 value fits (f.index e);
+      sequence = λ e. len4 value fits (f.sequence e);
+    }
+right_of OutputFields kind value fits is = λ amount. len8 value fits (amount_fits kind value is amount)
+
+pub form_of : (part : Part) (kind : ℕ) (value : List ℕ) → IsBytes value → IsRightValue part kind value → ValueIs part kind value
+form_of Global kind value fits is = global_value kind value (λ version. some4 value fits (is version))
+form_of Input kind value fits is = input_value kind value (λ whole. encoded tx_in text_of IsTransaction tx_decodes value (is.0 whole)) (λ paid. encoded paid_in output_text IsPaid paid_decodes value (is.1 paid))
+form_of Output kind value fits is = refl
+form_of InputFields kind value fits is = field_value kind value (record {
+  whole = λ e. encoded tx_in text_of IsTransaction tx_decodes value (is.whole e);
+  paid = λ e. encoded paid_in output_text IsPaid paid_decodes value (is.paid e);
+  txid = λ e. some32 value fits (is.txid e);
+  index = λ e. some4 value fits (is.index e);
+  sequence = λ e. some4 value fits (is.sequence e);
+})
+form_of OutputFields kind value fits is = output_value kind value (λ amount. some8 value fits (is amount))
 
 wrong_told : (part : Part) (pair kind : ℕ) (value : List ℕ) (fault : PsbtFault) → IsBytes value → value_fits part pair kind value ≡ Err fault → IsWrongValue part kind pair value fault
 unfolding value_fits
-wrong_told Global pair kind value fault fits e = elim (cases_Bool (kind == 251)) [
-  | inl version ↦ (eqb-true kind 251 version, version_told pair value fault fits (rw version at e))
-  | inr other ↦ let f = rw other at e in absurd cc
-]
-wrong_told Input pair kind value fault fits e = elim (cases_Bool (kind == 0)) [
-  | inl whole ↦
-      let g = met_told (is_some (tx_in value)) (faults.Field pair) tt fault (rw whole at e) in
-      inl (eqb-true kind 0 whole, none_decoded tx_in text_of IsTransaction tx_decodes value g.0, g.1)
-  | inr other ↦ elim (cases_Bool (kind == 1)) [
-    | inl paid ↦
-        let g = met_told (is_some (paid_in value)) (faults.Field pair) tt fault (rw (other, paid) at e) in
-        inr (eqb-true kind 1 paid, none_decoded paid_in output_text IsPaid paid_decodes value g.0, g.1)
-    | inr neither ↦ let f = rw (other, neither) at e in absurd cc
-  ]
-]
-wrong_told Output pair kind value fault fits e = absurd cc
+wrong_told part pair kind value fault fits e =
+    let g = met_told (form_fits part kind value) (faults.Field pair) tt fault e in
+    (λ right. both_ways (form_fits part kind value) g.0 (form_of part kind value fits right), g.1)
 
 wrong_given : (part : Part) (pair kind : ℕ) (value : List ℕ) (fault : PsbtFault) → IsBytes value → IsWrongValue part kind pair value fault → value_fits part pair kind value ≡ Err fault
 unfolding value_fits
-wrong_given Global pair kind value fault fits w = rw (eq-eqb kind 251 w.0) (version_given pair value fault w.1)
-wrong_given Input pair kind value fault fits (inl w) =
-    rw (eq-eqb kind 0 w.0, not_decoded tx_in text_of IsTransaction tx_decodes value fits w.1) (ap (λ (f : PsbtFault). Err f) (sym w.2))
-wrong_given Input pair kind value fault fits (inr w) =
-    let other : (kind == 0) ≡ false = ne_eqb kind 0 (λ none. absurd (omega (arith, w.0, none))) in
-    rw (other, eq-eqb kind 1 w.0, not_decoded paid_in output_text IsPaid paid_decodes value fits w.1) (ap (λ (f : PsbtFault). Err f) (sym w.2))
-wrong_given Output pair kind value fault fits w = absurd w
+wrong_given part pair kind value fault fits w =
+    let wrong : form_fits part kind value ≡ false = false_from_ne_true (form_fits part kind value) (λ e. w.0 (right_of part kind value fits e)) in
+    rw wrong (ap (λ (f : PsbtFault). Err f) (sym w.1))
 
 abbrev pub value_in : Part → (pair kind size : ℕ) → At → Result (List ℕ × At) PsbtFault
 value_in part pair kind size at = cut (bytes_at size at) >>= λ v. value_fits part pair kind v.0 >>= λ _. Ok v

@@ -5,34 +5,31 @@ use Rattle.std.specs.List.{flat_map}
 use Rattle.std.proofs.lemmas.Bool.{cases_Bool, eqb-true, eqb-false}
 use Rattle.std.proofs.lemmas.List.{append-nil, length-append, nil_from_length}
 use Rattle.std.proofs.lemmas.List.Concat.{flat_map-cons}
-use Rattle.std.proofs.lemmas.List.Elements.{All-contains}
 use Rattle.fund_base.specs.declared.cursor.CutFault.{CutFault}
 use Rattle.fund_base.specs.CompactSize.{compact, prefixed, IsCut}
 use Rattle.fund_base.specs.Cursor.{At, IsBytes, take_at as bytes_at, compact_at}
 use Rattle.fund_base.specs.Parsing.{◌>>=◌, string_at}
-use Rattle.fund_base.proofs.Laws.{ok_is, Takes, Again, Reads, reads_told}
+use Rattle.fund_base.proofs.Laws.{Takes, Again, Reads, reads_told}
 use Rattle.fund_base.proofs.LawsOfNumbers.{count_reads}
-use Rattle.tx_codec.specs.TransactionText.{text_of, output_text, IsTransaction}
 use Rattle.psbt_codec.specs.declared.fault.PsbtFault.{PsbtFault}
 use Rattle.psbt_codec.specs.declared.fault.PsbtFault.TheVariants as faults
 use Rattle.psbt_codec.specs.declared.pairs.Part.{Part}
-use Rattle.psbt_codec.specs.declared.pairs.Part.TheVariants.{Global, Input, Output}
+use Rattle.psbt_codec.specs.declared.pairs.Part.TheVariants.{Global, Input, Output, InputFields, OutputFields}
 use Rattle.psbt_codec.specs.Fault.{cut_fault}
-use Rattle.psbt_codec.specs.Psbt.{Pair, typed, pair_text, map_text, IsKey, IsPair, IsMap, IsPaid}
-use Rattle.psbt_codec.specs.Reading.{cut, start, tx_in, paid_in, has_key, kind_in, value_fits, keyed_at, some_pair, pair_at, pairs_within, ends_or, map_at}
-use Rattle.psbt_codec.proofs.Decoded.{tx_decodes, paid_decodes}
-use Rattle.psbt_codec.proofs.PairLaws.{types_of, ValueIs, PairFits, FitsBehind, PairRead, pair_takes, pair_again, end_again, compact_some}
+use Rattle.psbt_codec.specs.Psbt.{Pair, typed, pair_text, map_text, IsKey, IsPair, IsMap}
+use Rattle.psbt_codec.specs.Reading.{cut, has_key, kind_in, value_fits, keyed_at, some_pair, pair_at, pairs_within, ends_or, map_at}
+use Rattle.psbt_codec.proofs.PairLaws.{types_of, ValueIs, FitsBehind, PairRead, pair_takes, pair_again, end_again, compact_some}
 use Rattle.psbt_codec.proofs.MapReads.{MapFits, map_reads}
-use Rattle.psbt_codec.proofs.MapMeaning.{map_is, map_fits, typed_is}
+use Rattle.psbt_codec.proofs.MapMeaning.{map_is, map_fits, typed_is, holds_typed}
 use Rattle.tx_laws.specs.Broken.{IsFirst}
 use Rattle.tx_laws.proofs.Cuts.{size_told, size_given}
 use Rattle.tx_laws.proofs.Judged.{Judged, Either, bind_fails, first, judged_as, judged_is, mapped, never, then, then_from}
 use Rattle.tx_laws.proofs.Leaves.{above}
 use Rattle.tx_laws.proofs.Parts.{alone}
-use Rattle.psbt_laws.specs.Fields.{Field, Breaks, meant}
+use Rattle.psbt_laws.specs.Fields.{Field, Breaks, meant, IsRightValue}
 use Rattle.psbt_laws.specs.Fields.Field.{KeySize, Key, ValueSize, Value}
-use Rattle.psbt_laws.specs.Order.{IsNextKey, PairComes, IsRightValue, ArePairs, MapComes, MapThen}
-use Rattle.psbt_laws.proofs.Keys.{bytes_of, fresh_not, not_fresh, IsKeyRead, key_in, keys, key_told, key_given, value_in, value_told, value_given, decoded, encoded}
+use Rattle.psbt_laws.specs.Order.{IsNextKey, PairComes, ArePairs, MapComes, MapThen}
+use Rattle.psbt_laws.proofs.Keys.{bytes_of, fresh_not, not_fresh, IsKeyRead, key_in, keys, key_told, key_given, value_in, value_told, value_given, form_of, right_of, same_types}
 
 abbrev IsSize : ℕ → Type 0
 IsSize n = n < 2 ^ 64
@@ -316,49 +313,39 @@ pairs_judged (suc n) part before at fits room =
 
 -- ---- a map
 
-same_types : (part : Part) → types_of part ≡ meant part
-same_types Global = refl
-same_types Input = refl
-same_types Output = refl
-
--- the type of a key that is a type alone
-kind_of : (types : List ℕ) (kind : ℕ) (k : IsKey types (compact kind)) → kind < 2 ^ 64 → k.kind ≡ kind
-kind_of types kind k small =
-    let a = count_reads.again k.kind (start (compact kind)) k.key_data k.kind_fits k.parts in
-    let b = count_reads.again kind (start (compact kind)) [] small (sym (append-nil (compact kind))) in
-    ap (λ (x : ℕ × At). x.0) (ok_is (k.kind, a.next) (kind, b.next) (compact_at (start (compact kind))) a.reads b.reads)
-
-right_of : (part : Part) (kind : ℕ) (value : List ℕ) → PairFits part (typed kind value) → IsRightValue part kind value
-right_of Global kind value p = λ version. p.value_is (kind_of (types_of Global) kind p.is_pair.key (omega (arith, version)) ∙ version)
-right_of Input kind value p = (
-  λ whole. decoded tx_in text_of IsTransaction tx_decodes value p.is_pair.value_fits.0 (p.value_is.0 (kind_of (types_of Input) kind p.is_pair.key (omega (arith, whole)) ∙ whole)),
-  λ paid. decoded paid_in output_text IsPaid paid_decodes value p.is_pair.value_fits.0 (p.value_is.1 (kind_of (types_of Input) kind p.is_pair.key (omega (arith, paid)) ∙ paid)),
-)
-right_of Output kind value p = tt
-
 are_pairs : (part : Part) (pairs : List Pair) → MapFits part [] pairs → ArePairs part pairs
 are_pairs part pairs fit =
     let m = map_is part pairs fit in
     record {
       pairs_fit = subst (λ (types : List ℕ). IsMap types pairs) (same_types part) m.0;
-      values = λ kind value there. right_of part kind value (All-contains (PairFits part) pairs (typed kind value) m.1 there);
+      values = λ kind value small there.
+          let h = holds_typed part pairs m.1 kind small value there in
+          right_of part kind value h.0.0 h.1;
     }
 
-value_is : (part : Part) (pairs : List Pair) → ArePairs part pairs → (p : Pair) (q : IsPair (types_of part) p) → Contains pairs p → ValueIs part q.key.kind p.value
-value_is Global pairs are p q there = λ version.
-    let is : p ≡ typed 251 p.value = typed_is (types_of Global) p q.key 251 version (1, omega arith, refl) in
-    are.values 251 p.value (subst (λ (x : Pair). Contains pairs x) is there) refl
-value_is Input pairs are p q there = (
-  λ whole.
-      let is : p ≡ typed 0 p.value = typed_is (types_of Input) p q.key 0 whole (0, omega arith, refl) in
-      encoded tx_in text_of IsTransaction tx_decodes p.value ((are.values 0 p.value (subst (λ (x : Pair). Contains pairs x) is there)).0 refl),
-  λ paid.
-      let is : p ≡ typed 1 p.value = typed_is (types_of Input) p q.key 1 paid (1, omega arith, refl) in
-      encoded paid_in output_text IsPaid paid_decodes p.value ((are.values 1 p.value (subst (λ (x : Pair). Contains pairs x) is there)).1 refl),
-)
-value_is Output pairs are p q there = tt
+there_typed : (part : Part) (pairs : List Pair) (p : Pair) (q : IsPair (types_of part) p) → Contains pairs p → (kind : ℕ) → q.key.kind ≡ kind → Contains (types_of part) kind → Contains pairs (typed kind p.value)
+there_typed part pairs p q there kind is listed = subst (λ (x : Pair). Contains pairs x) (typed_is (types_of part) p q.key kind is listed) there
 
-pairs_fit : (part : Part) (pairs : List Pair) → ArePairs part pairs → MapFits part [] pairs
+right_there : (part : Part) (pairs : List Pair) → ArePairs part pairs → (p : Pair) (q : IsPair (types_of part) p) → Contains pairs p → IsRightValue part q.key.kind p.value
+right_there Global pairs are p q there = λ e. are.values 251 p.value (omega arith) (there_typed Global pairs p q there 251 e (1, omega arith, refl)) refl
+right_there Input pairs are p q there = (
+  λ e. (are.values 0 p.value (omega arith) (there_typed Input pairs p q there 0 e (0, omega arith, refl))).0 refl,
+  λ e. (are.values 1 p.value (omega arith) (there_typed Input pairs p q there 1 e (1, omega arith, refl))).1 refl,
+)
+right_there Output pairs are p q there = tt
+right_there InputFields pairs are p q there = record {
+  whole = λ e. (are.values 0 p.value (omega arith) (there_typed InputFields pairs p q there 0 e (0, omega arith, refl))).whole refl;
+  paid = λ e. (are.values 1 p.value (omega arith) (there_typed InputFields pairs p q there 1 e (1, omega arith, refl))).paid refl;
+  txid = λ e. (are.values 14 p.value (omega arith) (there_typed InputFields pairs p q there 14 e (2, omega arith, refl))).txid refl;
+  index = λ e. (are.values 15 p.value (omega arith) (there_typed InputFields pairs p q there 15 e (3, omega arith, refl))).index refl;
+  sequence = λ e. (are.values 16 p.value (omega arith) (there_typed InputFields pairs p q there 16 e (4, omega arith, refl))).sequence refl;
+}
+right_there OutputFields pairs are p q there = λ e. are.values 3 p.value (omega arith) (there_typed OutputFields pairs p q there 3 e (0, omega arith, refl)) refl
+
+value_is : (part : Part) (pairs : List Pair) → ArePairs part pairs → (p : Pair) (q : IsPair (types_of part) p) → Contains pairs p → ValueIs part q.key.kind p.value
+value_is part pairs are p q there = form_of part q.key.kind p.value q.value_fits.0 (right_there part pairs are p q there)
+
+pub pairs_fit : (part : Part) (pairs : List Pair) → ArePairs part pairs → MapFits part [] pairs
 pairs_fit part pairs are = map_fits part pairs (subst (λ (types : List ℕ). IsMap types pairs) (sym (same_types part)) are.pairs_fit) (value_is part pairs are)
 
 map_judged : (part : Part) (at : At) → IsBytes at.rest → Judged Breaks (MapComes part) at (map_at part at)
@@ -379,3 +366,9 @@ maps part = record {
 pub map_then : {Y : Type 0} (part : Part) (Then : List Pair → List ℕ → Field → Type 0) (at : At) (f : List Pair × At → Result Y PsbtFault) → IsBytes at.rest → ((pairs : List Pair) (next : At) → ArePairs part pairs → IsBytes next.rest → Judged Breaks (Then pairs) next (f (pairs, next)))
     → Judged Breaks (MapThen part Then) at (map_at part at >>= f)
 map_then part Then at f fits later = then Breaks (λ at. map_at part at) map_text (ArePairs part) (maps part) (MapComes part) Then at f fits (map_judged part at fits) later
+
+-- the same where what then comes may depend on where the map ends
+pub map_then_from : {Y : Type 0} (part : Part) (Then : List Pair → List ℕ → Field → Type 0) (at : At) (f : List Pair × At → Result Y PsbtFault) → IsBytes at.rest
+    → ((pairs : List Pair) (next : At) → ArePairs part pairs → IsBytes next.rest → next.place ≡ at.place + length (map_text pairs) → Judged Breaks (Then pairs) next (f (pairs, next)))
+    → Judged Breaks (MapThen part Then) at (map_at part at >>= f)
+map_then_from part Then at f fits later = then_from Breaks (λ at. map_at part at) map_text (ArePairs part) (maps part) (MapComes part) Then at f fits (map_judged part at fits) (λ pairs next are next_fits parts place. later pairs next are next_fits place)

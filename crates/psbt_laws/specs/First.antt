@@ -6,5 +6,5 @@ use Rattle.psbt_laws.specs.Fields.{Breaks}
 use Rattle.psbt_laws.specs.Order.{PsbtComes}
 
 -- The bytes aren't a PSBT, where the end counts as a field: this fault has the first field that isn't as it must be.
-abbrev pub IsFault : List ℕ → PsbtFault → Type 0
-IsFault bytes fault = IsBroken PsbtComes Breaks 0 bytes fault
+abbrev pub IsPsbtFault : List ℕ → PsbtFault → Type 0
+IsPsbtFault bytes fault = IsBroken PsbtComes Breaks 0 bytes fault

@@ -1,18 +1,20 @@
--- Which field of a PSBT comes behind which bytes (BIP 174, version 0, 'Specification'). None of it speaks of faults.
-use Rattle.std.specs.Prelude.{ℕ, ◌≡◌, ◌+◌, ◌^◌, ◌<◌, ◌⊎◌, List, [], ◌∷◌, ◌++◌, length, All, Contains}
+-- Which field of a PSBT comes behind which bytes (BIP 174 and BIP 370, 'Specification'). None of it speaks of faults.
+use Rattle.std.specs.Prelude.{ℕ, zero, suc, ◌≡◌, ◌+◌, ◌^◌, ◌<◌, ◌≤◌, ◌⊎◌, List, [], ◌∷◌, ◌++◌, length, sum_by, All, Contains}
+use Rattle.std.specs.Int.{w32, w64, to_le_bytes}
 use Rattle.std.specs.List.{flat_map}
 use Rattle.fund_base.specs.CompactSize.{compact, prefixed}
+use Rattle.fund_base.specs.declared.outpoint.OutPoint.{OutPoint}
 use Rattle.tx_codec.specs.declared.tx.TxIn.{TxIn}
 use Rattle.tx_codec.specs.declared.tx.TxOut.{TxOut}
 use Rattle.tx_codec.specs.Transaction.{Transaction}
-use Rattle.tx_codec.specs.TransactionText.{text_of, output_text, IsTransaction, IsLegacy}
+use Rattle.tx_codec.specs.TransactionText.{text_of, IsTransaction, IsLegacy}
 use Rattle.tx_codec.specs.Txid.{txid_of}
 use Rattle.psbt_codec.specs.declared.pairs.Part.{Part}
-use Rattle.psbt_codec.specs.declared.pairs.Part.TheVariants.{Global, Input, Output}
-use Rattle.psbt_codec.specs.Psbt.{Pair, magic, typed, pair_text, map_text, IsString, IsKey, IsMap, IsPaid}
-use Rattle.tx_laws.specs.Broken.{IsBehind, IsFirst}
-use Rattle.psbt_laws.specs.Fields.{Field, meant, HasKey}
-use Rattle.psbt_laws.specs.Fields.Field.{Magic, KeySize, Key, ValueSize, Value, Payment, Parent, End}
+use Rattle.psbt_codec.specs.declared.pairs.Part.TheVariants.{Global, Input, Output, InputFields, OutputFields}
+use Rattle.psbt_codec.specs.Psbt.{Pair, magic, typed, pair_text, map_text, IsString, IsKey, IsMap, RequiresLock}
+use Rattle.tx_laws.specs.Broken.{FollowsWhole, IsFirst}
+use Rattle.psbt_laws.specs.Fields.{Field, meant, HasKey, IsMisformed, IsRightValue}
+use Rattle.psbt_laws.specs.Fields.Field.{Magic, KeySize, Key, ValueSize, Value, Version, Payment, Form, Needed, Some, Unlocked, Parent, Worth, End}
 
 -- ---- a pair
 
@@ -46,16 +48,10 @@ PairComes part earlier front other = ⊥
 
 -- ---- a map
 
--- a value that is as its type asks
-abbrev pub IsRightValue : Part → ℕ → List ℕ → Type 0
-IsRightValue Global kind value = kind ≡ 251 → value ≡ 0 ∷ 0 ∷ 0 ∷ 0 ∷ []
-IsRightValue Input kind value = (kind ≡ 0 → (tx : Transaction) × IsTransaction tx × (value ≡ text_of tx)) × (kind ≡ 1 → (o : TxOut) × IsPaid o × (value ≡ output_text o))
-IsRightValue Output kind value = Unit {0}
-
 -- the pairs of a map, or the first of them
 pub record ArePairs (part : Part) (pairs : List Pair) : Type 0 where
   pub pairs_fit : IsMap (meant part) pairs
-  pub values : (kind : ℕ) (value : List ℕ) → Contains pairs (typed kind value) → IsRightValue part kind value
+  pub values : (kind : ℕ) (value : List ℕ) → kind < 2 ^ 64 → Contains pairs (typed kind value) → IsRightValue part kind value
 
 -- behind some pairs of a map, in the next
 pub record MapComes (part : Part) (front : List ℕ) (field : Field) : Type 0 where
@@ -67,23 +63,33 @@ pub record MapComes (part : Part) (front : List ℕ) (field : Field) : Type 0 wh
 
 -- a map, and what comes behind it
 abbrev pub MapThen : Part → (List Pair → List ℕ → Field → Type 0) → List ℕ → Field → Type 0
-MapThen part Then front field = MapComes part front field ⊎ IsBehind map_text (ArePairs part) Then front field
+MapThen part Then front field = MapComes part front field ⊎ FollowsWhole map_text (ArePairs part) Then front field
 
--- ---- the whole
+-- ---- what the pairs of a map must hold, in turn
+
+-- this must hold, and then come others
+abbrev pub Tested : Field → Type 0 → (List ℕ → Field → Type 0) → List ℕ → Field → Type 0
+Tested d Is Then front field = IsFirst d front field ⊎ (Is × Then front field)
+
+-- a pair of this type must be there, and tells something on which what then comes depends
+abbrev pub Told : {X : Type 0} → (kind : ℕ) → (X → List ℕ) → (X → Type 0) → List Pair → (X → List ℕ → Field → Type 0) → List ℕ → Field → Type 0
+Told {X} kind text Fits pairs Then front field = IsFirst (Needed kind pairs) front field ⊎ ((x : X) × (Fits x × Contains pairs (typed kind (text x))) × Then x front field)
+
+-- ---- version 0
 
 -- the map of each output, one after the other, and then the end
 abbrev pub OutputsCome : List TxOut → List ℕ → Field → Type 0
 OutputsCome [] = IsFirst End
 OutputsCome (o ∷ outputs) = MapThen Output (λ pairs. OutputsCome outputs)
 
--- each transaction that the pairs hold is the one that the input spends from
-abbrev pub HasParent : TxIn → List Pair → Type 0
-HasParent input pairs = (tx : Transaction) → IsTransaction tx → Contains pairs (typed 0 (text_of tx)) → (txid_of tx ≡ input.prev.txid) × (input.prev.index < length tx.outputs)
+-- each transaction that the pairs hold is the one that an input of this outpoint spends from
+abbrev pub HasParent : OutPoint → List Pair → Type 0
+HasParent point pairs = (tx : Transaction) → IsTransaction tx → Contains pairs (typed 0 (text_of tx)) → (txid_of tx ≡ point.txid) × (point.index < length tx.outputs)
 
 -- the map of each input from this index on, and behind each that its pairs hold no other transaction
 abbrev pub InputsCome : ℕ → List TxIn → (List ℕ → Field → Type 0) → List ℕ → Field → Type 0
 InputsCome index [] Then = Then
-InputsCome index (i ∷ inputs) Then = MapThen Input (λ pairs front field. IsFirst (Parent index i pairs) front field ⊎ (HasParent i pairs × InputsCome (index + 1) inputs Then front field))
+InputsCome index (i ∷ inputs) Then = MapThen Input (λ pairs. Tested (Parent index i.prev pairs) (HasParent i.prev pairs) (InputsCome (index + 1) inputs Then))
 
 -- the pairs of a global map hold this unsigned transaction
 pub record HasPayment (pairs : List Pair) (tx : Transaction) : Type 0 where
@@ -95,6 +101,61 @@ pub record HasPayment (pairs : List Pair) (tx : Transaction) : Type 0 where
 abbrev pub PaymentThen : List Pair → List ℕ → Field → Type 0
 PaymentThen pairs front field = IsFirst (Payment pairs) front field ⊎ ((tx : Transaction) × HasPayment pairs tx × InputsCome 0 tx.inputs (OutputsCome tx.outputs) front field)
 
+-- ---- version 2
+
+abbrev pub IsNumber32 : ℕ → Type 0
+IsNumber32 n = n < 2 ^ 32
+
+abbrev pub IsNumber64 : ℕ → Type 0
+IsNumber64 n = n < 2 ^ 64
+
+-- 32 bytes
+abbrev pub IsTxid : List ℕ → Type 0
+IsTxid txid = (length txid ≡ 32) × All (λ b. b < 256) txid
+
+-- the map of so many outputs behind these, one after the other, and then the end
+abbrev pub OutputFieldsCome : List TxOut → ℕ → List ℕ → Field → Type 0
+OutputFieldsCome earlier zero = IsFirst End
+OutputFieldsCome earlier (suc n) =
+    MapThen OutputFields (λ pairs.
+    Told 3 (to_le_bytes w64) IsNumber64 pairs (λ value.
+    Told 4 (λ (script : List ℕ). script) IsString pairs (λ script.
+    Tested (Worth earlier value) (sum_by (λ (o : TxOut). o.value) earlier + value ≤ 2_100_000_000_000_000) (OutputFieldsCome (earlier ++ record { value = value; script = script } ∷ []) n))))
+
+-- the map of so many inputs from this index on
+abbrev pub InputFieldsCome : ℕ → ℕ → (List ℕ → Field → Type 0) → List ℕ → Field → Type 0
+InputFieldsCome index zero Then = Then
+InputFieldsCome index (suc n) Then =
+    MapThen InputFields (λ pairs.
+    Told 14 (λ (txid : List ℕ). txid) IsTxid pairs (λ txid.
+    Told 15 (to_le_bytes w32) IsNumber32 pairs (λ number.
+    Tested (Unlocked index pairs) (RequiresLock pairs → ⊥) (Tested (Parent index (record { txid = txid; index = number }) pairs) (HasParent (record { txid = txid; index = number }) pairs) (InputFieldsCome (index + 1) n Then)))))
+
+-- no pair is misformed in this type
+abbrev pub AreFormed : ℕ → List Pair → Type 0
+AreFormed kind pairs = All (λ (p : Pair). IsMisformed kind p → ⊥) pairs
+
+-- what the pairs of a global map must hold, and the maps of so many inputs and outputs
+abbrev pub CountsThen : List Pair → List ℕ → Field → Type 0
+CountsThen pairs =
+    Tested (Form 0 pairs) (AreFormed 0 pairs) (Tested (Form 2 pairs) (AreFormed 2 pairs) (Tested (Form 3 pairs) (AreFormed 3 pairs) (Tested (Form 4 pairs) (AreFormed 4 pairs) (Tested (Form 5 pairs) (AreFormed 5 pairs)
+    (Told 2 (to_le_bytes w32) IsNumber32 pairs (λ version.
+    Told 4 compact IsNumber64 pairs (λ inputs.
+    Told 5 compact IsNumber64 pairs (λ outputs.
+    Tested (Some 4 pairs) (0 < inputs) (Tested (Some 5 pairs) (0 < outputs) (InputFieldsCome 0 inputs (OutputFieldsCome [] outputs)))))))))))
+
+-- ---- the whole
+
+-- the pairs of a global map tell this version: 0 where none tells one
+abbrev pub TellsVersion : List Pair → ℕ → Type 0
+TellsVersion pairs n = Contains pairs (typed 251 (to_le_bytes w32 n)) ⊎ (((value : List ℕ) → Contains pairs (typed 251 value) → ⊥) × (n ≡ 0))
+
+-- that the pairs tell version 0 or 2, and what then comes
+abbrev pub VersionThen : List Pair → List ℕ → Field → Type 0
+VersionThen pairs front field =
+    IsFirst (Version pairs) front field
+    ⊎ ((TellsVersion pairs 0 × PaymentThen pairs front field) ⊎ (TellsVersion pairs 2 × CountsThen pairs front field))
+
 -- behind the magic
 pub record IsBehindMagic (Then : List ℕ → Field → Type 0) (front : List ℕ) (field : Field) : Type 0 where
   pub inner : List ℕ
@@ -103,4 +164,4 @@ pub record IsBehindMagic (Then : List ℕ → Field → Type 0) (front : List �
 
 -- Behind these bytes of a PSBT comes this field.
 abbrev pub PsbtComes : List ℕ → Field → Type 0
-PsbtComes front field = IsFirst Magic front field ⊎ IsBehindMagic (MapThen Global PaymentThen) front field
+PsbtComes front field = IsFirst Magic front field ⊎ IsBehindMagic (MapThen Global VersionThen) front field

@@ -30,9 +30,9 @@ use Rattle.search_run.specs.Searched.{searches}
 use Rattle.search_run.specs.Step.{AreSteps, IsStep, PlainStep, is_drawn}
 use Rattle.search_run.specs.declared.ending.End.TheVariants as endings
 use Rattle.report_check.specs.Answer.{AreTold, IsFirstTold, IsNamedAnswer, IsTold, IsToldBy, IsToldNone, NamesOutcome, NamesPayment}
-use Rattle.report_check.specs.Due.{AreFor, HasStepAt, IsNamedAs}
+use Rattle.report_check.specs.DueSections.{AreFor, HasStepAt, IsNamedAs}
 use Rattle.report_check.specs.Proved.{AreProved, IsProvedFor}
-use Rattle.report_check.specs.Telling.{Comes, ComesBy, Tells}
+use Rattle.report_check.specs.LogAnswer.{Comes, ComesBy, HasAnswer}
 use Rattle.report_check.proofs.BackedLaws.{AreSearched, told_answer}
 use Rattle.report_check.proofs.FittingLaws.{searches_draw, searches_search}
 
@@ -89,7 +89,7 @@ next_of seed x xs ss r rest c h = by (is_drawn x.stage) refl c
         let b = best_later x xs s rest d (subst (λ (ts : List PlainSection). AllZip IsBestFor (searches (x ∷ xs)) ts) is h) in
         record { result = subst (λ (c : Bool). IsResultBy c seed x r) (sym d) (subst (IsBest x.problem) (sym told) b.0); later = b.1 }
 
-tells_chooses : (seed : List ℕ) (xs : List PlainStep) (ss : List PlainSection) (found : List PlainFound) (o : Option PlainFound) → AllZip IsBestFor (searches xs) ss → Tells seed xs ss found o → Chooses seed xs found o
+tells_chooses : (seed : List ℕ) (xs : List PlainStep) (ss : List PlainSection) (found : List PlainFound) (o : Option PlainFound) → AllZip IsBestFor (searches xs) ss → HasAnswer seed xs ss found o → Chooses seed xs found o
 tells_chooses seed [] ss found o h k = k
 tells_chooses seed (x ∷ xs) ss found o h (r, rest, comes, way) =
     let n = next_of seed x xs ss r rest comes h in (
@@ -127,7 +127,7 @@ best_of_front p upto rest sections steps e h k =
 
 -- what the first steps come to by their sections is their answer
 pub tells_answer : (p : PlainPlan) (upto rest : List PlainStep) (sections : List PlainSection) (o : Option PlainFound) → AreSteps (steps_of p) → steps_of p ≡ upto ++ rest → AreWhole upto → AreFor (searches upto) sections → AreProved (steps_of p) sections →
-    Tells p.request.seed upto sections [] o → IsAnswer p.request.seed upto o
+    HasAnswer p.request.seed upto sections [] o → IsAnswer p.request.seed upto o
 tells_answer p upto rest sections o steps e whole h k told =
     let proved = proved_front (steps_of p) upto rest sections e h k in
     let best = best_zip (searches upto) sections (λ x there. step_in (steps_of p) x steps (front_in (steps_of p) upto rest x e (searches_in upto x there))) proved in

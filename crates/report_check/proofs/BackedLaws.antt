@@ -24,7 +24,7 @@ use Rattle.search_run.specs.Step.{AreSteps, IsStep, PlainStep, is_drawn}
 use Rattle.report_check.specs.Answer.{AreTold, IsTold, IsToldAnswer, IsToldBy, IsToldNone}
 use Rattle.fund_report.specs.declared.report.Report.{Report}
 use Rattle.fund_report.specs.declared.report.Report.TheVariants.{Funded, NoSelection, Unfinished}
-use Rattle.report_check.specs.Due.{AreFor, AreForFirst, AreRight, AreRightBy, AreUpTo, IsNamedAs}
+use Rattle.report_check.specs.DueSections.{AreFor, AreForFirst, AreRight, AreRightBy, AreUpTo, IsNamedAs}
 use Rattle.report_check.specs.Verdict.{HasLog}
 use Rattle.report_check.specs.Proved.{AreProved, IsProvedFor}
 

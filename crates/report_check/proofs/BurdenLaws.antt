@@ -5,7 +5,7 @@ use Rattle.std.proofs.Common.{refl, sym, ap, subst, arith}
 use Rattle.std.proofs.lemmas.List.Elements.{All-cons, All-contains, All-nil, All-weaker}
 use Rattle.fee_rates.specs.Fee.{fee_of, vsize_of}
 use Rattle.fee_rates.specs.Terms.{base_of}
-use Rattle.fee_rates.specs.declared.terms.Load.{Load}
+use Rattle.fee_rates.specs.declared.terms.PaymentLoad.{PaymentLoad}
 use Rattle.fund_base.proofs.Lists.{in_tail}
 use Rattle.coin_candidates.specs.declared.candidate.Candidate.{Candidate}
 use Rattle.fund_plan.proofs.BringLaws.{base_more}
@@ -32,16 +32,18 @@ use Rattle.report_check.specs.Verdict.{IsPaid}
 use Rattle.report_check.proofs.PaidLaws.{pays_even}
 
 -- what balances brings the outputs, the burden and the fee of the whole weight
-even_covers : (r : PlainRequest) (l : Load) (coins : List Candidate) (amount : Option ℕ) → IsEven r l coins amount → outputs_of r amount + l.burden + fee_of r.rate (vsize_of (payment_weight l coins amount)) ≤ value_of coins
+even_covers : (r : PlainRequest) (l : PaymentLoad) (coins : List Candidate) (amount : Option ℕ) → IsEven r l coins amount → outputs_of r amount + l.burden + fee_of r.rate (vsize_of (payment_weight l coins amount)) ≤ value_of coins
 even_covers r l coins None h =
     let due = h.balance.0 in
-    plain_covers r.rate (base_of l) (paid_to r.recipients + l.burden) (raised_of r.rate l) (value_of coins) coins (omega (arith, due))
+    let all = plain_covers r.rate (base_of l) (paid_to r.recipients + l.burden) (raised_of r.rate l) (value_of coins) coins (omega (arith, due)) in
+    omega (arith, all)
 even_covers r l coins (Some amount) h =
     let due = h.balance in
-    change_covers r.rate (base_of l) (paid_to r.recipients + amount + l.burden) (raised_of r.rate l) (value_of coins) l.change_size coins (omega (arith, due))
+    let all = change_covers r.rate (base_of l) (paid_to r.recipients + amount + l.burden) (raised_of r.rate l) (value_of coins) l.change_size coins (omega (arith, due)) in
+    omega (arith, all)
 
 -- what the payment of a row is to carry has the plan's burden, and a base no less than that of the presets alone
-record IsNoLess (p : PlainPlan) (l : Load) : Type 0 where
+record IsNoLess (p : PlainPlan) (l : PaymentLoad) : Type 0 where
   burden : l.burden ≡ burden_in p
   base : base_of (load_of p.request p.change (presets_in p) (burden_in p)) ≤ base_of l
 
@@ -70,7 +72,7 @@ burden_said p f (t, text, k) =
     let fee = k.fee in
     omega (arith, all, size, fee)
 
-least_by : (l : Load) (coins : List Candidate) (change : Option ℕ) → base_of l + weight_of coins ≤ payment_weight l coins change
+least_by : (l : PaymentLoad) (coins : List Candidate) (change : Option ℕ) → base_of l + weight_of coins ≤ payment_weight l coins change
 least_by l coins None = omega arith
 least_by l coins (Some n) = omega arith
 

@@ -10,7 +10,7 @@ use Rattle.log_checker.specs.declared.fault.LogFault.TheVariants as fault
 use Rattle.search_run.specs.Searched.{searches}
 use Rattle.search_run.specs.Step.{PlainStep, is_drawn}
 use Rattle.report_check.specs.Checking.{Checks, IsCheckedBy, Refuses}
-use Rattle.report_check.specs.Due.{AreForFirst}
+use Rattle.report_check.specs.DueSections.{AreForFirst}
 use Rattle.report_check.specs.Proved.{AreProved, IsFirstRefused, IsProvedFor}
 use Rattle.report_check.specs.Refused.{IsLogRefusal}
 use Rattle.report_check.specs.declared.fault.CheckFault.{CheckFault}

@@ -7,7 +7,7 @@ use Rattle.std.proofs.lemmas.List.{append-nil, drop_all, length-append}
 use Rattle.closing_log.specs.Log.{PlainSection}
 use Rattle.search_run.specs.Searched.{searches}
 use Rattle.search_run.specs.Step.{PlainStep, is_drawn}
-use Rattle.report_check.specs.Due.{AreAllButLast, AreFor, AreForFirst, IsFirstWrong, IsNamedAs, LeavesHere, PartsHere}
+use Rattle.report_check.specs.DueSections.{AreAllButLast, AreFor, AreForFirst, IsFirstWrong, IsNamedAs, LeavesHere, PartsHere}
 use Rattle.report_check.specs.Fitting.{HasFitting, IsPast, Passes, Stops}
 use Rattle.report_check.proofs.SliceLaws.{drop_step}
 

@@ -6,9 +6,9 @@ use Rattle.std.proofs.lemmas.List.{append-nil, length-append, take_all}
 use Rattle.std.proofs.lemmas.List.Elements.{All-append, All-from_recursion}
 use Rattle.closing_log.proofs.LogLaws.{one_log}
 use Rattle.closing_log.specs.Exact.{Begins}
-use Rattle.closing_log.specs.Gives.{IsFault}
+use Rattle.closing_log.specs.Gives.{IsLogTextFault}
 use Rattle.closing_log.specs.Log.{PlainLog, PlainOpen, PlainSection}
-use Rattle.closing_log.specs.LogText.{AreSections, IsBehind, IsClosed, IsEnding, IsLetter, IsLogText, IsOpen, closed_text, head_text}
+use Rattle.closing_log.specs.LogText.{AreSections, AreJoined, IsClosed, IsEnding, IsLetter, IsLogText, IsOpen, closed_text, head_text}
 use Rattle.closing_log.specs.declared.fault.LogTextFault.{LogTextFault}
 use Rattle.closing_log.specs.declared.fault.LogTextFault.TheVariants as faults
 use Rattle.report_check.specs.Proved.{IsEndedText}
@@ -33,7 +33,7 @@ closing = codes "\nanswer " ++ (codes "none" ++ codes "\n")
 abbrev closes : List ℕ
 closes = (83 ∷ [] ++ closing) ++ codes "end\n"
 
-section_closed : (text : List ℕ) (o : PlainOpen) → IsOpen text o → IsBehind (λ front. IsClosed front (closed_of o)) (λ back. IsEnding back None true) (text ++ closes)
+section_closed : (text : List ℕ) (o : PlainOpen) → IsOpen text o → AreJoined (λ front. IsClosed front (closed_of o)) (λ back. IsEnding back None true) (text ++ closes)
 section_closed text o h =
     record {
       front = closed_text h.digits (closed_of o);
@@ -56,7 +56,7 @@ section_closed text o h =
     }
 
 -- sections one behind the other, with one more in place of what ends them
-one_behind : (ss : List PlainSection) (s : PlainSection) (Ending : List ℕ → Type 0) (more : List ℕ) → ((t : List ℕ) → Ending t → IsBehind (λ front. IsClosed front s) (λ back. IsEnding back None true) (t ++ more)) →
+one_behind : (ss : List PlainSection) (s : PlainSection) (Ending : List ℕ → Type 0) (more : List ℕ) → ((t : List ℕ) → Ending t → AreJoined (λ front. IsClosed front s) (λ back. IsEnding back None true) (t ++ more)) →
     (text : List ℕ) → AreSections ss Ending text → AreSections (ss ++ s ∷ []) (λ back. IsEnding back None true) (text ++ more)
 one_behind [] s Ending more close text h = close text h
 one_behind (t ∷ ts) s Ending more close text h =
@@ -110,7 +110,7 @@ begins_so front b = record { more = b.more; value = b.value; means = b.means.0 }
 
 -- ---- the place
 
-pub form_refused : (bytes : List ℕ) (place sections : ℕ) → IsFault bytes (faults.Form place sections) → IsFormRefusal bytes (check.LogForm place)
+pub form_refused : (bytes : List ℕ) (place sections : ℕ) → IsLogTextFault bytes (faults.Form place sections) → IsFormRefusal bytes (check.LogForm place)
 form_refused bytes place sections h =
     let f = h.0 in
     record {
@@ -130,6 +130,6 @@ open_refused bytes log h e =
     }
 
 -- bytes are refused for their fault
-pub refused_as : (bytes : List ℕ) (f : LogTextFault) (e : CheckFault) → IsFault bytes f → (f ≡ faults.Memory → e ≡ check.Memory) → ((place sections : ℕ) → f ≡ faults.Form place sections → e ≡ check.LogForm place) → IsFormRefusal bytes e
+pub refused_as : (bytes : List ℕ) (f : LogTextFault) (e : CheckFault) → IsLogTextFault bytes f → (f ≡ faults.Memory → e ≡ check.Memory) → ((place sections : ℕ) → f ≡ faults.Form place sections → e ≡ check.LogForm place) → IsFormRefusal bytes e
 refused_as bytes faults.Memory e h memory form = subst (IsFormRefusal bytes) (sym (memory refl)) tt
 refused_as bytes (faults.Form place sections) e h memory form = subst (IsFormRefusal bytes) (sym (form place sections refl)) (form_refused bytes place sections h)

@@ -46,7 +46,7 @@ use Rattle.search_run.specs.Step.{AreSteps, PlainStep, is_drawn}
 use Rattle.search_run.specs.declared.ending.End.TheVariants as ends
 use Rattle.tx_codec.specs.Transaction.{Transaction}
 use Rattle.report_check.specs.Answer.{IsAnsweredBy, IsNamedAnswer, IsToldAnswer, NamesOutcome}
-use Rattle.report_check.specs.Due.{AreFor, AreRightBy, AreUpTo, HasStepAt}
+use Rattle.report_check.specs.DueSections.{AreFor, AreRightBy, AreUpTo, HasStepAt}
 use Rattle.report_check.specs.Payment.{IsNamedRow, MayBeSpent}
 use Rattle.report_check.specs.Proved.{AreProved, HasTries, IsEndedText, IsProvedFor}
 use Rattle.report_check.specs.Verdict.{IsAccepted, IsPaid}

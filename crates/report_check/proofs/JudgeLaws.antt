@@ -11,7 +11,7 @@ use Rattle.report_check.specs.Judging.{AreBacking, IsBackRefusal, IsBackedBy, Is
 use Rattle.report_check.specs.PaidRefused.{IsPaidRefusal}
 use Rattle.report_check.specs.Proved.{IsEndedText}
 use Rattle.report_check.specs.Refused.{BreaksBefore, IsFormRefusal}
-use Rattle.report_check.specs.Verdict.{HasLog, IsAccepted, IsFault, IsPaid}
+use Rattle.report_check.specs.Verdict.{HasLog, IsAccepted, IsReportRefusal, IsPaid}
 use Rattle.report_check.specs.declared.fault.CheckFault.{CheckFault}
 use Rattle.report_check.specs.declared.fault.CheckFault.TheVariants.{Report as ReportFault, Psbt, Coin, Pays, LogForm, Section, Log, Answer, Memory}
 use Rattle.report_check.proofs.VerdictLaws.{accepted_apart, one_fault_of}
@@ -58,7 +58,7 @@ back_fault p r bytes log Pays text h = absurd h
 
 -- ---- a report
 
-pub paid_fault : (p : PlainPlan) (f : PlainFunded) (bytes : List ℕ) (e : CheckFault) → IsPaidRefusal p f e → IsFault p (Funded f) bytes e
+pub paid_fault : (p : PlainPlan) (f : PlainFunded) (bytes : List ℕ) (e : CheckFault) → IsPaidRefusal p f e → IsReportRefusal p (Funded f) bytes e
 paid_fault p f bytes (Psbt e) h = h
 paid_fault p f bytes (Coin point) h = h
 paid_fault p f bytes Pays h = h
@@ -69,7 +69,7 @@ paid_fault p f bytes (Log i e) h = absurd h
 paid_fault p f bytes (ReportFault place) h = absurd h
 paid_fault p f bytes Answer h = absurd h
 
-pub log_fault : (p : PlainPlan) (r : Report) (bytes : List ℕ) (e : CheckFault) → HasLog r → IsPaid p r → IsLogFault p r bytes e → IsFault p r bytes e
+pub log_fault : (p : PlainPlan) (r : Report) (bytes : List ℕ) (e : CheckFault) → HasLog r → IsPaid p r → IsLogFault p r bytes e → IsReportRefusal p r bytes e
 log_fault p r bytes (LogForm place) has paid h = (has, paid, h)
 log_fault p r bytes (Section i) has paid h = (has, paid, h)
 log_fault p r bytes (Log i e) has paid h = (has, paid, h)
@@ -93,11 +93,11 @@ is_memory (Log i e) h = absurd (h (λ x. cc))
 is_memory (ReportFault place) h = absurd (h (λ x. cc))
 is_memory Answer h = absurd (h (λ x. cc))
 
-pub accepts_back : {Y : Type 0} (p : PlainPlan) (r : Report) (bytes : List ℕ) (result : Result Y CheckFault) → IfErr result (IsFault p r bytes) → IsAccepted p r bytes → MatchResult result (λ y. Unit {0}) (λ e. e ≡ Memory)
+pub accepts_back : {Y : Type 0} (p : PlainPlan) (r : Report) (bytes : List ℕ) (result : Result Y CheckFault) → IfErr result (IsReportRefusal p r bytes) → IsAccepted p r bytes → MatchResult result (λ y. Unit {0}) (λ e. e ≡ Memory)
 accepts_back p r bytes (Ok y) h accepted = tt
 accepts_back p r bytes (Err e) h accepted = is_memory e (λ apart. accepted_apart p r bytes e accepted apart h)
 
-pub refuses_back : {Y : Type 0} (p : PlainPlan) (r : Report) (bytes : List ℕ) (result : Result Y CheckFault) → OnOk result (IsAccepted p r bytes) → IfErr result (IsFault p r bytes) → (e : CheckFault) → e ≢ Memory → IsFault p r bytes e → MatchResult result (λ y. ⊥) (λ d. d ≢ Memory → d ≡ e)
+pub refuses_back : {Y : Type 0} (p : PlainPlan) (r : Report) (bytes : List ℕ) (result : Result Y CheckFault) → OnOk result (IsAccepted p r bytes) → IfErr result (IsReportRefusal p r bytes) → (e : CheckFault) → e ≢ Memory → IsReportRefusal p r bytes e → MatchResult result (λ y. ⊥) (λ d. d ≢ Memory → d ≡ e)
 refuses_back p r bytes (Ok y) accepted h e apart fault = accepted_apart p r bytes e accepted apart fault
 refuses_back p r bytes (Err d) accepted h e apart fault = λ other. one_fault_of p r bytes d e other apart h fault
 
@@ -107,20 +107,20 @@ pub none_accepted : {Y : Type 0} (p : PlainPlan) (tries : ℕ) (r : Report) (byt
 none_accepted p tries r bytes (Ok y) is h = subst (λ (q : Report). IsAccepted p q bytes) (sym is) (subst (λ (q : Report). IsBackedBy p q bytes) is h)
 none_accepted p tries r bytes (Err e) is h = tt
 
-pub none_fault : {Y : Type 0} (p : PlainPlan) (tries : ℕ) (r : Report) (bytes : List ℕ) (result : Result Y CheckFault) → r ≡ NoSelection tries → IfErr result (IsLogFault p r bytes) → IfErr result (IsFault p r bytes)
+pub none_fault : {Y : Type 0} (p : PlainPlan) (tries : ℕ) (r : Report) (bytes : List ℕ) (result : Result Y CheckFault) → r ≡ NoSelection tries → IfErr result (IsLogFault p r bytes) → IfErr result (IsReportRefusal p r bytes)
 none_fault p tries r bytes (Ok y) is h = tt
-none_fault p tries r bytes (Err e) is h = subst (λ (q : Report). IsFault p q bytes e) (sym is) (log_fault p (NoSelection tries) bytes e tt tt (subst (λ (q : Report). IsLogFault p q bytes e) is h))
+none_fault p tries r bytes (Err e) is h = subst (λ (q : Report). IsReportRefusal p q bytes e) (sym is) (log_fault p (NoSelection tries) bytes e tt tt (subst (λ (q : Report). IsLogFault p q bytes e) is h))
 
 pub funded_accepted : {Y : Type 0} (p : PlainPlan) (f : PlainFunded) (r : Report) (bytes : List ℕ) (result : Result Y CheckFault) → r ≡ Funded f → IsPaid p (Funded f) → OnOk result (IsBackedBy p r bytes) → OnOk result (IsAccepted p r bytes)
 funded_accepted p f r bytes (Ok y) is paid h = subst (λ (q : Report). IsAccepted p q bytes) (sym is) (paid, subst (λ (q : Report). IsBackedBy p q bytes) is h)
 funded_accepted p f r bytes (Err e) is paid h = tt
 
-pub funded_fault : {Y : Type 0} (p : PlainPlan) (f : PlainFunded) (r : Report) (bytes : List ℕ) (result : Result Y CheckFault) → r ≡ Funded f → IsPaid p (Funded f) → IfErr result (IsLogFault p r bytes) → IfErr result (IsFault p r bytes)
+pub funded_fault : {Y : Type 0} (p : PlainPlan) (f : PlainFunded) (r : Report) (bytes : List ℕ) (result : Result Y CheckFault) → r ≡ Funded f → IsPaid p (Funded f) → IfErr result (IsLogFault p r bytes) → IfErr result (IsReportRefusal p r bytes)
 funded_fault p f r bytes (Ok y) is paid h = tt
-funded_fault p f r bytes (Err e) is paid h = subst (λ (q : Report). IsFault p q bytes e) (sym is) (log_fault p (Funded f) bytes e tt paid (subst (λ (q : Report). IsLogFault p q bytes e) is h))
+funded_fault p f r bytes (Err e) is paid h = subst (λ (q : Report). IsReportRefusal p q bytes e) (sym is) (log_fault p (Funded f) bytes e tt paid (subst (λ (q : Report). IsLogFault p q bytes e) is h))
 
-pub paid_first : (p : PlainPlan) (f : PlainFunded) (r : Report) (bytes : List ℕ) (e : CheckFault) → r ≡ Funded f → IsPaidRefusal p f e → IsFault p r bytes e
-paid_first p f r bytes e is h = subst (λ (q : Report). IsFault p q bytes e) (sym is) (paid_fault p f bytes e h)
+pub paid_first : (p : PlainPlan) (f : PlainFunded) (r : Report) (bytes : List ℕ) (e : CheckFault) → r ≡ Funded f → IsPaidRefusal p f e → IsReportRefusal p r bytes e
+paid_first p f r bytes e is h = subst (λ (q : Report). IsReportRefusal p q bytes e) (sym is) (paid_fault p f bytes e h)
 
 pub has_log_none : (tries : ℕ) (r : Report) → r ≡ NoSelection tries → HasLog r
 has_log_none tries r is = subst HasLog (sym is) tt

@@ -14,7 +14,6 @@ pub mod NoTriesLaws
 pub mod OneLaws
 pub mod PaidLaws
 pub mod PaymentLaws
-pub mod PlaceLaws
 pub mod PlaceOfTries
 pub mod PsbtLaws
 pub mod ResultLaws

@@ -10,9 +10,9 @@ use Rattle.fund_report.specs.declared.report.Report.TheVariants as reports
 use Rattle.fund_steps.specs.Plan.{PlainPlan}
 use Rattle.search_run.specs.Searched.{searches}
 use Rattle.search_run.specs.Step.{PlainStep}
-use Rattle.report_check.specs.Due.{AreRightBy}
+use Rattle.report_check.specs.DueSections.{AreRightBy}
 use Rattle.report_check.specs.Proved.{AreProved, HasTriesBy, IsEndedText, tries_in, tries_place}
-use Rattle.report_check.specs.Verdict.{IsAccepted, IsFault, IsPaid}
+use Rattle.report_check.specs.Verdict.{IsAccepted, IsReportRefusal, IsPaid}
 use Rattle.report_check.specs.declared.fault.CheckFault.TheVariants.{Report as ReportFault}
 
 -- no section is due, so there is none, and no try
@@ -40,7 +40,7 @@ tries_none Given f is some tries = omega (arith, some, tries)
 proved_none : (steps : List PlainStep) → AreProved steps []
 proved_none steps = record { front = []; rest = searches steps; parts = refl; each = tt }
 
-pub tries_refused : (p : PlainPlan) (f : PlainFunded) (bytes : List ℕ) (log : PlainLog) → f.mark ≡ Given → 0 < f.tries → IsPaid p (reports.Funded f) → IsEndedText bytes log → log.closed ≡ [] → IsFault p (reports.Funded f) bytes (ReportFault (tries_place (reports.Funded f)))
+pub tries_refused : (p : PlainPlan) (f : PlainFunded) (bytes : List ℕ) (log : PlainLog) → f.mark ≡ Given → 0 < f.tries → IsPaid p (reports.Funded f) → IsEndedText bytes log → log.closed ≡ [] → IsReportRefusal p (reports.Funded f) bytes (ReportFault (tries_place (reports.Funded f)))
 tries_refused p f bytes log is some paid ended none = (
   tt,
   paid,

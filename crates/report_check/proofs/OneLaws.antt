@@ -20,7 +20,7 @@ use Rattle.output_groups.proofs.Members.{head_in, none_in}
 use Rattle.search_run.specs.Answer.{AreWhole, IsColumn}
 use Rattle.search_run.specs.Searched.{searches}
 use Rattle.search_run.specs.Step.{PlainStep}
-use Rattle.report_check.specs.Due.{AreFor, AreForFirst, AreRight, AreRightBy, AreUpTo, HasStepAt, IsFirstWrong, IsNamedAs, IsSectionWrong, IsUpTo, IsWrongBy, LeavesHere, PartsHere}
+use Rattle.report_check.specs.DueSections.{AreFor, AreForFirst, AreRight, AreRightBy, AreUpTo, HasStepAt, IsFirstWrong, IsNamedAs, IsSectionWrong, IsUpTo, IsWrongBy, LeavesHere, PartsHere}
 use Rattle.report_check.specs.Proved.{AreProved, IsFirstRefused, IsProvedFor}
 use Rattle.report_check.specs.Verdict.{BreaksFirst, IsBacked}
 use Rattle.report_check.specs.declared.fault.CheckFault.{CheckFault}

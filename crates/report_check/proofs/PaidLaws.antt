@@ -4,7 +4,7 @@ use Rattle.std.specs.List.{AllZip}
 use Rattle.std.proofs.Common.{refl, sym, ap, subst, inl, inr, ◌∙◌, arith}
 use Rattle.std.proofs.lemmas.Bool.Decides.{Decides-eqb}
 use Rattle.std.proofs.lemmas.List.Elements.{All-contains, All-cons, All-head, All-nil, All-tail, All-weaker}
-use Rattle.fee_rates.specs.declared.terms.Load.{Load}
+use Rattle.fee_rates.specs.declared.terms.PaymentLoad.{PaymentLoad}
 use Rattle.fund_base.proofs.Laws.{whole_again}
 use Rattle.fund_base.proofs.Lists.{any_found, in_tail}
 use Rattle.fund_base.proofs.OutpointLaws.{same_outpoint-Decides}
@@ -31,6 +31,7 @@ use Rattle.request_text.specs.PlainRequest.{PlainRequest}
 use Rattle.output_groups.specs.declared.rows.Row.{Row}
 use Rattle.psbt_codec.specs.PartialTransaction.{PartialTransaction}
 use Rattle.psbt_codec.specs.Reading.{start}
+use Rattle.psbt_codec.specs.Text.{IsPsbtText}
 use Rattle.tx_codec.proofs.Laws.{tx_reads}
 use Rattle.tx_codec.specs.Reading.{tx_at}
 use Rattle.tx_codec.specs.Transaction.{Transaction}
@@ -47,7 +48,7 @@ use Rattle.report_check.specs.Verdict.{IsUnpaid}
 use Rattle.report_check.specs.declared.fault.CheckFault.{CheckFault}
 use Rattle.report_check.specs.declared.fault.CheckFault.TheVariants.{Report as ReportFault, Psbt, Coin, Pays, LogForm, Section, Log, Answer, Memory}
 use Rattle.report_check.specs.Paying.{AreTaken, HasCoinOf, HasEach, IsEven, IsSaid, Says, row_at}
-use Rattle.report_check.specs.Payment.{AreSpendable, HasSpendable, IsFirstForeign, IsNamedRow, IsPsbtText, IsRowAt, MayBeSpent, PaysBy}
+use Rattle.report_check.specs.Payment.{AreSpendable, HasSpendable, IsFirstForeign, IsNamedRow, IsRowAt, MayBeSpent, PaysBy}
 use Rattle.report_check.proofs.PaymentLaws.{all_held, same_transaction, spendable_held, spent_within, sum_of}
 
 -- ---- a text has one transaction
@@ -212,7 +213,7 @@ preset_there p n coins h may given =
     let second : Contains (coins_in p) c = spendable_held p n c h (inl there) in
     subst (Contains coins) (one_coin (coins_in p) d.0 c (coins_apart p h) first second d.2) d.1)
 
-pays_by : (p : PlainPlan) (l : Load) (coins : List Candidate) (amount : Option ℕ) → AreSorted coins → IsEven p.request l coins amount → PaysIn p.request p.change l coins amount (payment_from p.request p.change coins amount)
+pays_by : (p : PlainPlan) (l : PaymentLoad) (coins : List Candidate) (amount : Option ℕ) → AreSorted coins → IsEven p.request l coins amount → PaysIn p.request p.change l coins amount (payment_from p.request p.change coins amount)
 pays_by p l coins None sorted h = pays_without p.request p.change l coins sorted h.balance h.weight
 pays_by p l coins (Some n) sorted h = pays_with p.request p.change l coins n sorted h.balance h.worth h.weight
 
@@ -233,7 +234,7 @@ said_pays p f t coins h taken s =
       shows = s.says.shows;
     }
 
-is_payment : (p : PlainPlan) (l : Load) (coins : List Candidate) (amount : Option ℕ) (t : Transaction) → PaysIn p.request p.change l coins amount t → t ≡ payment_from p.request p.change coins amount
+is_payment : (p : PlainPlan) (l : PaymentLoad) (coins : List Candidate) (amount : Option ℕ) (t : Transaction) → PaysIn p.request p.change l coins amount t → t ≡ payment_from p.request p.change coins amount
 unfolding payment_from
 is_payment p l coins amount t h = same_transaction t (payment_from p.request p.change coins amount) h.version h.inputs h.outputs h.locktime h.bare
 
@@ -319,14 +320,14 @@ pub taken_some : (p : PlainPlan) (n : ℕ) (t : Transaction) (coins : List Candi
 taken_some p n t coins h taken = let same = taken_count p n t.inputs coins taken in omega (arith, same, h.inputs_some)
 
 -- part by part: what is tested first, and last
-pub said_all : (p : PlainPlan) (f : PlainFunded) (t : PartialTransaction) (coins : List Candidate) (l : Load) → AreSorted coins × HasEach coins (presets_in p) → IsNamedRow p f.row → l ≡ load_for p f.row → Says p.request l f coins t.spent → t.tx ≡ payment_from p.request p.change coins f.change → IsSaid p f t coins
+pub said_all : (p : PlainPlan) (f : PlainFunded) (t : PartialTransaction) (coins : List Candidate) (l : PaymentLoad) → AreSorted coins × HasEach coins (presets_in p) → IsNamedRow p f.row → l ≡ load_for p f.row → Says p.request l f coins t.spent → t.tx ≡ payment_from p.request p.change coins f.change → IsSaid p f t coins
 said_all p f t coins l own row is says transaction =
-    record { sorted = own.0; given = own.1; row = row; says = subst (λ (m : Load). Says p.request m f coins t.spent) is says; transaction = transaction }
+    record { sorted = own.0; given = own.1; row = row; says = subst (λ (m : PaymentLoad). Says p.request m f coins t.spent) is says; transaction = transaction }
 
-pub said_by : (p : PlainPlan) (f : PlainFunded) (t : PartialTransaction) (coins : List Candidate) (l : Load) → l ≡ load_for p f.row → IsSaid p f t coins → Says p.request l f coins t.spent
-said_by p f t coins l is h = subst (λ (m : Load). Says p.request m f coins t.spent) (sym is) h.says
+pub said_by : (p : PlainPlan) (f : PlainFunded) (t : PartialTransaction) (coins : List Candidate) (l : PaymentLoad) → l ≡ load_for p f.row → IsSaid p f t coins → Says p.request l f coins t.spent
+said_by p f t coins l is h = subst (λ (m : PaymentLoad). Says p.request m f coins t.spent) (sym is) h.says
 
-pub said_iff : (p : PlainPlan) (request : PlainRequest) (change : Watch) (f : PlainFunded) (t : PartialTransaction) (coins : List Candidate) (l : Load) (b : Bool) → IsPlan p → p.request ≡ request → p.change ≡ change → AreTaken p f.row t.tx.inputs coins → AreSorted coins × HasEach coins (presets_in p) → IsNamedRow p f.row → l ≡ load_for p f.row →
+pub said_iff : (p : PlainPlan) (request : PlainRequest) (change : Watch) (f : PlainFunded) (t : PartialTransaction) (coins : List Candidate) (l : PaymentLoad) (b : Bool) → IsPlan p → p.request ≡ request → p.change ≡ change → AreTaken p f.row t.tx.inputs coins → AreSorted coins × HasEach coins (presets_in p) → IsNamedRow p f.row → l ≡ load_for p f.row →
     (IsTrue b ↔ (Says request l f coins t.spent × (t.tx ≡ payment_from request change coins f.change))) → (IsTrue b ↔ PaysBy p f t)
 said_iff p request change f t coins l b h r w taken own row is says =
     let At : PlainRequest → Watch → Type 0 = λ q v. Says q l f coins t.spent × (t.tx ≡ payment_from q v coins f.change) in

@@ -5,7 +5,7 @@ use Rattle.std.proofs.Common.{refl, sym, ap, subst, inl, inr, ◌∙◌, arith}
 use Rattle.std.proofs.lemmas.List.{length-append}
 use Rattle.std.proofs.lemmas.List.Elements.{All-contains, All-head, All-tail}
 use Rattle.fee_rates.specs.Fee.{vsize_of}
-use Rattle.fee_rates.specs.declared.terms.Load.{Load}
+use Rattle.fee_rates.specs.declared.terms.PaymentLoad.{PaymentLoad}
 use Rattle.coin_candidates.specs.Candidates.{AreCandidates}
 use Rattle.coin_candidates.specs.declared.candidate.Candidate.{Candidate}
 use Rattle.fund_plan.proofs.PaysLaws.{outputs_sum}
@@ -25,13 +25,14 @@ use Rattle.fund_steps.specs.Plan.{IsBump, IsPlan, PlainBump, PlainPlan, coins_in
 use Rattle.output_groups.proofs.Members.{all_from}
 use Rattle.output_groups.proofs.PlaceLaws.{one_coin}
 use Rattle.psbt_codec.specs.PartialTransaction.{PartialTransaction}
+use Rattle.psbt_codec.specs.Text.{IsPsbtText}
 use Rattle.request_text.specs.PlainRequest.{PlainRequest}
 use Rattle.tx_codec.specs.Transaction.{Transaction}
 use Rattle.tx_codec.specs.declared.tx.TxIn.{TxIn}
 use Rattle.tx_codec.specs.declared.tx.TxOut.{TxOut}
 use Rattle.wallet_text.specs.declared.wallet.Watch.{Watch}
 use Rattle.report_check.specs.Answer.{NamesPayment}
-use Rattle.report_check.specs.Payment.{IsPsbtText, MayBeSpent, PaysBy, Shows, line_of}
+use Rattle.report_check.specs.Payment.{MayBeSpent, PaysBy, Shows, line_of}
 use Rattle.report_check.specs.Vouched.{IsOfPayment}
 
 -- ---- the coins
@@ -69,11 +70,11 @@ same_coins cs (x ∷ xs) (y ∷ ys) apart h k e =
 
 -- ---- the change
 
-pub sum_of : (r : PlainRequest) (w : Watch) (l : Load) (coins : List Candidate) (amount : Option ℕ) (t : Transaction) → Pays r w l coins amount t → sum_by (λ (o : TxOut). o.value) t.outputs ≡ outputs_of r amount
+pub sum_of : (r : PlainRequest) (w : Watch) (l : PaymentLoad) (coins : List Candidate) (amount : Option ℕ) (t : Transaction) → Pays r w l coins amount t → sum_by (λ (o : TxOut). o.value) t.outputs ≡ outputs_of r amount
 sum_of r w l coins amount t p = ap (sum_by (λ (o : TxOut). o.value)) p.outputs ∙ outputs_sum r w amount
 
 -- coins pay with one change alone
-one_change : (r : PlainRequest) (w : Watch) (l : Load) (coins : List Candidate) (a b : Option ℕ) (t u : Transaction) → Pays r w l coins a t → Pays r w l coins b u → a ≡ b
+one_change : (r : PlainRequest) (w : Watch) (l : PaymentLoad) (coins : List Candidate) (a b : Option ℕ) (t u : Transaction) → Pays r w l coins a t → Pays r w l coins b u → a ≡ b
 one_change r w l coins None None t u h k = refl
 one_change r w l coins None (Some n) t u h k =
     let first = sum_of r w l coins None t h in
@@ -100,7 +101,7 @@ same_transaction t u a b c d e =
     let segwit : Bool → Transaction = λ v. record { version = u.version; inputs = u.inputs; outputs = u.outputs; locktime = u.locktime; segwit = v } in
     ap version a ∙ (ap inputs b ∙ (ap outputs c ∙ (ap locktime d ∙ ap segwit e)))
 
-one_transaction : (r : PlainRequest) (w : Watch) (l : Load) (coins : List Candidate) (a : Option ℕ) (t u : Transaction) → Pays r w l coins a t → Pays r w l coins a u → t ≡ u
+one_transaction : (r : PlainRequest) (w : Watch) (l : PaymentLoad) (coins : List Candidate) (a : Option ℕ) (t u : Transaction) → Pays r w l coins a t → Pays r w l coins a u → t ≡ u
 one_transaction r w l coins a t u h k =
     same_transaction t u (h.version ∙ sym k.version) (h.inputs ∙ sym k.inputs) (h.outputs ∙ sym k.outputs) (h.locktime ∙ sym k.locktime) (h.bare ∙ sym k.bare)
 

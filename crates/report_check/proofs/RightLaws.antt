@@ -5,7 +5,7 @@ use Rattle.closing_log.specs.Log.{PlainSection}
 use Rattle.closing_log.specs.declared.log.Stage.{Stage}
 use Rattle.search_run.specs.Searched.{searches}
 use Rattle.search_run.specs.Step.{PlainStep}
-use Rattle.report_check.specs.Due.{AreFor, AreUpTo, HasStepAt, IsFirstWrong, IsUpTo, PartsHere}
+use Rattle.report_check.specs.DueSections.{AreFor, AreUpTo, HasStepAt, IsFirstWrong, IsUpTo, PartsHere}
 
 -- a result that says so of one list says so of another that is the same
 pub none_right : {Y : Type 0} (steps : List PlainStep) (row : ℕ) (stage : Stage) (front : List PlainStep) (sections : List PlainSection) (r : Result Y ℕ) → front ≡ [] → (HasStepAt steps row stage → ⊥) → OnOk r (AreFor (searches front) sections) → OnOk r ((due : List PlainStep) × AreUpTo steps row stage due × AreFor due sections)

@@ -13,12 +13,14 @@ use Rattle.fund_plan.specs.Pays.{unsigned_input}
 use Rattle.fund_report.specs.PlainFunded.{PlainFunded}
 use Rattle.fund_steps.specs.Plan.{PlainPlan}
 use Rattle.output_groups.proofs.Members.{all_from, from_map, head_in}
-use Rattle.psbt_codec.proofs.Readable.{read_again}
+use Rattle.psbt_codec.proofs.Readable.{read_again, versioned_in}
 use Rattle.psbt_codec.specs.PartialTransaction.{PartialTransaction}
-use Rattle.psbt_codec.specs.Reading.{read_of}
+use Rattle.psbt_codec.specs.Reading.{of_version, read_of, versioned_of}
+use Rattle.psbt_codec.specs.Text.{HasPsbtFault, IsPsbtText, IsPsbtTextIn}
 use Rattle.psbt_codec.specs.declared.fault.PsbtFault.{PsbtFault}
+use Rattle.psbt_codec.specs.declared.psbt.Versioned.{Versioned}
 use Rattle.tx_codec.specs.declared.tx.TxIn.{TxIn}
-use Rattle.report_check.specs.Payment.{AreSpendable, HasPsbtFault, HasSpendable, IsFirstForeign, IsPsbtText, MayBeSpent, PaysBy}
+use Rattle.report_check.specs.Payment.{AreSpendable, HasSpendable, IsFirstForeign, MayBeSpent, PaysBy}
 
 -- ---- the PSBT
 
@@ -41,6 +43,14 @@ pub one_psbt : (text : List ℕ) (t u : PartialTransaction) → IsPsbtText text 
 one_psbt text t u h k =
     let same : h.bytes ≡ k.bytes = one_bytes text h.bytes k.bytes h.are_bytes k.are_bytes h.text_is k.text_is in
     one_ok t u (read_of k.bytes) (subst (λ (b : List ℕ). read_of b ≡ Ok t) same (read_again h.bytes t h.readable)) (read_again k.bytes u k.readable)
+
+-- and in one version
+pub one_psbt_in : (text : List ℕ) (v w : ℕ) (t u : PartialTransaction) → IsPsbtTextIn v text t → IsPsbtTextIn w text u → (v ≡ w) × (t ≡ u)
+one_psbt_in text v w t u h k =
+    let same : h.0.bytes ≡ k.0.bytes = one_bytes text h.0.bytes k.0.bytes h.0.are_bytes k.0.are_bytes h.0.text_is k.0.text_is in
+    let first : versioned_of h.0.bytes ≡ Ok (of_version v t) = versioned_in h.0.bytes v t (h.0.readable, h.1) in
+    let both = one_ok (of_version v t) (of_version w u) (versioned_of k.0.bytes) (subst (λ (b : List ℕ). versioned_of b ≡ Ok (of_version v t)) same first) (versioned_in k.0.bytes w u (k.0.readable, k.1)) in
+    (ap (λ (x : Versioned). x.version) both, ap (λ (x : Versioned). x.psbt) both)
 
 pub psbt_apart : (text : List ℕ) (t : PartialTransaction) (e : PsbtFault) → IsPsbtText text t → HasPsbtFault text e → ⊥
 psbt_apart text t e h (inl (is, none)) = none h.bytes h.are_bytes h.text_is

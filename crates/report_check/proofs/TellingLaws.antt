@@ -8,7 +8,7 @@ use Rattle.pick_problem.specs.Admissible.{IsFit}
 use Rattle.search_run.specs.Found.{PlainFound, found_of, taken}
 use Rattle.search_run.specs.Run.{ends}
 use Rattle.search_run.specs.Step.{PlainStep, is_drawn}
-use Rattle.report_check.specs.Telling.{Adds, AreFit, Comes, ComesBy, Tells}
+use Rattle.report_check.specs.LogAnswer.{Adds, AreFit, Comes, ComesBy, HasAnswer}
 use Rattle.report_check.proofs.FittingLaws.{searches_draw, searches_search}
 use Rattle.report_check.proofs.SliceLaws.{drop_step}
 
@@ -37,12 +37,12 @@ fit_later seed x xs sections r rest h k = by (is_drawn x.stage) refl h
 same_found : (x : PlainStep) (old new more : List PlainFound) (r : Option (List ℕ)) → new ≡ old ++ more → more ≡ found_of x r → new ≡ old ++ found_of x r
 same_found x old new more r is told = is ∙ ap (λ (fs : List PlainFound). old ++ fs) told
 
-pub tells_on : (seed : List ℕ) (x : PlainStep) (xs : List PlainStep) (sections rest : List PlainSection) (old new more : List PlainFound) (o : Option PlainFound) → Adds seed x sections more rest → new ≡ old ++ more → ends x new ≡ false → Tells seed xs rest new o → Tells seed (x ∷ xs) sections old o
+pub tells_on : (seed : List ℕ) (x : PlainStep) (xs : List PlainStep) (sections rest : List PlainSection) (old new more : List PlainFound) (o : Option PlainFound) → Adds seed x sections more rest → new ≡ old ++ more → ends x new ≡ false → HasAnswer seed xs rest new o → HasAnswer seed (x ∷ xs) sections old o
 tells_on seed x xs sections rest old new more o (r, comes, told) is going h =
     let same = same_found x old new more r is told in
-    (r, rest, comes, inr (sym (ap (ends x) same) ∙ going, subst (λ (fs : List PlainFound). Tells seed xs rest fs o) same h))
+    (r, rest, comes, inr (sym (ap (ends x) same) ∙ going, subst (λ (fs : List PlainFound). HasAnswer seed xs rest fs o) same h))
 
-pub tells_here : (seed : List ℕ) (x : PlainStep) (xs : List PlainStep) (sections rest : List PlainSection) (old new more : List PlainFound) (o : Option PlainFound) → Adds seed x sections more rest → new ≡ old ++ more → ends x new ≡ true → o ≡ taken new → Tells seed (x ∷ xs) sections old o
+pub tells_here : (seed : List ℕ) (x : PlainStep) (xs : List PlainStep) (sections rest : List PlainSection) (old new more : List PlainFound) (o : Option PlainFound) → Adds seed x sections more rest → new ≡ old ++ more → ends x new ≡ true → o ≡ taken new → HasAnswer seed (x ∷ xs) sections old o
 tells_here seed x xs sections rest old new more o (r, comes, told) is ended h =
     let same = same_found x old new more r is told in
     (r, rest, comes, inl (sym (ap (ends x) same) ∙ ended, h ∙ ap taken same))
@@ -58,7 +58,7 @@ ends_by x (f ∷ fs) last false is held un = ap (λ (b : Bool). b && true) (sym 
 
 -- what the steps from a place on come to by the sections that are left is what all come to
 abbrev pub IsTold : List ℕ → List PlainStep → List PlainSection → List PlainStep → List PlainSection → List PlainFound → Type 0
-IsTold seed steps sections left rest found = (o : Option PlainFound) → Tells seed left rest found o → Tells seed steps sections [] o
+IsTold seed steps sections left rest found = (o : Option PlainFound) → HasAnswer seed left rest found o → HasAnswer seed steps sections [] o
 
 pub fit_drop : (steps : List PlainStep) (i : ℕ) (x : PlainStep) (rest : List PlainSection) → i < length steps → x ≡ get_or steps i x → AreFit (drop i steps) rest → (xs : List PlainStep) × AreFit (x ∷ xs) rest
 fit_drop steps i x rest below is h = (drop (i + 1) steps, subst (λ (xs : List PlainStep). AreFit xs rest) (drop_step steps i x below is) h)
@@ -69,14 +69,14 @@ fit_next seed steps i x rest next more below is h a =
 
 pub told_next : (seed : List ℕ) (steps : List PlainStep) (sections : List PlainSection) (i : ℕ) (x : PlainStep) (rest next : List PlainSection) (old new more : List PlainFound) → i < length steps → x ≡ get_or steps i x → IsTold seed steps sections (drop i steps) rest old → Adds seed x rest more next → new ≡ old ++ more → ends x new ≡ false → IsTold seed steps sections (drop (i + 1) steps) next new
 told_next seed steps sections i x rest next old new more below is h a add going o k =
-    h o (subst (λ (xs : List PlainStep). Tells seed xs rest old o) (sym (drop_step steps i x below is)) (tells_on seed x (drop (i + 1) steps) rest next old new more o a add going k))
+    h o (subst (λ (xs : List PlainStep). HasAnswer seed xs rest old o) (sym (drop_step steps i x below is)) (tells_on seed x (drop (i + 1) steps) rest next old new more o a add going k))
 
-pub told_here : (seed : List ℕ) (steps : List PlainStep) (sections : List PlainSection) (i : ℕ) (x : PlainStep) (rest next : List PlainSection) (old new more : List PlainFound) (o : Option PlainFound) → i < length steps → x ≡ get_or steps i x → IsTold seed steps sections (drop i steps) rest old → Adds seed x rest more next → new ≡ old ++ more → ends x new ≡ true → o ≡ taken new → Tells seed steps sections [] o
+pub told_here : (seed : List ℕ) (steps : List PlainStep) (sections : List PlainSection) (i : ℕ) (x : PlainStep) (rest next : List PlainSection) (old new more : List PlainFound) (o : Option PlainFound) → i < length steps → x ≡ get_or steps i x → IsTold seed steps sections (drop i steps) rest old → Adds seed x rest more next → new ≡ old ++ more → ends x new ≡ true → o ≡ taken new → HasAnswer seed steps sections [] o
 told_here seed steps sections i x rest next old new more o below is h a add ended k =
-    h o (subst (λ (xs : List PlainStep). Tells seed xs rest old o) (sym (drop_step steps i x below is)) (tells_here seed x (drop (i + 1) steps) rest next old new more o a add ended k))
+    h o (subst (λ (xs : List PlainStep). HasAnswer seed xs rest old o) (sym (drop_step steps i x below is)) (tells_here seed x (drop (i + 1) steps) rest next old new more o a add ended k))
 
-pub told_over : (seed : List ℕ) (steps : List PlainStep) (sections : List PlainSection) (i : ℕ) (rest : List PlainSection) (found : List PlainFound) (o : Option PlainFound) → length steps ≤ i → IsTold seed steps sections (drop i steps) rest found → o ≡ taken found → Tells seed steps sections [] o
-told_over seed steps sections i rest found o end h k = h o (subst (λ (xs : List PlainStep). Tells seed xs rest found o) (sym (drop_all i steps end)) k)
+pub told_over : (seed : List ℕ) (steps : List PlainStep) (sections : List PlainSection) (i : ℕ) (rest : List PlainSection) (found : List PlainFound) (o : Option PlainFound) → length steps ≤ i → IsTold seed steps sections (drop i steps) rest found → o ≡ taken found → HasAnswer seed steps sections [] o
+told_over seed steps sections i rest found o end h k = h o (subst (λ (xs : List PlainStep). HasAnswer seed xs rest found o) (sym (drop_all i steps end)) k)
 
 -- what is so of what is taken is so of what a call answers
 pub taken_ok : {E : Type 0} (r : Result (Option PlainFound) E) (found : List PlainFound) (P : Option PlainFound → Type 0) → IfOk r (λ o. o ≡ taken found) → ((o : Option PlainFound) → o ≡ taken found → P o) → IfOk r P

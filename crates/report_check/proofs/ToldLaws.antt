@@ -27,9 +27,9 @@ use Rattle.search_run.specs.Step.{AreSteps, PlainStep, is_drawn}
 use Rattle.search_run.specs.declared.ending.End.TheVariants as ends
 use Rattle.report_check.specs.Answer.{IsAnswered, IsAnsweredBy, IsNamedAnswer, IsToldAnswer, NamesOutcome}
 use Rattle.report_check.specs.Backing.{AreBacked, IsNamedBy}
-use Rattle.report_check.specs.Due.{AreFor, AreRight, AreRightBy, AreUpTo, HasStepAt, IsUpTo}
+use Rattle.report_check.specs.DueSections.{AreFor, AreRight, AreRightBy, AreUpTo, HasStepAt, IsUpTo}
 use Rattle.report_check.specs.Proved.{AreProved}
-use Rattle.report_check.specs.Telling.{AreFit, Tells}
+use Rattle.report_check.specs.LogAnswer.{AreFit, HasAnswer}
 use Rattle.report_check.proofs.AnsweredLaws.{IsBestFor, answer_of_all, best_of_front, given_named, named_here, never_none, never_without, tells_answer, told_first, told_none_of}
 use Rattle.report_check.proofs.BackedLaws.{AreSearched, front_searched, told_answer, up_to_searched}
 use Rattle.report_check.proofs.OneLaws.{one_up_to, up_to_has}
@@ -53,14 +53,14 @@ fits (x ∷ xs) (s ∷ ss) h = (best_fits x s.answer h.0, fits xs ss h.1)
 pub backed_fit : (p : PlainPlan) (upto : List PlainStep) (sections : List PlainSection) → AreBacked p upto sections → AreFit upto sections
 backed_fit p upto sections h = fits (searches upto) sections (bests p upto sections h)
 
-pub backed_answer : (p : PlainPlan) (upto : List PlainStep) (sections : List PlainSection) (o : Option PlainFound) → AreBacked p upto sections → Tells p.request.seed upto sections [] o → IsAnswer p.request.seed upto o
+pub backed_answer : (p : PlainPlan) (upto : List PlainStep) (sections : List PlainSection) (o : Option PlainFound) → AreBacked p upto sections → HasAnswer p.request.seed upto sections [] o → IsAnswer p.request.seed upto o
 backed_answer p upto sections o h told = tells_answer p upto h.rest sections o h.fine h.parts h.whole h.due h.proved told
 
 ends_by : (p : PlainPlan) (upto rest : List PlainStep) (o : Option PlainFound) → AreSteps (steps_of p) → steps_of p ≡ upto ++ rest → IsAnswer p.request.seed upto o → IsEndOf (steps_of p) (ends.Ended o)
 ends_by p upto rest None fine e h = tt
 ends_by p upto rest (Some f) fine e h = answer_ends p.request.seed (steps_of p) (Some f) fine (answer_of_all p.request.seed (steps_of p) upto rest f e h)
 
-pub backed_ends : (p : PlainPlan) (upto : List PlainStep) (sections : List PlainSection) (o : Option PlainFound) → AreBacked p upto sections → Tells p.request.seed upto sections [] o → IsEndOf (steps_of p) (ends.Ended o)
+pub backed_ends : (p : PlainPlan) (upto : List PlainStep) (sections : List PlainSection) (o : Option PlainFound) → AreBacked p upto sections → HasAnswer p.request.seed upto sections [] o → IsEndOf (steps_of p) (ends.Ended o)
 backed_ends p upto sections o h told = ends_by p upto h.rest o h.fine h.parts (backed_answer p upto sections o h told)
 
 -- ---- all steps

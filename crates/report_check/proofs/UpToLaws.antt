@@ -9,7 +9,7 @@ use Rattle.closing_log.specs.declared.log.Stage.{Stage}
 use Rattle.output_groups.proofs.Members.{none_in}
 use Rattle.search_run.specs.Answer.{AreWhole, IsColumn}
 use Rattle.search_run.specs.Step.{PlainStep}
-use Rattle.report_check.specs.Due.{HasStepAt, IsUpTo}
+use Rattle.report_check.specs.DueSections.{HasStepAt, IsUpTo}
 use Rattle.report_check.proofs.SliceLaws.{drop_step}
 
 -- none of these is the last of its column

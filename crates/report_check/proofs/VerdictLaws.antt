@@ -1,6 +1,7 @@
 -- A report has one verdict.
 use Rattle.std.specs.Prelude.{ℕ, ◌≡◌, ◌≢◌, ◌⊎◌, List}
 use Rattle.std.proofs.Common.{refl, sym, ap, subst, inl, inr, ◌∙◌}
+use Rattle.closing_log.proofs.FirstFaults.{one_place}
 use Rattle.closing_log.proofs.LogLaws.{one_log}
 use Rattle.closing_log.specs.Exact.{IsFirstFault}
 use Rattle.closing_log.specs.Log.{PlainLog}
@@ -13,11 +14,10 @@ use Rattle.psbt_codec.specs.PartialTransaction.{PartialTransaction}
 use Rattle.psbt_codec.specs.declared.fault.PsbtFault.{PsbtFault}
 use Rattle.report_check.specs.Payment.{IsFirstForeign, PaysBy}
 use Rattle.report_check.specs.Proved.{IsEndedText}
-use Rattle.report_check.specs.Verdict.{BreaksFirst, HasNoPsbt, IsAccepted, IsBacked, IsFault, IsPaid, IsUnpaid, LogBreaks, SpendsForeign}
+use Rattle.report_check.specs.Verdict.{BreaksFirst, HasNoPsbt, IsAccepted, IsBacked, IsReportRefusal, IsPaid, IsUnpaid, LogBreaks, SpendsForeign}
 use Rattle.report_check.specs.declared.fault.CheckFault.{CheckFault}
 use Rattle.report_check.specs.declared.fault.CheckFault.TheVariants.{Report as ReportFault, Psbt, Coin, Pays, LogForm, Section, Log, Answer, Memory}
 use Rattle.report_check.proofs.OneLaws.{backed_apart, one_rule}
-use Rattle.report_check.proofs.PlaceLaws.{one_place_of}
 use Rattle.report_check.proofs.SpendLaws.{foreign_apart, one_foreign, one_psbt, one_psbt_fault, paid_spendable, psbt_apart}
 
 -- ---- where a fault stands
@@ -50,7 +50,7 @@ record AtLog (p : PlainPlan) (r : Report) (bytes : List ℕ) (e : CheckFault) : 
 abbrev Level : PlainPlan → Report → List ℕ → CheckFault → Type 0
 Level p r bytes e = AtText r e ⊎ (AtCoin p r e ⊎ (AtPays p r e ⊎ (AtForm p r bytes e ⊎ AtLog p r bytes e)))
 
-level : (p : PlainPlan) (r : Report) (bytes : List ℕ) (e : CheckFault) → e ≢ Memory → IsFault p r bytes e → Level p r bytes e
+level : (p : PlainPlan) (r : Report) (bytes : List ℕ) (e : CheckFault) → e ≢ Memory → IsReportRefusal p r bytes e → Level p r bytes e
 level p r bytes (Psbt x) apart h = inl (record { fault = x; is = refl; has = h })
 level p r bytes (Coin point) apart h = inr (inl (record { point = point; is = refl; has = h }))
 level p r bytes Pays apart h = inr (inr (inl (record { is = refl; has = h })))
@@ -138,7 +138,7 @@ one_level p r bytes d e (inr (inr (inl a))) (inr (inr (inr (inr b)))) = absurd (
 one_level p r bytes d e (inr (inr (inr (inl a)))) (inl b) = absurd (text_apart p r b.fault a.paid b.has)
 one_level p r bytes d e (inr (inr (inr (inl a)))) (inr (inl b)) = absurd (coin_apart p r b.point a.paid b.has)
 one_level p r bytes d e (inr (inr (inr (inl a)))) (inr (inr (inl b))) = absurd (unpaid_apart p r a.paid b.has)
-one_level p r bytes d e (inr (inr (inr (inl a)))) (inr (inr (inr (inl b)))) = a.is ∙ (ap (λ (n : ℕ). LogForm n) (one_place_of IsEndedText bytes a.place b.place a.has b.has) ∙ sym b.is)
+one_level p r bytes d e (inr (inr (inr (inl a)))) (inr (inr (inr (inl b)))) = a.is ∙ (ap (λ (n : ℕ). LogForm n) (one_place IsEndedText bytes a.place b.place a.has b.has) ∙ sym b.is)
 one_level p r bytes d e (inr (inr (inr (inl a)))) (inr (inr (inr (inr b)))) = absurd (form_apart p r bytes a.place e a.has b.has)
 one_level p r bytes d e (inr (inr (inr (inr a)))) (inl b) = absurd (text_apart p r b.fault a.paid b.has)
 one_level p r bytes d e (inr (inr (inr (inr a)))) (inr (inl b)) = absurd (coin_apart p r b.point a.paid b.has)
@@ -146,7 +146,7 @@ one_level p r bytes d e (inr (inr (inr (inr a)))) (inr (inr (inl b))) = absurd (
 one_level p r bytes d e (inr (inr (inr (inr a)))) (inr (inr (inr (inl b)))) = absurd (form_apart p r bytes b.place d b.has a.has)
 one_level p r bytes d e (inr (inr (inr (inr a)))) (inr (inr (inr (inr b)))) = one_break p r bytes d e a.has b.has
 
-pub one_fault_of : (p : PlainPlan) (r : Report) (bytes : List ℕ) (d e : CheckFault) → d ≢ Memory → e ≢ Memory → IsFault p r bytes d → IsFault p r bytes e → d ≡ e
+pub one_fault_of : (p : PlainPlan) (r : Report) (bytes : List ℕ) (d e : CheckFault) → d ≢ Memory → e ≢ Memory → IsReportRefusal p r bytes d → IsReportRefusal p r bytes e → d ≡ e
 one_fault_of p r bytes d e apart apart_too h k = one_level p r bytes d e (level p r bytes d apart h) (level p r bytes e apart_too k)
 
 -- ---- none where the report is accepted
@@ -161,7 +161,7 @@ backed_level p r bytes log e paid text backed (inr (inr (inr (inr a)))) = by a.h
     by : LogBreaks p r bytes e → ⊥
     by (again, same, breaks) = backed_apart p r log e backed (subst (λ (l : PlainLog). BreaksFirst p r l e) (one_ended bytes again log same text) breaks)
 
-unfinished_none : (p : PlainPlan) (tries row : ℕ) (stage : Stage) (bytes : List ℕ) (e : CheckFault) → e ≢ Memory → IsFault p (Unfinished tries row stage) bytes e → ⊥
+unfinished_none : (p : PlainPlan) (tries row : ℕ) (stage : Stage) (bytes : List ℕ) (e : CheckFault) → e ≢ Memory → IsReportRefusal p (Unfinished tries row stage) bytes e → ⊥
 unfinished_none p tries row stage bytes (Psbt x) apart h = h
 unfinished_none p tries row stage bytes (Coin point) apart h = h
 unfinished_none p tries row stage bytes Pays apart h = h
@@ -172,7 +172,7 @@ unfinished_none p tries row stage bytes (ReportFault place) apart h = h.0
 unfinished_none p tries row stage bytes Answer apart h = h.0
 unfinished_none p tries row stage bytes Memory apart h = apart refl
 
-pub accepted_apart : (p : PlainPlan) (r : Report) (bytes : List ℕ) (e : CheckFault) → IsAccepted p r bytes → e ≢ Memory → IsFault p r bytes e → ⊥
+pub accepted_apart : (p : PlainPlan) (r : Report) (bytes : List ℕ) (e : CheckFault) → IsAccepted p r bytes → e ≢ Memory → IsReportRefusal p r bytes e → ⊥
 accepted_apart p (Funded f) bytes e (paid, (log, text, backed)) apart h = backed_level p (Funded f) bytes log e paid text backed (level p (Funded f) bytes e apart h)
 accepted_apart p (NoSelection tries) bytes e (log, text, backed) apart h = backed_level p (NoSelection tries) bytes log e tt text backed (level p (NoSelection tries) bytes e apart h)
 accepted_apart p (Unfinished tries row stage) bytes e a apart h = unfinished_none p tries row stage bytes e apart h

@@ -19,7 +19,7 @@ use Rattle.search_run.specs.Answer.{AreWhole, IsColumn}
 use Rattle.search_run.specs.Found.{IsTaken, PlainFound, found_of}
 use Rattle.search_run.specs.Step.{PlainStep, is_drawn}
 use Rattle.search_run.specs.declared.ending.End.TheVariants as ends
-use Rattle.report_check.specs.Due.{IsNamedAs}
+use Rattle.report_check.specs.DueSections.{IsNamedAs}
 use Rattle.report_check.specs.Payment.{line_of}
 
 -- What a step comes to by these sections: a draw to what is drawn by the seed, a search to the answer of its section.

@@ -11,7 +11,7 @@ use Rattle.search_run.specs.Searched.{searches}
 use Rattle.search_run.specs.Step.{AreSteps, PlainStep}
 use Rattle.search_run.specs.declared.ending.End.TheVariants as ends
 use Rattle.report_check.specs.Answer.{NamesOutcome}
-use Rattle.report_check.specs.Due.{AreFor}
+use Rattle.report_check.specs.DueSections.{AreFor}
 use Rattle.report_check.specs.Proved.{AreProved}
 
 -- these are whole columns, the first ones of the plan, and there is a section for each of their searches, which is accepted

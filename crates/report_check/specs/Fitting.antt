@@ -3,7 +3,7 @@ use Rattle.std.specs.Prelude.{◌≡◌, Bool, true, false, List, [], ◌∷◌,
 use Rattle.closing_log.specs.Log.{PlainSection}
 use Rattle.search_run.specs.Searched.{searches}
 use Rattle.search_run.specs.Step.{PlainStep, is_drawn}
-use Rattle.report_check.specs.Due.{AreFor, IsNamedAs}
+use Rattle.report_check.specs.DueSections.{AreFor, IsNamedAs}
 
 -- the first of the sections isn't that of a search, or there is none
 abbrev pub IsOther : PlainStep → List PlainSection → Type 0
@@ -16,9 +16,9 @@ IsPast true x sections rest = rest ≡ sections
 IsPast false x sections rest = (s : PlainSection) × (sections ≡ s ∷ rest) × IsNamedAs x s
 
 -- what is left of sections behind the first, which is that of a search; or that isn't so
-abbrev pub IsBehind : PlainStep → List PlainSection → Option (List PlainSection) → Type 0
-IsBehind x sections (Some rest) = (s : PlainSection) × (sections ≡ s ∷ rest) × IsNamedAs x s
-IsBehind x sections None = IsOther x sections
+abbrev pub IsRestAfter : PlainStep → List PlainSection → Option (List PlainSection) → Type 0
+IsRestAfter x sections (Some rest) = (s : PlainSection) × (sections ≡ s ∷ rest) × IsNamedAs x s
+IsRestAfter x sections None = IsOther x sections
 
 -- a step is passed with its section, or it is a search that has none there
 abbrev pub Passes : PlainStep → List PlainSection → Option (List PlainSection) → Type 0

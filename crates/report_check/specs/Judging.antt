@@ -6,7 +6,7 @@ use Rattle.fund_plan.specs.Steps.{steps_of}
 use Rattle.fund_report.specs.declared.report.Report.{Report}
 use Rattle.fund_steps.specs.Plan.{PlainPlan}
 use Rattle.report_check.specs.Answer.{IsAnswered}
-use Rattle.report_check.specs.Due.{AreRight, IsSectionWrong}
+use Rattle.report_check.specs.DueSections.{AreRight, IsSectionWrong}
 use Rattle.report_check.specs.Proved.{AreProved, HasTries, IsEndedText, IsFirstRefused, tries_place}
 use Rattle.report_check.specs.Verdict.{IsBacked, LogBreaks}
 use Rattle.report_check.specs.declared.fault.CheckFault.{CheckFault}

@@ -7,12 +7,12 @@ use Rattle.fund_steps.specs.Plan.{PlainPlan}
 use Rattle.output_groups.specs.declared.rows.Row.{Row}
 use Rattle.tx_codec.specs.declared.tx.TxIn.{TxIn}
 use Rattle.report_check.specs.Finding.{IsFirstUntaken}
-use Rattle.report_check.specs.Payment.{HasPsbtFault}
+use Rattle.psbt_codec.specs.Text.{HasPsbtFault}
 use Rattle.report_check.specs.Verdict.{IsUnpaid, SpendsForeign}
 use Rattle.report_check.specs.declared.fault.CheckFault.{CheckFault}
 use Rattle.report_check.specs.declared.fault.CheckFault.TheVariants.{Psbt, Coin, Pays, Memory}
 
--- inputs are refused for the first outpoint at which no coin may be spent, or for want of memory
+-- inputs are refused for the first outpoint at which no coin may be spent, or for being out of memory
 abbrev pub IsCoinRefusal : List Candidate → List Candidate → Option Row → List TxIn → CheckFault → Type 0
 IsCoinRefusal presets rest row inputs (Coin point) = IsFirstUntaken presets rest row inputs point
 IsCoinRefusal presets rest row inputs Memory = Unit {0}

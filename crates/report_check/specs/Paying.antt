@@ -4,7 +4,7 @@ use Rattle.std.specs.List.{AllZip}
 use Rattle.std.specs.declared.cmp.Ordering.TheVariants.{Less}
 use Rattle.fee_rates.specs.Fee.{vsize_of}
 use Rattle.fee_rates.specs.Terms.{IsLoad, change_least_of}
-use Rattle.fee_rates.specs.declared.terms.Load.{Load}
+use Rattle.fee_rates.specs.declared.terms.PaymentLoad.{PaymentLoad}
 use Rattle.fund_base.specs.Outpoints.{outpoint_cmp}
 use Rattle.coin_candidates.specs.declared.candidate.Candidate.{Candidate}
 use Rattle.fund_plan.specs.Chosen.{load_for}
@@ -49,27 +49,27 @@ IsBelow c (d ∷ ds) = outpoint_cmp c.coin d.coin ≡ Less
 
 -- ---- what a payment of a row is to carry
 
-abbrev pub IsLoadAt : PlainPlan → ℕ → Option Load → Type 0
+abbrev pub IsLoadAt : PlainPlan → ℕ → Option PaymentLoad → Type 0
 IsLoadAt p n (Some l) = IsNamedRow p n × (l ≡ load_for p n) × IsLoad l × (l.paid ≡ paid_to p.request.recipients)
 IsLoadAt p n None = IsNamedRow p n → ⊥
 
 -- ---- money and figures
 
 -- the coins bring what is due with this change, the change is worth making, and all is within the greatest weight
-pub record IsEven (r : PlainRequest) (l : Load) (coins : List Candidate) (amount : Option ℕ) : Type 0 where
+pub record IsEven (r : PlainRequest) (l : PaymentLoad) (coins : List Candidate) (amount : Option ℕ) : Type 0 where
   pub balance : Balances r l coins amount (value_of coins) (outputs_of r amount)
   pub worth : IfSome amount (λ n. change_least_of (rates_of r) l ≤ n)
   pub weight : payment_weight l coins amount ≤ 400_000
 
 -- the report has the weight, the size, the fee and the waste of these coins with its change
-pub record HasFigures (r : PlainRequest) (l : Load) (f : PlainFunded) (coins : List Candidate) : Type 0 where
+pub record HasFigures (r : PlainRequest) (l : PaymentLoad) (f : PlainFunded) (coins : List Candidate) : Type 0 where
   pub weight : f.weight ≡ payment_weight l coins f.change
   pub vsize : f.vsize ≡ vsize_of f.weight
   pub fee : value_of coins ≡ outputs_of r f.change + f.fee
   pub waste : f.waste ≡ waste_of r l coins f.change
 
 -- the report's lines are those of these coins, they balance with its change, it has their figures, and its inputs show them
-pub record Says (r : PlainRequest) (l : Load) (f : PlainFunded) (coins : List Candidate) (spent : List Spent) : Type 0 where
+pub record Says (r : PlainRequest) (l : PaymentLoad) (f : PlainFunded) (coins : List Candidate) (spent : List Spent) : Type 0 where
   pub even : IsEven r l coins f.change
   pub figures : HasFigures r l f coins
   pub lines : f.coins ≡ map line_of coins

@@ -1,11 +1,7 @@
--- What a report says of its payment: which PSBT it has, which coins that one spends, and what they pay. This knows no
--- search and no log.
-use Rattle.std.specs.Prelude.{ℕ, ◌≡◌, ◌≢◌, ◌⊎◌, ◌+◌, List, ◌∷◌, ◌++◌, map, slice_get, All, Contains, Some, IfSome, IsSome, Err}
+-- What a report says of its payment: which coins its PSBT spends, and what they pay. This knows no search and no log.
+use Rattle.std.specs.Prelude.{ℕ, ◌≡◌, ◌⊎◌, ◌+◌, List, ◌∷◌, ◌++◌, map, slice_get, All, Contains, Some, IfSome, IsSome}
 use Rattle.std.specs.List.{AllZip}
-use Rattle.base64.specs.Engines.{standard}
-use Rattle.base64.specs.GeneralPurpose.{encode_of}
 use Rattle.fee_rates.specs.Fee.{vsize_of}
-use Rattle.fund_base.specs.Cursor.{IsBytes}
 use Rattle.coin_candidates.specs.declared.candidate.Candidate.{Candidate}
 use Rattle.fund_base.specs.declared.outpoint.OutPoint.{OutPoint}
 use Rattle.fund_plan.specs.Chosen.{load_for}
@@ -19,28 +15,9 @@ use Rattle.fund_steps.specs.Plan.{PlainPlan, ladder_in}
 use Rattle.output_groups.specs.Ladder.{Meets}
 use Rattle.output_groups.specs.declared.rows.Row.{Row}
 use Rattle.psbt_codec.specs.PartialTransaction.{PartialTransaction}
-use Rattle.psbt_codec.specs.Psbt.{IsReadable}
-use Rattle.psbt_codec.specs.Reading.{read_of}
-use Rattle.psbt_codec.specs.declared.fault.PsbtFault.{PsbtFault}
-use Rattle.psbt_codec.specs.declared.fault.PsbtFault.TheVariants.{NotBase64}
 use Rattle.psbt_codec.specs.declared.psbt.Spent.{Spent}
 use Rattle.tx_codec.specs.declared.tx.TxIn.{TxIn}
 use Rattle.tx_codec.specs.declared.tx.TxOut.{TxOut}
-
--- ---- the PSBT
-
--- The text is base64, with the standard alphabet and padding, of bytes that are a PSBT (BIP 174; RFC 4648, section 4).
-pub record IsPsbtText (text : List ℕ) (t : PartialTransaction) : Type 0 where
-  pub bytes : List ℕ
-  pub are_bytes : IsBytes bytes
-  pub text_is : text ≡ encode_of standard bytes
-  pub readable : IsReadable bytes t
-
--- why it isn't: it is base64 of no bytes, or of bytes that have this fault first, in reading order
-abbrev pub HasPsbtFault : List ℕ → PsbtFault → Type 0
-HasPsbtFault text e =
-    ((e ≡ NotBase64) × ((bytes : List ℕ) → IsBytes bytes → text ≢ encode_of standard bytes))
-    ⊎ ((bytes : List ℕ) × IsBytes bytes × (text ≡ encode_of standard bytes) × (read_of bytes ≡ Err e))
 
 -- ---- its coins
 

@@ -4,13 +4,13 @@ use Rattle.closing_log.specs.Exact.{IsFirstFault}
 use Rattle.closing_log.specs.Log.{PlainSection}
 use Rattle.fund_report.specs.declared.report.Report.{Report}
 use Rattle.search_run.specs.Step.{PlainStep}
-use Rattle.report_check.specs.Due.{AreRight, IsSectionWrong}
-use Rattle.report_check.specs.Payment.{HasPsbtFault}
+use Rattle.report_check.specs.DueSections.{AreRight, IsSectionWrong}
+use Rattle.psbt_codec.specs.Text.{HasPsbtFault}
 use Rattle.report_check.specs.Proved.{AreProved, HasTries, IsEndedText, IsFirstRefused, tries_place}
 use Rattle.report_check.specs.declared.fault.CheckFault.{CheckFault}
 use Rattle.report_check.specs.declared.fault.CheckFault.TheVariants.{Report as ReportFault, Psbt, LogForm, Section, Log, Memory}
 
--- a text is refused for its first fault, or for want of memory
+-- a text is refused for its first fault, or for being out of memory
 abbrev pub IsPsbtRefusal : List ℕ → CheckFault → Type 0
 IsPsbtRefusal text (Psbt e) = HasPsbtFault text e
 IsPsbtRefusal text Memory = Unit {0}

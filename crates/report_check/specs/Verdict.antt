@@ -7,9 +7,10 @@ use Rattle.fund_report.specs.declared.report.Report.{Report}
 use Rattle.fund_report.specs.declared.report.Report.TheVariants as reports
 use Rattle.fund_steps.specs.Plan.{PlainPlan}
 use Rattle.psbt_codec.specs.PartialTransaction.{PartialTransaction}
+use Rattle.psbt_codec.specs.Text.{HasPsbtFault, IsPsbtText}
 use Rattle.report_check.specs.Answer.{IsAnswered}
-use Rattle.report_check.specs.Due.{AreRight, IsSectionWrong}
-use Rattle.report_check.specs.Payment.{AreSpendable, HasPsbtFault, IsFirstForeign, IsPsbtText, PaysBy}
+use Rattle.report_check.specs.DueSections.{AreRight, IsSectionWrong}
+use Rattle.report_check.specs.Payment.{AreSpendable, IsFirstForeign, PaysBy}
 use Rattle.report_check.specs.Proved.{AreProved, HasTries, IsEndedText, IsFirstRefused, tries_place}
 use Rattle.report_check.specs.declared.fault.CheckFault.{CheckFault}
 use Rattle.report_check.specs.declared.fault.CheckFault.TheVariants.{Report as ReportFault, Psbt, Coin, Pays, LogForm, Section, Log, Answer, Memory}
@@ -82,13 +83,13 @@ LogBreaks p r bytes e = (log : PlainLog) × IsEndedText bytes log × BreaksFirst
 
 -- The first rule that a report breaks, in this order: its text is no PSBT; an input spends a coin that may not be spent;
 -- it doesn't pay as it says; the log isn't a text that comes to its end; and then the rules of the log.
-abbrev pub IsFault : PlainPlan → Report → List ℕ → CheckFault → Type 0
-IsFault p r bytes (Psbt e) = HasNoPsbt r e
-IsFault p r bytes (Coin point) = SpendsForeign p r point
-IsFault p r bytes Pays = IsUnpaid p r
-IsFault p r bytes (LogForm place) = HasLog r × IsPaid p r × IsFirstFault IsEndedText bytes place
-IsFault p r bytes (Section i) = HasLog r × IsPaid p r × LogBreaks p r bytes (Section i)
-IsFault p r bytes (Log i e) = HasLog r × IsPaid p r × LogBreaks p r bytes (Log i e)
-IsFault p r bytes (ReportFault place) = HasLog r × IsPaid p r × LogBreaks p r bytes (ReportFault place)
-IsFault p r bytes Answer = HasLog r × IsPaid p r × LogBreaks p r bytes Answer
-IsFault p r bytes Memory = Unit {0}
+abbrev pub IsReportRefusal : PlainPlan → Report → List ℕ → CheckFault → Type 0
+IsReportRefusal p r bytes (Psbt e) = HasNoPsbt r e
+IsReportRefusal p r bytes (Coin point) = SpendsForeign p r point
+IsReportRefusal p r bytes Pays = IsUnpaid p r
+IsReportRefusal p r bytes (LogForm place) = HasLog r × IsPaid p r × IsFirstFault IsEndedText bytes place
+IsReportRefusal p r bytes (Section i) = HasLog r × IsPaid p r × LogBreaks p r bytes (Section i)
+IsReportRefusal p r bytes (Log i e) = HasLog r × IsPaid p r × LogBreaks p r bytes (Log i e)
+IsReportRefusal p r bytes (ReportFault place) = HasLog r × IsPaid p r × LogBreaks p r bytes (ReportFault place)
+IsReportRefusal p r bytes Answer = HasLog r × IsPaid p r × LogBreaks p r bytes Answer
+IsReportRefusal p r bytes Memory = Unit {0}

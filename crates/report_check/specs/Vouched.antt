@@ -23,12 +23,13 @@ use Rattle.fund_steps.specs.Reached.{NothingDoes}
 use Rattle.fund_steps.specs.Searches.{rows_in}
 use Rattle.pick_problem.specs.Best.{IsBest}
 use Rattle.psbt_codec.specs.PartialTransaction.{PartialTransaction}
+use Rattle.psbt_codec.specs.Text.{IsPsbtText}
 use Rattle.random_draw.specs.Draw.{draw_of}
 use Rattle.request_text.specs.declared.request.Method.TheVariants.{Manual}
 use Rattle.search_run.specs.Answer.{HasNone, IsFirstTaken}
 use Rattle.search_run.specs.Found.{PlainFound}
 use Rattle.report_check.specs.Answer.{NamesPayment}
-use Rattle.report_check.specs.Payment.{IsPsbtText, Shows, line_of}
+use Rattle.report_check.specs.Payment.{Shows, line_of}
 use Rattle.report_check.specs.Verdict.{IsPaid}
 
 -- The report is of this payment. Mark, row, stage and coins are its own, and so are the change, the weight, the size, the fee

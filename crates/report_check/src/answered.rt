@@ -8,15 +8,15 @@ ghost use Rattle.search_run.specs.Answer.{AreWhole};
 ghost use Rattle.search_run.specs.Step.{AreSteps, PlainStep};
 ghost use Rattle.report_check.specs.Answer.{IsAnswered, IsNamedAnswer, NamesOutcome};
 ghost use Rattle.report_check.specs.Backing.{AreBacked, IsNamedBy};
-ghost use Rattle.report_check.specs.Due.{AreFor, AreRight, AreUpTo};
+ghost use Rattle.report_check.specs.DueSections.{AreFor, AreRight, AreUpTo};
 ghost use Rattle.report_check.specs.Proved.{AreProved};
 
+use crate::column_prefix::column_end;
+use crate::log_answer::answer;
 use crate::names::names;
-use crate::telling::answer;
-use crate::up_to::column_end;
 use closing_log::{Mark, Section};
 use fund_base::Memory;
-use fund_plan::{Funding, Outcome};
+use fund_plan::{Outcome, PaymentMaker};
 use fund_report::{FundedReport, Report};
 use request_text::Request;
 use search_run::{End, Step};
@@ -50,7 +50,7 @@ fn names_outcome(report: &Report, outcome: &Outcome) -> bool
 fn names_answer(
     alloc: Global,
     seed: [u8; 32],
-    funding: &Funding,
+    funding: &PaymentMaker,
     searched: &[Step],
     report: &Report,
     sections: &[Section],
@@ -69,7 +69,7 @@ fn names_answer(
 fn whole_answered(
     alloc: Global,
     seed: [u8; 32],
-    funding: &Funding,
+    funding: &PaymentMaker,
     steps: &[Step],
     report: &Report,
     sections: &[Section],
@@ -88,7 +88,7 @@ fn whole_answered(
 fn column_answered(
     alloc: Global,
     seed: [u8; 32],
-    funding: &Funding,
+    funding: &PaymentMaker,
     steps: &[Step],
     f: &FundedReport,
     report: &Report,
@@ -116,7 +116,7 @@ fn column_answered(
 pub(crate) fn is_answered(
     alloc: Global,
     request: &Request,
-    funding: &Funding,
+    funding: &PaymentMaker,
     steps: &[Step],
     report: &Report,
     sections: &[Section],

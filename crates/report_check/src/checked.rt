@@ -4,16 +4,15 @@ ghost use Rattle.std.specs.Prelude.{◌≡◌, ◌≢◌, ◌<◌, ◌≤◌, le
 ghost use Rattle.log_checker.specs.declared.fault.LogFault.TheVariants as fault;
 ghost use Rattle.search_run.specs.Searched.{searches};
 ghost use Rattle.report_check.specs.Checking.{Checks, Refuses};
-ghost use Rattle.report_check.specs.Due.{AreForFirst};
+ghost use Rattle.report_check.specs.DueSections.{AreForFirst};
 ghost use Rattle.report_check.specs.Proved.{AreProved};
 ghost use Rattle.report_check.specs.Refused.{IsLogRefusal};
 ghost use Rattle.report_check.specs.declared.fault.CheckFault.TheVariants as check;
 
 use crate::fault::CheckFault;
-use crate::section_check::check_section;
 use closing_log::Section;
 use log_checker::LogFault;
-use search_run::Step;
+use search_run::{Step, check_section};
 use std::alloc::Global;
 
 /// What is left of the sections behind that of a step: a draw has none, and that of a search is accepted.

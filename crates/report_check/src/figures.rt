@@ -10,8 +10,8 @@ ghost use Rattle.report_check.specs.Paying.{HasFigures, IsEven, Says};
 use crate::names::are_lines;
 use crate::shown::are_shown;
 use coin_candidates::Candidate;
-use fee_rates::{Load, MAX_WEIGHT, Rates, Terms, vsize};
-use fund_base::MAX_MONEY;
+use fee_rates::{PaymentLoad, Rates, Terms, vsize};
+use fund_base::{MAX_MONEY, MAX_WEIGHT};
 use fund_plan::{declared_weight, due, waste};
 use fund_report::FundedReport;
 use fund_steps::{paid, rates, value};
@@ -19,7 +19,7 @@ use psbt_codec::Spent;
 use request_text::Request;
 
 /// Whether the payment from these coins is within the greatest weight.
-fn is_light(rates: &Rates, load: &Load, coins: &[Candidate], change: Option<u64>) -> bool
+fn is_light(rates: &Rates, load: &PaymentLoad, coins: &[Candidate], change: Option<u64>) -> bool
     requires rates { AreRates rates.now }
     requires load { IsLoad load.now }
     requires coins { AreWithin coins.now }
@@ -29,7 +29,7 @@ fn is_light(rates: &Rates, load: &Load, coins: &[Candidate], change: Option<u64>
 }
 
 /// Whether the coins bring what is due without change, and less than the least change would take.
-fn is_plain(rates: &Rates, load: &Load, coins: &[Candidate]) -> bool
+fn is_plain(rates: &Rates, load: &PaymentLoad, coins: &[Candidate]) -> bool
     requires rates { AreRates rates.now }
     requires load { IsLoad load.now }
     requires coins { AreWithin coins.now }
@@ -38,15 +38,14 @@ fn is_plain(rates: &Rates, load: &Load, coins: &[Candidate]) -> bool
         × (value_of coins.now + 1 ≤ due_of rates.now.rate load.now coins.now load.now.paid + change_fee_of rates.now load.now + change_least_of rates.now load.now)) }
 {
     let terms = Terms::new(rates, load);
-    let inputs = value(coins);
+    let inputs = u128::from(value(coins));
     let needed = due(rates, load, coins);
     needed <= inputs
-        && u128::from(inputs)
-            < u128::from(needed) + u128::from(terms.change_fee) + u128::from(terms.change_least)
+        && inputs < needed + u128::from(terms.change_fee) + u128::from(terms.change_least)
 }
 
 /// Whether the coins bring what is due and this change with the fee of its output, and the change is worth making.
-fn is_changed(rates: &Rates, load: &Load, coins: &[Candidate], amount: u64) -> bool
+fn is_changed(rates: &Rates, load: &PaymentLoad, coins: &[Candidate], amount: u64) -> bool
     requires rates { AreRates rates.now }
     requires load { IsLoad load.now }
     requires coins { AreWithin coins.now }
@@ -55,16 +54,15 @@ fn is_changed(rates: &Rates, load: &Load, coins: &[Candidate], amount: u64) -> b
         × (value_of coins.now ≡ due_of rates.now.rate load.now coins.now load.now.paid + amount + change_fee_of rates.now load.now)) }
 {
     let terms = Terms::new(rates, load);
-    let inputs = value(coins);
+    let inputs = u128::from(value(coins));
     let needed = due(rates, load, coins);
     terms.change_least <= amount
-        && amount <= MAX_MONEY
-        && inputs == needed + amount + terms.change_fee
+        && inputs == needed + u128::from(amount) + u128::from(terms.change_fee)
 }
 
 /// Whether the coins bring what is due with this change, or with none, and the change is worth making; all within the
 /// greatest weight of a payment.
-fn is_even(request: &Request, load: &Load, coins: &[Candidate], change: Option<u64>) -> bool
+fn is_even(request: &Request, load: &PaymentLoad, coins: &[Candidate], change: Option<u64>) -> bool
     requires load { IsLoad load.now }
     requires paid { load.now.paid ≡ paid_to request.now.recipients }
     requires coins { AreWithin coins.now }
@@ -91,7 +89,7 @@ fn outputs(request: &Request, change: Option<u64>) -> u64
 }
 
 /// Whether weight, size, fee and waste of a report are those of its coins with its change.
-fn are_figures(request: &Request, load: &Load, f: &FundedReport, coins: &[Candidate]) -> bool
+fn are_figures(request: &Request, load: &PaymentLoad, f: &FundedReport, coins: &[Candidate]) -> bool
     requires load { IsLoad load.now }
     requires paid { load.now.paid ≡ paid_to request.now.recipients }
     requires coins { AreWithin coins.now }
@@ -110,7 +108,7 @@ fn are_figures(request: &Request, load: &Load, f: &FundedReport, coins: &[Candid
 /// Whether a report says what these coins come to, and the inputs show them.
 pub(crate) fn says(
     request: &Request,
-    load: &Load,
+    load: &PaymentLoad,
     f: &FundedReport,
     coins: &[Candidate],
     spent: &[Spent],

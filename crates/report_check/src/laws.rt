@@ -27,7 +27,7 @@ ghost use Rattle.search_run.specs.Step.{AreSteps};
 ghost use Rattle.search_run.specs.declared.ending.End.TheVariants as ends;
 ghost use Rattle.report_check.specs.Payment.{line_of};
 ghost use Rattle.report_check.specs.Proved.{HasTries, HasTriesLine, IsEndedText, tries_place};
-ghost use Rattle.report_check.specs.Verdict.{BreaksFirst, IsAccepted, IsBacked, IsFault, IsPaid};
+ghost use Rattle.report_check.specs.Verdict.{BreaksFirst, IsAccepted, IsBacked, IsReportRefusal, IsPaid};
 ghost use Rattle.report_check.specs.Vouched.{IsOfPayment, Vouches};
 ghost use Rattle.report_check.specs.declared.fault.CheckFault.{CheckFault};
 
@@ -53,8 +53,8 @@ pub fn logs_break_one_rule_first()
 
 /// The law of verdicts: a report that is accepted with its log breaks no rule, and any other has one fault at most.
 pub fn reports_have_one_verdict()
-    ensures apart { (p : PlainPlan) (r : Report) (bytes : List ℕ) (e : CheckFault) → IsAccepted p r bytes → e ≢ CheckFault.Memory → IsFault p r bytes e → ⊥ }
-    ensures one { (p : PlainPlan) (r : Report) (bytes : List ℕ) (d e : CheckFault) → d ≢ CheckFault.Memory → e ≢ CheckFault.Memory → IsFault p r bytes d → IsFault p r bytes e → d ≡ e }
+    ensures apart { (p : PlainPlan) (r : Report) (bytes : List ℕ) (e : CheckFault) → IsAccepted p r bytes → e ≢ CheckFault.Memory → IsReportRefusal p r bytes e → ⊥ }
+    ensures one { (p : PlainPlan) (r : Report) (bytes : List ℕ) (d e : CheckFault) → d ≢ CheckFault.Memory → e ≢ CheckFault.Memory → IsReportRefusal p r bytes d → IsReportRefusal p r bytes e → d ≡ e }
 {}
 
 /// The place that is told where the tries aren't those of the log is that of their line, in any text of the report.
@@ -67,7 +67,7 @@ pub fn tries_have_their_line()
 /// beside any log without sections.
 pub fn given_reports_tell_no_tries()
     ensures accepted { (p : PlainPlan) (f : PlainFunded) (bytes : List ℕ) → f.mark ≡ Given → IsAccepted p (reports.Funded f) bytes → f.tries ≡ 0 }
-    ensures refused { (p : PlainPlan) (f : PlainFunded) (bytes : List ℕ) (log : PlainLog) → f.mark ≡ Given → 0 < f.tries → IsPaid p (reports.Funded f) → IsEndedText bytes log → log.closed ≡ [] → IsFault p (reports.Funded f) bytes (CheckFault.Report (tries_place (reports.Funded f))) }
+    ensures refused { (p : PlainPlan) (f : PlainFunded) (bytes : List ℕ) (log : PlainLog) → f.mark ≡ Given → 0 < f.tries → IsPaid p (reports.Funded f) → IsEndedText bytes log → log.closed ≡ [] → IsReportRefusal p (reports.Funded f) bytes (CheckFault.Report (tries_place (reports.Funded f))) }
 {}
 
 /// The law of honest reports: the answer of a plan is accepted, with any log that has an accepted section for each search up

@@ -6,29 +6,28 @@ mod answered;
 mod checked;
 mod coin_index;
 mod coins;
-mod examiner;
+mod column_prefix;
+mod due_sections;
 mod fault;
 mod figures;
 mod given;
 mod laws;
+mod log_answer;
 mod log_form;
 mod log_rules;
 mod names;
 mod paid;
 mod place;
 mod psbt;
-mod right;
-mod section_check;
+mod report_checker;
 mod sections;
 mod shown;
-mod telling;
 mod tries;
-mod up_to;
 
-pub use examiner::Examiner;
 pub use fault::CheckFault;
 pub use laws::{
     accepted_reports_name_the_answer, given_reports_tell_no_tries, honest_reports_are_accepted,
     logs_break_one_rule_first, paid_reports_pay_the_burden, reports_have_one_verdict,
     tries_have_their_line,
 };
+pub use report_checker::ReportChecker;

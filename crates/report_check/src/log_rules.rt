@@ -2,16 +2,16 @@
 
 ghost use Rattle.std.specs.Prelude.{◌≡◌, ◌↔◌, ◌≤◌, length, IfErr, IsTrue, OnOk};
 ghost use Rattle.search_run.specs.Answer.{AreWhole};
-ghost use Rattle.report_check.specs.Due.{AreRight};
+ghost use Rattle.report_check.specs.DueSections.{AreRight};
 ghost use Rattle.report_check.specs.Proved.{AreProved, HasTries, tries_place};
 ghost use Rattle.report_check.specs.Refused.{BreaksBefore};
 ghost use Rattle.report_check.specs.Verdict.{HasLog};
 ghost use Rattle.report_check.specs.declared.fault.CheckFault.TheVariants.{Report as BadTries};
 
 use crate::checked::check_all;
+use crate::due_sections::are_due;
 use crate::fault::CheckFault;
 use crate::place::tries_place;
-use crate::right::are_due;
 use crate::tries::are_tries;
 use closing_log::{Mark, Section};
 use fund_report::Report;

@@ -17,11 +17,11 @@ use crate::coins::{coins_of, row_at};
 use crate::fault::CheckFault;
 use crate::figures::says;
 use crate::given::are_own;
-use crate::psbt::read_text;
+use crate::psbt::psbt_of;
 use coin_candidates::Candidate;
-use fee_rates::Load;
+use fee_rates::PaymentLoad;
 use fund_base::Memory;
-use fund_plan::{Funded, Funding, unsigned};
+use fund_plan::{Funded, PaymentMaker, unsigned};
 use fund_report::FundedReport;
 use output_groups::{Row, ladder};
 use psbt_codec::Psbt;
@@ -67,7 +67,11 @@ fn is_transaction(
 
 /// What the payment of a row is to carry; in row 0 the given coins alone. `None` exactly where there is no such row. The
 /// error is out of memory.
-fn load_of(funding: &Funding, number: u8, row: Option<&Row>) -> Result<Option<Load>, Memory>
+fn load_of(
+    funding: &PaymentMaker,
+    number: u8,
+    row: Option<&Row>,
+) -> Result<Option<PaymentLoad>, Memory>
     requires { option_copied row ≡ row_at funding.now number }
     ensures { IfOk result (IsLoadAt funding.now number) }
 {
@@ -90,7 +94,7 @@ fn is_said(
     alloc: Global,
     request: &Request,
     change: &Watch,
-    load: &Load,
+    load: &PaymentLoad,
     f: &FundedReport,
     psbt: &Psbt,
     coins: Vec<Candidate>,
@@ -116,7 +120,7 @@ fn is_paid(
     alloc: Global,
     request: &Request,
     change: &Watch,
-    funding: &Funding,
+    funding: &PaymentMaker,
     f: &FundedReport,
     row: Option<&Row>,
     psbt: &Psbt,
@@ -166,7 +170,7 @@ pub(crate) fn paid(
     alloc: Global,
     request: &Request,
     change: &Watch,
-    funding: &Funding,
+    funding: &PaymentMaker,
     f: &FundedReport,
 ) -> Result<(), CheckFault>
     requires request { funding.now.request ≡ request.now }
@@ -175,7 +179,7 @@ pub(crate) fn paid(
     ensures fault { IfErr result (IsPaidRefusal funding.now f.now) }
 {
     funding.keeps_rules();
-    let psbt = read_text(alloc, &f.text)?;
+    let psbt = psbt_of(alloc, &f.text)?;
     let rows = ladder(request.zero_conf, request.include_unsafe);
     let row = row_at(rows, f.row);
     let funds = funding.funds();

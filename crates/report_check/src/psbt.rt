@@ -1,14 +1,13 @@
 //! The PSBT of a report.
 
 ghost use Rattle.std.specs.Prelude.{◌≡◌, ◌≢◌, IfErr, IfOk};
+ghost use Rattle.psbt_codec.specs.Text.{IsPsbtText};
 ghost use Rattle.psbt_codec.specs.declared.fault.PsbtFault.TheVariants as PsbtFault;
 ghost use Rattle.report_check.specs.declared.fault.CheckFault.TheVariants as CheckFault;
-ghost use Rattle.report_check.specs.Payment.{IsPsbtText};
 ghost use Rattle.report_check.specs.Refused.{IsPsbtRefusal};
 
 use crate::fault::CheckFault;
-use fund_base::are_bytes;
-use psbt_codec::{Psbt, PsbtFault, from_text, read_psbt};
+use psbt_codec::{Psbt, PsbtFault, read_text};
 use std::alloc::Global;
 
 /// The refusal of a text for a fault of its PSBT, which may be that there was not enough memory.
@@ -22,18 +21,13 @@ fn refusal(fault: PsbtFault) -> CheckFault
     }
 }
 
-/// The PSBT that a text is.
-pub(crate) fn read_text(alloc: Global, text: &[u8]) -> Result<Psbt, CheckFault>
+/// The PSBT that a text is, in whichever version.
+pub(crate) fn psbt_of(alloc: Global, text: &[u8]) -> Result<Psbt, CheckFault>
     ensures found { IfOk result (λ t. IsPsbtText text.now t) }
     ensures fault { IfErr result (IsPsbtRefusal text.now) }
 {
-    let bytes = match from_text(alloc, text) {
-        Ok(bytes) => bytes,
-        Err(fault) => return Err(refusal(fault)),
-    };
-    are_bytes(&bytes);
-    match read_psbt(alloc, &bytes) {
-        Ok(psbt) => Ok(psbt),
+    match read_text(alloc, text) {
+        Ok(read) => Ok(read.psbt),
         Err(fault) => Err(refusal(fault)),
     }
 }

@@ -3,8 +3,8 @@
 ghost use Rattle.std.specs.Prelude.{◌≡◌, ◌↔◌, ◌⊎◌, ◌≤◌, ◌+◌, [], List, length, option_copied, IfErr, IsTrue, OnOk};
 ghost use Rattle.search_run.specs.Searched.{searches};
 ghost use Rattle.search_run.specs.Step.{PlainStep};
-ghost use Rattle.report_check.specs.Due.{AreAllButLast, AreFor, AreForFirst, IsFirstWrong, IsNamedAs, LeavesHere, PartsHere};
-ghost use Rattle.report_check.specs.Fitting.{HasFitting, IsBehind, Passes};
+ghost use Rattle.report_check.specs.DueSections.{AreAllButLast, AreFor, AreForFirst, IsFirstWrong, IsNamedAs, LeavesHere, PartsHere};
+ghost use Rattle.report_check.specs.Fitting.{HasFitting, IsRestAfter, Passes};
 
 use closing_log::Section;
 use search_run::Step;
@@ -20,7 +20,7 @@ fn is_named(step: &Step, section: &Section) -> bool
 
 /// What is left of the sections behind that of a search; `None` where the first one isn't that of the search.
 fn behind<'a>(step: &Step, sections: &'a [Section]) -> Option<&'a [Section]>
-    ensures { IsBehind step.now sections.now (option_copied result) }
+    ensures { IsRestAfter step.now sections.now (option_copied result) }
 {
     match sections {
         [] => None,

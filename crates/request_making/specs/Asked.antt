@@ -109,6 +109,7 @@ asked_of payments coins s = do
     bump = None;
     replaceable = s.replaceable;
     locktime = locktime;
+    psbt = 0;
   })
 
 -- the settings of a request that leaves out all but these

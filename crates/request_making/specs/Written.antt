@@ -1,4 +1,5 @@
--- The JSON value of a request that is asked for: each member is written, in the order of their names by bytes.
+-- The JSON value of a request that is asked for: each member is written but `bump` and `psbt`, which are left out, in the
+-- order of their names by bytes.
 use Rattle.std.specs.Prelude.{ℕ, Bool, List, map, codes, String, string_bytes, if◌then◌else◌}
 use Rattle.std.specs.declared.alloc.Global.{Global}
 use Rattle.hex.specs.Hex.{encode_lower}

@@ -190,7 +190,7 @@ pub fn request_text(
 ) -> Result<String, Memory>
     // The file is read as what was asked, or refused for the first rule that this breaks.
     ensures read { IfOk result (λ text. request_of (string_bytes text) ≡ asked_of payments.now coins.now settings.now) }
-    // It is the JSON text of the members, each of which is written.
+    // It is the JSON text of the members, each of which is written but `bump` and `psbt`.
     ensures whole { IfOk result (λ text. parsed (string_bytes text) ≡ Some (request_data payments.now coins.now settings.now)) }
     // Its bytes are that JSON value on one line, without a blank outside of texts.
     ensures bytes { IfOk result (λ text. string_bytes text ≡ request_bytes payments.now coins.now settings.now) }

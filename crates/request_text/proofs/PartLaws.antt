@@ -4,7 +4,7 @@ use Rattle.fund_base.specs.Parsing.{◌>>=◌}
 use Rattle.json_fields.specs.Fields.{object_at, member_at, number_at, flag_at, value_of}
 use Rattle.serde_json.specs.Data.{Data}
 use Rattle.request_text.specs.Parts.{rates_at, search_at, policy_at, terms_at, parts_at}
-use Rattle.request_text.specs.RequestText.{field, or_else, recipients_at, rate_at, method_at, seed_at, tries_at, take_at, coins_at, bump_at, known_in, required_in, request_at, request_of}
+use Rattle.request_text.specs.RequestText.{field, or_else, recipients_at, rate_at, method_at, seed_at, tries_at, take_at, coins_at, bump_at, version_at, known_in, required_in, request_at, request_of}
 use Rattle.request_text.specs.declared.request.Method.TheVariants.{Auto}
 
 -- one step, and the steps after it
@@ -36,7 +36,8 @@ parts d =
     step (or_else [] coins_at (codes "coins") d) _ _ (λ _.
     within (or_else None (λ m. field (bump_at m)) (codes "bump") d) _ _ _ (λ _.
     within (or_else true (λ m. field (flag_at (codes "replaceable") m)) (codes "replaceable") d) _ _ _ (λ _.
-    within (or_else 0 (λ m. field (number_at (codes "locktime") 4_294_967_295 m)) (codes "locktime") d) _ _ _ (λ _. refl)))))))))))))))))
+    within (or_else 0 (λ m. field (number_at (codes "locktime") 4_294_967_295 m)) (codes "locktime") d) _ _ _ (λ _.
+    within (or_else 0 (λ m. field (version_at m)) (codes "psbt") d) _ _ _ (λ _. refl))))))))))))))))))
 
 -- of the bytes of a value
 pub parts_of : (bytes : List ℕ) (d : Data) → value_of bytes ≡ Ok d → request_of bytes ≡ parts_at d

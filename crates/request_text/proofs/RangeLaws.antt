@@ -1,13 +1,16 @@
 -- Which rates, tries and words are read, and when a range's own fault comes.
 use Rattle.std.proofs.Common.{◌≡◌, ◌<◌, ◌≤◌, ◌==◌, ℕ, Bool, true, false, cond, ◌||◌, List, codes, nat_lt, ◌⊎◌, inl, inr, Result, Ok, Err, refl, sym, ap, subst, ◌∙◌, true≢false, arith}
 use Rattle.std.specs.Prelude.{◌↔◌}
-use Rattle.std.proofs.lemmas.Bool.{eqb-true, ltb-true, ltb-false}
+use Rattle.std.proofs.lemmas.Bool.{eqb-true, ltb-true, ltb-false, or_cases}
 use Rattle.fund_base.specs.Parsing.{◌>>=◌}
+use Rattle.fund_base.proofs.Laws.{bind_ok, guard_met, ok_is}
 use Rattle.json_fields.proofs.NumberLaws as numbers
 use Rattle.json_fields.specs.Fields.{number_at}
 use Rattle.json_fields.specs.declared.fault.FieldFault.{FieldFault}
+use Rattle.json_fields.specs.declared.fault.FieldFault.TheVariants.{Kind}
 use Rattle.serde_json.specs.Data.{Data, number, unsigned}
-use Rattle.request_text.specs.RequestText.{field, whole_at, rate_at, tries_at}
+use Rattle.request_text.specs.PlainRequest.{IsVersion}
+use Rattle.request_text.specs.RequestText.{field, whole_at, rate_at, tries_at, version_at}
 use Rattle.request_text.specs.declared.fault.Refusal.{Refusal}
 use Rattle.request_text.specs.declared.fault.Refusal.TheVariants.{RateRange, TriesRange}
 
@@ -141,3 +144,49 @@ tries_range d = (λ e. found (whole_is (codes "tries") d judged_tries (Err Tries
 
     found : (m : ℕ) × (d ≡ number (unsigned m)) × (m ≤ 18_446_744_073_709_551_615) × (judged_tries m ≡ Err TriesRange) → NoTries d
     found r = by r.0 r.1 r.2 (r.0 == 0 || nat_lt 10_000_000 r.0) refl r.3
+
+-- ---- versions
+
+abbrev judged_version : ℕ → Result ℕ FieldFault
+judged_version n = cond (n == 0 || n == 2) (Ok n) (Err (Kind (codes "psbt")))
+
+version_by : (n : ℕ) → (n == 0 || n == 2) ≡ true → IsVersion n
+version_by n e = elim (or_cases (n == 0) (n == 2) e) [
+  | inl first ↦ inl (eqb-true n 0 first)
+  | inr second ↦ inr (eqb-true n 2 second)
+]
+
+version_reads : (n : ℕ) → IsVersion n → judged_version n ≡ Ok n
+version_reads n (inl is) = rw is refl
+version_reads n (inr is) = rw is refl
+
+abbrev IsVersionText : Data → ℕ → Type 0
+IsVersionText d n = (d ≡ number (unsigned n)) × IsVersion n
+
+small : (n : ℕ) → IsVersion n → n ≤ 4_294_967_295
+small n (inl is) = omega (arith, is)
+small n (inr is) = omega (arith, is)
+
+pub versions : (d : Data) (n : ℕ) → (version_at d ≡ Ok n) ↔ IsVersionText d n
+unfolding version_at
+versions d n = (
+  λ e.
+      let a = bind_ok (number_at (codes "psbt") 4_294_967_295 d) judged_version n e in
+      let law = numbers.found (codes "psbt") 4_294_967_295 a.0 d a.1 in
+      let g = guard_met (a.0 == 0 || a.0 == 2) (Kind (codes "psbt")) (Ok a.0) n a.2 in
+      subst (IsVersionText d) (ok_is a.0 n (Ok a.0) refl g.1) (law.0, version_by a.0 g.0),
+  λ is.
+      ap (λ v. number_at (codes "psbt") 4_294_967_295 v >>= judged_version) is.0 ∙ ap (λ r. r >>= judged_version) (numbers.only (codes "psbt") 4_294_967_295 n (small n is.1)) ∙ version_reads n is.1,
+)
+
+pub no_version : (d : Data) (fault : FieldFault) → version_at d ≡ Err fault → fault ≡ Kind (codes "psbt")
+unfolding version_at
+no_version d fault e = by (number_at (codes "psbt") 4_294_967_295 d) refl e
+  where
+    judged : (b : Bool) (n : ℕ) → cond b (Ok n) (Err (Kind (codes "psbt"))) ≡ Err fault → fault ≡ Kind (codes "psbt")
+    judged true n reads = absurd (cc reads)
+    judged false n reads = sym (cc reads)
+
+    by : (r : Result ℕ FieldFault) → number_at (codes "psbt") 4_294_967_295 d ≡ r → (r >>= judged_version) ≡ Err fault → fault ≡ Kind (codes "psbt")
+    by (Ok n) is reads = judged (n == 0 || n == 2) n reads
+    by (Err other) is reads = sym (cc reads) ∙ numbers.fault (codes "psbt") 4_294_967_295 d other is

@@ -10,7 +10,7 @@ use Rattle.json_fields.specs.declared.fault.FieldFault.{FieldFault}
 use Rattle.serde_json.specs.Data.{Data}
 use Rattle.serde_json.specs.Find.{get}
 use Rattle.request_text.specs.PlainRequest.{PlainRequest}
-use Rattle.request_text.specs.RequestText.{field, recipients_at, rate_at, method_at, seed_at, tries_at, take_at, coins_at, bump_at, known_in, needs_seed, required_in, request_at}
+use Rattle.request_text.specs.RequestText.{field, recipients_at, rate_at, method_at, seed_at, tries_at, take_at, coins_at, bump_at, version_at, known_in, needs_seed, required_in, request_at}
 use Rattle.request_text.specs.Table.{member_faults, said_by}
 use Rattle.request_text.specs.declared.fault.Refusal.TheVariants.{Field}
 use Rattle.request_text.specs.declared.request.Method.TheVariants.{Auto}
@@ -61,7 +61,8 @@ first d =
     left_out [] coins_at _ _ (get (codes "coins") d) (λ _ _.
     left_out None (λ m. field (bump_at m)) _ _ (get (codes "bump") d) (λ _ _.
     left_out true (λ m. field (flag_at (codes "replaceable") m)) _ _ (get (codes "replaceable") d) (λ _ _.
-    left_out 0 (λ m. field (number_at (codes "locktime") 4_294_967_295 m)) _ _ (get (codes "locktime") d) (λ _ _. refl)))))))))))))))))
+    left_out 0 (λ m. field (number_at (codes "locktime") 4_294_967_295 m)) _ _ (get (codes "locktime") d) (λ _ _.
+    left_out 0 (λ m. field (version_at m)) _ _ (get (codes "psbt") d) (λ _ _. refl))))))))))))))))))
 
 -- each field is what its own member says
 pub values : (d : Data) (q : PlainRequest) → request_at d ≡ Ok q → q ≡ said_by d
@@ -84,4 +85,5 @@ values d q e =
     let bump = behind_left_out None (λ m. field (bump_at m)) _ (get (codes "bump") d) q coins in
     let replaceable = behind_left_out true (λ m. field (flag_at (codes "replaceable") m)) _ (get (codes "replaceable") d) q bump in
     let locktime = behind_left_out 0 (λ m. field (number_at (codes "locktime") 4_294_967_295 m)) _ (get (codes "locktime") d) q replaceable in
-    sym (cc locktime)
+    let psbt = behind_left_out 0 (λ m. field (version_at m)) _ (get (codes "psbt") d) q locktime in
+    sym (cc psbt)

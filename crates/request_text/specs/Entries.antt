@@ -1,5 +1,5 @@
 -- An entry of `recipients`, and the whole list, by what they say and not by how they are read.
-use Rattle.std.specs.Prelude.{ℕ, ◌≡◌, ◌≤◌, ◌<◌, ◌⊎◌, List, [], ◌∷◌, length, codes, Option, Some, Ok}
+use Rattle.std.specs.Prelude.{ℕ, ◌≡◌, ◌≤◌, ◌<◌, ◌⊎◌, ◌↔◌, List, [], ◌∷◌, length, codes, Option, Some, Ok, Err}
 use Rattle.std.specs.Result.{result_err}
 use Rattle.json_fields.specs.Fields.{object_at, text_at, hex_at, number_at}
 use Rattle.json_fields.specs.Rules.{HasMembers, AreKnown, AreRead, IsHexString, wrong}
@@ -8,7 +8,8 @@ use Rattle.segwit_addr.specs.Reading.{decode_of}
 use Rattle.serde_json.specs.Data.{Data, array, string, number, unsigned}
 use Rattle.serde_json.specs.Find.{get}
 use Rattle.serde_json.specs.View.{items_of}
-use Rattle.request_text.specs.RequestText.{one_of, entry_names, entry_required, recipient_behind}
+use Rattle.request_text.specs.RequestText.{one_of, entry_names, entry_required, index_of, recipient_behind}
+use Rattle.request_text.specs.declared.fault.Refusal.{Refusal}
 use Rattle.request_text.specs.declared.request.Recipient.{Recipient}
 
 -- the member `amount` is this whole number of 64 bits
@@ -37,6 +38,19 @@ abbrev pub PaysTo : Data → List ℕ → ℕ → Type 0
 PaysTo d script amount =
     ((text : List ℕ) × IsToAddress d text amount × (decode_of text ≡ Ok script))
     ⊎ (IsToScript d script amount × (¬ IsNoScript script))
+
+-- The entry is an object of this form, of an address or a script and an amount, and this holds of the two.
+abbrev pub IsEntryOf : (Data → List ℕ → ℕ → Type 0) → (List ℕ → ℕ → Type 0) → Data → Type 0
+IsEntryOf form holds d = (words : List ℕ) × (amount : ℕ) × form d words amount × holds words amount
+
+-- the entry is of neither form
+abbrev pub IsNoEntry : Data → Type 0
+IsNoEntry d = (text script : List ℕ) (amount : ℕ) → (¬ IsToAddress d text amount) × (¬ IsToScript d script amount)
+
+-- An entry, whatever stands before it, is refused with this fault, which has its index, exactly where this holds of it.
+abbrev pub IsRefusedWhere : (ℕ → Refusal) → (Data → Type 0) → Type 0
+IsRefusedWhere fault holds =
+    (before : List Recipient) (d : Data) (told : ℕ) → (recipient_behind before d ≡ Err (fault told)) ↔ ((told ≡ index_of (length before)) × holds d)
 
 -- what is wrong with the form of an entry, in the order in which it is reported: not one of the two, no object of its
 -- members, then each member by itself

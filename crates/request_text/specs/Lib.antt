@@ -1,8 +1,9 @@
 pub mod Entries
+pub mod InMemory
 pub mod Parts
 pub mod PlainRequest
-pub mod Rules
+pub mod Reported
 pub mod RequestText
+pub mod Rules
 pub mod Stores
 pub mod Table
-pub mod Told

@@ -4,7 +4,7 @@ use Rattle.fund_base.specs.Parsing.{◌>>=◌}
 use Rattle.serde_json.specs.Data.{Data}
 use Rattle.json_fields.specs.Fields.{object_at, member_at, number_at, flag_at}
 use Rattle.request_text.specs.PlainRequest.{PlainRequest}
-use Rattle.request_text.specs.RequestText.{field, or_else, recipients_at, rate_at, method_at, seed_at, tries_at, take_at, coins_at, bump_at, known_in, required_in}
+use Rattle.request_text.specs.RequestText.{field, or_else, recipients_at, rate_at, method_at, seed_at, tries_at, take_at, coins_at, bump_at, version_at, known_in, required_in}
 use Rattle.request_text.specs.declared.fault.Refusal.{Refusal}
 use Rattle.request_text.specs.declared.request.Method.TheVariants.{Auto}
 use Rattle.request_text.specs.declared.settings.Rates.{Rates}
@@ -45,13 +45,14 @@ policy_at d = do
   group ← or_else false (λ m. field (flag_at (codes "group") m)) (codes "group") d
   Ok (record { zero_conf = zero_conf; include_unsafe = include_unsafe; group = group })
 
--- what the payment replaces, whether it may be replaced, and its lock time
+-- what the payment replaces, whether it may be replaced, its lock time, and the version of its PSBT
 unfoldable pub terms_at : Data → Result Terms Refusal
 terms_at d = do
   bump ← or_else None (λ m. field (bump_at m)) (codes "bump") d
   replaceable ← or_else true (λ m. field (flag_at (codes "replaceable") m)) (codes "replaceable") d
   locktime ← or_else 0 (λ m. field (number_at (codes "locktime") 4_294_967_295 m)) (codes "locktime") d
-  Ok (record { bump = bump; replaceable = replaceable; locktime = locktime })
+  psbt ← or_else 0 (λ m. field (version_at m)) (codes "psbt") d
+  Ok (record { bump = bump; replaceable = replaceable; locktime = locktime; psbt = psbt })
 
 -- The request that a value is, or the first fault.
 unfoldable pub parts_at : Data → Result PlainRequest Refusal
@@ -80,4 +81,5 @@ parts_at d = do
     bump = terms.bump;
     replaceable = terms.replaceable;
     locktime = terms.locktime;
+    psbt = terms.psbt;
   })

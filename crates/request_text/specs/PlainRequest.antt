@@ -1,5 +1,5 @@
 -- A request as plain data, and the rules that each request keeps.
-use Rattle.std.specs.Prelude.{ℕ, ◌≡◌, ◌≢◌, ◌<◌, ◌≤◌, ◌^◌, Bool, true, false, List, length, sum_by, All, AllPairs, Option, IsSome, IfSome}
+use Rattle.std.specs.Prelude.{ℕ, ◌≡◌, ◌≢◌, ◌<◌, ◌≤◌, ◌^◌, ◌⊎◌, Bool, true, false, List, length, sum_by, All, AllPairs, Option, IsSome, IfSome}
 use Rattle.fund_base.specs.Cursor.{IsBytes}
 use Rattle.fund_base.specs.declared.outpoint.OutPoint.{OutPoint}
 use Rattle.fee_rates.specs.Output.{dust_of}
@@ -26,6 +26,7 @@ pub record PlainRequest : Type 0 where
   pub bump : Option (List ℕ)
   pub replaceable : Bool
   pub locktime : ℕ
+  pub psbt : ℕ
 
 -- the method draws at random, so that a file has to give a seed
 abbrev pub draws : Method → Bool
@@ -47,6 +48,10 @@ pub record IsRecipient (r : Recipient) : Type 0 where
 abbrev pub paid_to : List Recipient → ℕ
 paid_to recipients = sum_by (λ (r : Recipient). r.amount) recipients
 
+-- a version of PSBTs: 0 (BIP 174) or 2 (BIP 370)
+abbrev pub IsVersion : ℕ → Type 0
+IsVersion n = (n ≡ 0) ⊎ (n ≡ 2)
+
 -- The rules that a request keeps.
 pub record IsRequest (q : PlainRequest) : Type 0 where
   pub some : 1 ≤ length q.recipients
@@ -63,3 +68,4 @@ pub record IsRequest (q : PlainRequest) : Type 0 where
   pub bump : IfSome q.bump IsHash
   pub alone : IsSome q.bump → length q.coins ≡ 0
   pub locktime : q.locktime < 2 ^ 32
+  pub psbt : IsVersion q.psbt

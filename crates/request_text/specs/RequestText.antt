@@ -159,6 +159,12 @@ coins_at d = do
 abbrev pub bump_at : Data → Result (Option (List ℕ)) FieldFault
 bump_at d = hash_at (codes "bump") d >>= λ txid. Ok (Some txid)
 
+-- the version of the PSBT that is written: 0 or 2
+unfoldable pub version_at : Data → Result ℕ FieldFault
+version_at d = do
+  version ← number_at (codes "psbt") 4_294_967_295 d
+  if version == 0 || version == 2 then Ok version else Err (Kind (codes "psbt"))
+
 -- ---- The whole
 
 -- the names of the members but for coins
@@ -166,7 +172,7 @@ abbrev pub names_but_coins : List (List ℕ)
 names_but_coins =
     codes "recipients" ∷ codes "rate" ∷ codes "long_term" ∷ codes "discard" ∷ codes "change_target" ∷ codes "method" ∷ codes "seed"
     ∷ codes "tries" ∷ codes "when_unfinished" ∷ codes "zero_conf" ∷ codes "include_unsafe" ∷ codes "group" ∷ codes "bump"
-    ∷ codes "replaceable" ∷ codes "locktime" ∷ []
+    ∷ codes "replaceable" ∷ codes "locktime" ∷ codes "psbt" ∷ []
 
 -- the names that members may have: coins isn't one of them beside a bump
 unfoldable pub known_in : Data → List (List ℕ)
@@ -206,6 +212,7 @@ request_at d = do
   bump ← or_else None (λ m. field (bump_at m)) (codes "bump") d
   replaceable ← or_else true (λ m. field (flag_at (codes "replaceable") m)) (codes "replaceable") d
   locktime ← or_else 0 (λ m. field (number_at (codes "locktime") 4_294_967_295 m)) (codes "locktime") d
+  psbt ← or_else 0 (λ m. field (version_at m)) (codes "psbt") d
   Ok (record {
     recipients = recipients;
     rate = rate;
@@ -223,6 +230,7 @@ request_at d = do
     bump = bump;
     replaceable = replaceable;
     locktime = locktime;
+    psbt = psbt;
   })
 
 -- the request that the bytes of a file are, or the first fault

@@ -5,7 +5,7 @@ use Rattle.json_fields.specs.Rules.{wrong, said}
 use Rattle.serde_json.specs.Data.{Data}
 use Rattle.serde_json.specs.Find.{get}
 use Rattle.request_text.specs.PlainRequest.{PlainRequest}
-use Rattle.request_text.specs.RequestText.{field, recipients_at, rate_at, method_at, seed_at, tries_at, take_at, coins_at, bump_at}
+use Rattle.request_text.specs.RequestText.{field, recipients_at, rate_at, method_at, seed_at, tries_at, take_at, coins_at, bump_at, version_at}
 use Rattle.request_text.specs.declared.fault.Refusal.{Refusal}
 use Rattle.request_text.specs.declared.request.Method.TheVariants.{Auto}
 
@@ -36,6 +36,7 @@ member_faults d =
     ∷ wrong (λ m. field (bump_at m)) (get (codes "bump") d)
     ∷ flag_of_name (codes "replaceable") d
     ∷ number_of_name (codes "locktime") 4_294_967_295 d
+    ∷ wrong (λ m. field (version_at m)) (get (codes "psbt") d)
     ∷ []
 
 -- each field by its own member, with the default where that is left out; recipients and a rate never are
@@ -57,4 +58,5 @@ said_by d = record {
   bump = said None (λ m. field (bump_at m)) (get (codes "bump") d);
   replaceable = said true (λ m. field (flag_at (codes "replaceable") m)) (get (codes "replaceable") d);
   locktime = said 0 (λ m. field (number_at (codes "locktime") 4_294_967_295 m)) (get (codes "locktime") d);
+  psbt = said 0 (λ m. field (version_at m)) (get (codes "psbt") d);
 }

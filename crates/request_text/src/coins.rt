@@ -9,7 +9,7 @@ ghost use Rattle.fund_base.specs.Parsing.{YieldsAll};
 ghost use Rattle.json_fields.specs.Memory.{StoresFirst, StoresList, StoresOptional};
 ghost use Rattle.json_fields.specs.declared.fault.FieldFault.TheVariants.{Memory as NoMemory};
 ghost use Rattle.request_text.specs.RequestText.{coins_at, index_of, or_else, repeat_behind};
-ghost use Rattle.request_text.specs.Told.{Gives, HasCause};
+ghost use Rattle.request_text.specs.Reported.{Gives, HasCause};
 ghost use Rattle.request_text.specs.declared.fault.Refusal.TheVariants.{Field as FieldRefusal, Repeat};
 
 use crate::bounds::index_of;

@@ -2,7 +2,7 @@
 
 ghost use Rattle.std.specs.Prelude.{◌≡◌};
 ghost use Rattle.json_fields.specs.declared.fault.FieldFault.TheVariants.{Memory as NoMemory};
-ghost use Rattle.request_text.specs.Told.{plain_fault};
+ghost use Rattle.request_text.specs.Reported.{plain_fault};
 ghost use Rattle.request_text.specs.declared.fault.Refusal.TheVariants.{Field as FieldRefusal};
 
 use fund_base::Memory;

@@ -13,9 +13,9 @@ ghost use Rattle.json_fields.specs.Fields.{IsHash, object_at};
 ghost use Rattle.json_fields.specs.Rules.{IsFirstRefused, IsHexString, first_some};
 ghost use Rattle.json_fields.specs.declared.fault.FieldFault.{FieldFault};
 ghost use Rattle.json_fields.specs.declared.fault.FieldFault.TheVariants.{Kind};
-ghost use Rattle.request_text.specs.Entries.{IsToAddress, IsToScript, IsNoScript, PaysTo, AreRecipients, form_faults};
-ghost use Rattle.request_text.specs.PlainRequest.{PlainRequest, paid_to};
-ghost use Rattle.request_text.specs.RequestText.{field, index_of, known_in, method_in, recipient_behind, recipients_at, repeat_behind, request_at, required_in, seed_at, rate_at, tries_at};
+ghost use Rattle.request_text.specs.Entries.{IsToAddress, IsToScript, IsEntryOf, IsNoEntry, IsNoScript, IsRefusedWhere, PaysTo, AreRecipients, form_faults};
+ghost use Rattle.request_text.specs.PlainRequest.{IsVersion, PlainRequest, paid_to};
+ghost use Rattle.request_text.specs.RequestText.{field, known_in, method_in, recipient_behind, recipients_at, repeat_behind, request_at, required_in, seed_at, rate_at, tries_at, version_at};
 ghost use Rattle.request_text.specs.Table.{member_faults, said_by};
 ghost use Rattle.json_fields.specs.Repeats.{IsFirstRepeat};
 ghost use Rattle.request_text.specs.Rules.{IsSeedText, word_of};
@@ -38,11 +38,11 @@ pub fn finds_repeats()
 /// dust. Any other entry is refused for its form, with the first fault that the form has.
 pub fn judges_recipients()
     ensures taken { (before : List Recipient) (d : Data) (r : Recipient) → (recipient_behind before d ≡ Ok r) ↔ (PaysTo d r.script r.amount × (dust_of r.script ≤ r.amount) × (r.amount ≤ 2_100_000_000_000_000)) }
-    ensures address { (before : List Recipient) (d : Data) (told : ℕ) (fault : AddrFault) → (recipient_behind before d ≡ Err (Address told fault)) ↔ ((told ≡ index_of (length before)) × ((text : List ℕ) × (amount : ℕ) × IsToAddress d text amount × (decode_of text ≡ Err fault))) }
-    ensures script { (before : List Recipient) (d : Data) (told : ℕ) → (recipient_behind before d ≡ Err (Script told)) ↔ ((told ≡ index_of (length before)) × ((script : List ℕ) × (amount : ℕ) × IsToScript d script amount × IsNoScript script)) }
-    ensures range { (before : List Recipient) (d : Data) (told : ℕ) → (recipient_behind before d ≡ Err (AmountRange told)) ↔ ((told ≡ index_of (length before)) × ((script : List ℕ) × (amount : ℕ) × PaysTo d script amount × (2_100_000_000_000_000 < amount))) }
-    ensures dust { (before : List Recipient) (d : Data) (told : ℕ) → (recipient_behind before d ≡ Err (Dust told)) ↔ ((told ≡ index_of (length before)) × ((script : List ℕ) × (amount : ℕ) × PaysTo d script amount × (amount ≤ 2_100_000_000_000_000) × (amount < dust_of script))) }
-    ensures form { (before : List Recipient) (d : Data) → ((fault : FieldFault) × (recipient_behind before d ≡ Err (Field fault))) ↔ ((text script : List ℕ) (amount : ℕ) → (¬ IsToAddress d text amount) × (¬ IsToScript d script amount)) }
+    ensures address { (fault : AddrFault) → IsRefusedWhere (λ told. Address told fault) (IsEntryOf IsToAddress (λ text amount. decode_of text ≡ Err fault)) }
+    ensures script { IsRefusedWhere Script (IsEntryOf IsToScript (λ script amount. IsNoScript script)) }
+    ensures range { IsRefusedWhere AmountRange (IsEntryOf PaysTo (λ script amount. 2_100_000_000_000_000 < amount)) }
+    ensures dust { IsRefusedWhere Dust (IsEntryOf PaysTo (λ script amount. (amount ≤ 2_100_000_000_000_000) × (amount < dust_of script))) }
+    ensures form { (before : List Recipient) (d : Data) → ((fault : FieldFault) × (recipient_behind before d ≡ Err (Field fault))) ↔ IsNoEntry d }
     ensures first { (before : List Recipient) (d : Data) (fault : FieldFault) → (recipient_behind before d ≡ Err (Field fault)) ↔ (first_some (form_faults d) ≡ Some fault) }
 {}
 
@@ -73,6 +73,13 @@ pub fn reads_ranges()
     ensures rate_range { (name : List ℕ) (d : Data) (told : List ℕ) → (rate_at name d ≡ Err (RateRange told)) ↔ ((told ≡ name) × ((n : ℕ) × (d ≡ number (unsigned n)) × (100_000_000 < n) × (n ≤ 18_446_744_073_709_551_615))) }
     ensures tries { (d : Data) (n : ℕ) → (tries_at d ≡ Ok n) ↔ ((d ≡ number (unsigned n)) × (1 ≤ n) × (n ≤ 10_000_000)) }
     ensures tries_range { (d : Data) → (tries_at d ≡ Err TriesRange) ↔ ((n : ℕ) × (d ≡ number (unsigned n)) × ((n ≡ 0) ⊎ (10_000_000 < n)) × (n ≤ 18_446_744_073_709_551_615)) }
+{}
+
+/// The law of the PSBT's version: a value is read as one exactly where it is the whole number 0 or 2, and any other is of
+/// the wrong kind.
+pub fn reads_versions()
+    ensures taken { (d : Data) (n : ℕ) → (version_at d ≡ Ok n) ↔ ((d ≡ number (unsigned n)) × IsVersion n) }
+    ensures fault { (d : Data) (fault : FieldFault) → version_at d ≡ Err fault → fault ≡ Kind (codes "psbt") }
 {}
 
 /// The law of methods: a word is read as a method exactly where it is the method's own.

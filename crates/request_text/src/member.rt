@@ -1,24 +1,22 @@
 //! The members of a request other than its lists, each with its own rules, and with its default where it is left out.
 
-ghost use Rattle.std.specs.Prelude.{◌≡◌, ◌≢◌, ◌≤◌, ◌==◌, ◌||◌, IfErr, IfOk, IfSome, IsOk, IsSome, Ok, Err, is_some, nat_lt, replicate, codes, true, if◌then◌else◌};
+ghost use Rattle.std.specs.Prelude.{◌≡◌, ◌≢◌, ◌≤◌, ◌==◌, ◌||◌, IfErr, IfOk, IfSome, IsSome, Ok, Err, is_some, nat_lt, replicate, codes, true, if◌then◌else◌};
 ghost use Rattle.serde_json.specs.Find.{get};
 ghost use Rattle.serde_json.specs.View.{view};
 ghost use Rattle.json_fields.specs.Fields.{IsHash, flag_at, number_at};
 ghost use Rattle.json_fields.specs.declared.fault.FieldFault.TheVariants.{Memory as NoMemory};
-ghost use Rattle.request_text.specs.RequestText.{bump_at, field, method_at, method_in, or_else, rate_at, seed_at, take_at, take_in, tries_at, whole_at};
-ghost use Rattle.request_text.specs.Told.{Gives, HasCause};
-ghost use Rattle.request_text.specs.declared.fault.Refusal.TheVariants.{Field as FieldRefusal, RateRange as BadRate, TriesRange as BadTries};
+ghost use Rattle.request_text.specs.RequestText.{bump_at, field, method_at, method_in, or_else, rate_at, seed_at, take_at, take_in, tries_at, version_at};
+ghost use Rattle.request_text.specs.PlainRequest.{IsVersion};
+ghost use Rattle.request_text.specs.Reported.{HasCause};
+ghost use Rattle.request_text.specs.declared.fault.Refusal.TheVariants.{Field as FieldRefusal, TriesRange as BadTries};
 
 use crate::fault::Refusal;
 use crate::request::Method;
 use fee_rates::MAX_RATE;
-use fund_base::{Txid, are_bytes};
+use fund_base::{MOST_TRIES, Txid, are_bytes};
 use hex::FromHex;
 use json_fields::{FieldFault, Name, flag_of, number_of, text_of, txid_of};
 use serde_json::Value;
-
-/// The greatest number of tries.
-const MAX_TRIES: u64 = 10_000_000;
 
 /// The rate, of at most 100,000,000.
 #[tactic(auto, unfolding(crate::specs::RequestText::rate_at))]
@@ -145,7 +143,7 @@ fn check_tries(tries: u64) -> Result<(), Refusal>
     ensures exact { result ≡ (if (tries == 0) || nat_lt 10_000_000 tries then Err BadTries else Ok tt) }
     ensures never { result ≢ Err (FieldRefusal NoMemory) }
 {
-    if tries == 0 || tries > MAX_TRIES {
+    if tries == 0 || tries > MOST_TRIES {
         return Err(Refusal::TriesRange);
     }
     Ok(())
@@ -222,5 +220,30 @@ pub fn bump_or_none(whole: &Value) -> Result<Option<Txid>, Refusal>
     match whole.get("bump") {
         Some(value) => Ok(Some(txid_of(value, "bump")?)),
         None => Ok(None),
+    }
+}
+
+#[tactic(auto, unfolding(crate::specs::RequestText::version_at))]
+fn version_of(value: &Value) -> Result<u32, Refusal>
+    ensures exact { result ≡ field (version_at (view value.now)) }
+    ensures never { result ≢ Err (FieldRefusal NoMemory) }
+    ensures is { IfOk result IsVersion }
+{
+    match number_of(value, "psbt", u32::MAX as u64)? {
+        0 => Ok(0),
+        2 => Ok(2),
+        _ => Err(Refusal::Field(FieldFault::kind("psbt"))),
+    }
+}
+
+/// The version of the PSBT that is written, 0 where it is left out.
+pub fn version_or_zero(whole: &Value) -> Result<u32, Refusal>
+    ensures exact { result ≡ or_else 0 (λ m. field (version_at m)) (codes "psbt") (view whole.now) }
+    ensures never { result ≢ Err (FieldRefusal NoMemory) }
+    ensures is { IfOk result IsVersion }
+{
+    match whole.get("psbt") {
+        Some(value) => version_of(value),
+        None => Ok(0),
     }
 }

@@ -12,7 +12,7 @@ ghost use Rattle.request_text.specs.Parts.{parts_at};
 ghost use Rattle.request_text.specs.PlainRequest.{IsRequest, draws};
 ghost use Rattle.request_text.specs.RequestText.{known_in, needs_seed, request_of, required_in};
 ghost use Rattle.request_text.specs.Stores.{StoresRequest};
-ghost use Rattle.request_text.specs.Told.{Gives, HasCause, Reads, plain_fault};
+ghost use Rattle.request_text.specs.Reported.{Gives, HasCause, Reads, plain_fault};
 ghost use Rattle.request_text.specs.declared.fault.Refusal.TheVariants.{Field as FieldRefusal};
 
 use crate::coins::coins_or_none;
@@ -91,6 +91,7 @@ fn whole_of(alloc: Global, value: &Value) -> Result<(), FieldFault>
         "bump",
         "replaceable",
         "locktime",
+        "psbt",
     ];
     if has(value, "bump") {
         whole_among(alloc, value, &known[1..])
@@ -132,6 +133,7 @@ fn request_in(alloc: Global, value: &Value) -> Result<Request, Refusal>
         bump: terms.bump,
         replaceable: terms.replaceable,
         locktime: terms.locktime,
+        psbt: terms.psbt,
     })
 }
 

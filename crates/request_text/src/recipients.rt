@@ -1,15 +1,15 @@
 //! The recipients of a request, each by an address or by a script.
 
-ghost use Rattle.std.specs.Prelude.{◌≡◌, ◌≢◌, ◌≤◌, ◌<◌, ◌==◌, ◌||◌, [], All, IfOk, IfErr, IsOk, IsTrue, ◌↔◌, Ok, Err, codes, length, nat_le, nat_lt, if◌then◌else◌};
+ghost use Rattle.std.specs.Prelude.{◌≡◌, ◌≢◌, ◌≤◌, ◌<◌, ◌==◌, ◌||◌, [], All, IfOk, IfErr, IsOk, IsTrue, ◌↔◌, Ok, Err, codes, length, nat_lt, if◌then◌else◌};
 ghost use Rattle.serde_json.specs.Find.{get};
 ghost use Rattle.serde_json.specs.View.{view, items_view};
 ghost use Rattle.json_fields.specs.Fields.{each_from};
 ghost use Rattle.json_fields.specs.Memory.{StoresFirst, StoresList};
 ghost use Rattle.json_fields.specs.declared.fault.FieldFault.TheVariants.{Memory as NoMemory};
 ghost use Rattle.request_text.specs.PlainRequest.{IsRecipient, paid_to};
-ghost use Rattle.request_text.specs.RequestText.{amount_at, field, index_of, one_of, paid_at, recipient_behind, recipients_at, to_address_at, to_script_at};
+ghost use Rattle.request_text.specs.RequestText.{amount_at, index_of, one_of, paid_at, recipient_behind, recipients_at, to_address_at, to_script_at};
 ghost use Rattle.request_text.specs.Stores.{StoresAddress, StoresRecipient, StoresScript};
-ghost use Rattle.request_text.specs.Told.{Gives, HasCause};
+ghost use Rattle.request_text.specs.Reported.{Gives, HasCause};
 ghost use Rattle.segwit_addr.specs.Reading.{decode_of};
 ghost use Rattle.fund_base.specs.Parsing.{fault_as};
 ghost use Rattle.request_text.specs.declared.fault.Refusal.TheVariants.{Address as BadAddress, AmountRange, Field as FieldRefusal, NoRecipients as Empty, Script as BadScript, SumRange};

@@ -79,50 +79,20 @@ pub struct Request {
     pub replaceable: bool,
     /// The payment's lock time.
     pub locktime: u32,
+    /// The version of the PSBT that is written: 0 (BIP 174) or 2 (BIP 370).
+    pub psbt: u32,
 }
 
 impl Model for Request {
-    ghost use Rattle.request_text.specs.PlainRequest.{PlainRequest, IsRequest};
+    ghost use Rattle.request_text.specs.PlainRequest.{IsRequest, PlainRequest};
 
     ghost Value = { PlainRequest };
 
-    ghost view = { λ r. record {
-      recipients = r.recipients.items;
-      rate = r.rate;
-      long_term = r.long_term;
-      discard = r.discard;
-      change_target = r.change_target;
-      method = r.method;
-      seed = r.seed;
-      tries = r.tries;
-      take = r.take;
-      zero_conf = r.zero_conf;
-      include_unsafe = r.include_unsafe;
-      group = r.group;
-      coins = r.coins.items;
-      bump = r.bump;
-      replaceable = r.replaceable;
-      locktime = r.locktime;
-    } };
+    ghost use Rattle.request_text.specs.InMemory.{plain_request};
 
-    ghost invariant = { λ r. IsRequest (record {
-      recipients = r.recipients.items;
-      rate = r.rate;
-      long_term = r.long_term;
-      discard = r.discard;
-      change_target = r.change_target;
-      method = r.method;
-      seed = r.seed;
-      tries = r.tries;
-      take = r.take;
-      zero_conf = r.zero_conf;
-      include_unsafe = r.include_unsafe;
-      group = r.group;
-      coins = r.coins.items;
-      bump = r.bump;
-      replaceable = r.replaceable;
-      locktime = r.locktime;
-    }) };
+    ghost view = { plain_request };
+
+    ghost invariant = { λ r. IsRequest (plain_request r) };
 }
 
 /// A copy of each recipient.
@@ -169,6 +139,7 @@ impl Request {
             bump: self.bump,
             replaceable: self.replaceable,
             locktime: self.locktime,
+            psbt: self.psbt,
         })
     }
 }

@@ -6,14 +6,15 @@ ghost use Rattle.serde_json.specs.View.{view};
 ghost use Rattle.json_fields.specs.Fields.{IsHash};
 ghost use Rattle.json_fields.specs.declared.fault.FieldFault.TheVariants.{Memory as NoMemory};
 ghost use Rattle.request_text.specs.Parts.{AreRates, policy_at, rates_at, search_at, terms_at};
+ghost use Rattle.request_text.specs.PlainRequest.{IsVersion};
 ghost use Rattle.request_text.specs.RequestText.{field, method_at, or_else};
-ghost use Rattle.request_text.specs.Told.{HasCause};
+ghost use Rattle.request_text.specs.Reported.{HasCause};
 ghost use Rattle.request_text.specs.declared.fault.Refusal.TheVariants.{Field as FieldRefusal};
 
 use crate::fault::Refusal;
 use crate::member::{
     bump_or_none, flag_or, method_or_auto, number_or, rate_of, rate_or, seed_or_zeros,
-    take_or_true, tries_or,
+    take_or_true, tries_or, version_or_zero,
 };
 use crate::request::Method;
 use fund_base::{MAX_MONEY, Txid};
@@ -105,12 +106,13 @@ pub fn policy_of(value: &Value) -> Result<Policy, Refusal>
     })
 }
 
-/// What the payment replaces, whether it may be replaced, and its lock time.
+/// What the payment replaces, whether it may be replaced, its lock time, and the version of its PSBT.
 #[derive(Clone, Copy)]
 pub struct Terms {
     pub bump: Option<Txid>,
     pub replaceable: bool,
     pub locktime: u32,
+    pub psbt: u32,
 }
 
 /// The terms of the request that the value is.
@@ -121,14 +123,17 @@ pub fn terms_of(value: &Value) -> Result<Terms, Refusal>
     ensures bump { IfOk result (λ t. IfSome t.bump IsHash) }
     ensures there { IfOk result (λ t. IsSome t.bump → is_some (get (codes "bump") (view value.now)) ≡ true) }
     ensures locktime { IfOk result (λ t. t.locktime < 2 ^ 32) }
+    ensures psbt { IfOk result (λ t. IsVersion t.psbt) }
     ensures cause { IfErr result HasCause }
 {
     let bump = bump_or_none(value)?;
     let replaceable = flag_or(value, "replaceable", true)?;
     let locktime = number_or(value, "locktime", u32::MAX as u64, 0)? as u32;
+    let psbt = version_or_zero(value)?;
     Ok(Terms {
         bump,
         replaceable,
         locktime,
+        psbt,
     })
 }

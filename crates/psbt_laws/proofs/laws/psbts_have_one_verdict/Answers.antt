@@ -8,16 +8,16 @@ use Rattle.psbt_codec.specs.declared.fault.PsbtFault.{PsbtFault}
 use Rattle.psbt_codec.proofs.Readable.{read_again, read_takes}
 use Rattle.tx_laws.proofs.Judged.{one_fault}
 use Rattle.psbt_laws.specs.Fields.{Breaks}
-use Rattle.psbt_laws.specs.First.{IsFault}
+use Rattle.psbt_laws.specs.First.{IsPsbtFault}
 use Rattle.psbt_laws.specs.Order.{PsbtComes}
 use Rattle.psbt_laws.proofs.Whole.{psbt_judged}
 use Rattle.psbt_laws.proofs.laws.psbts_have_one_verdict.Goals as goal
 
-verdict_by : (bytes : List ℕ) → IsBytes bytes → (r : Result PartialTransaction PsbtFault) → read_of bytes ≡ r → ((p : PartialTransaction) × IsReadable bytes p) ⊎ ((fault : PsbtFault) × IsFault bytes fault)
+verdict_by : (bytes : List ℕ) → IsBytes bytes → (r : Result PartialTransaction PsbtFault) → read_of bytes ≡ r → ((p : PartialTransaction) × IsReadable bytes p) ⊎ ((fault : PsbtFault) × IsPsbtFault bytes fault)
 verdict_by bytes fits (Ok p) e = inl (p, read_takes bytes p fits e)
 verdict_by bytes fits (Err fault) e = inr (fault, (psbt_judged bytes fits).tells fault e)
 
-neither : (bytes : List ℕ) (p : PartialTransaction) (fault : PsbtFault) → IsBytes bytes → IsReadable bytes p → IsFault bytes fault → ⊥
+neither : (bytes : List ℕ) (p : PartialTransaction) (fault : PsbtFault) → IsBytes bytes → IsReadable bytes p → IsPsbtFault bytes fault → ⊥
 neither bytes p fault fits is broken =
     let refused = (psbt_judged bytes fits).gives fault broken in
     let read = read_again bytes p is in

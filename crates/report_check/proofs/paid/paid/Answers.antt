@@ -11,7 +11,7 @@ use Rattle.request_text.specs.PlainRequest.{PlainRequest}
 use Rattle.tx_codec.specs.declared.tx.TxIn.{TxIn}
 use Rattle.report_check.specs.PaidRefused.{IsCoinRefusal, IsPaidRefusal}
 use Rattle.report_check.specs.Paying.{AreTaken}
-use Rattle.report_check.specs.Payment.{IsPsbtText}
+use Rattle.psbt_codec.specs.Text.{IsPsbtText}
 use Rattle.report_check.proofs.PaidLaws.{coins_refused, row_same, taken_as, unpaid}
 use Rattle.report_check.proofs.paid.paid.Goals as goal
 

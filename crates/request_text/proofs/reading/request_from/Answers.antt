@@ -5,7 +5,7 @@ use Rattle.serde_json.specs.Find.{get}
 use Rattle.serde_json.specs.View.{view}
 use Rattle.json_fields.specs.Fields.{parsed}
 use Rattle.request_text.specs.PlainRequest.{PlainRequest, draws}
-use Rattle.request_text.specs.Told.{Gives}
+use Rattle.request_text.specs.Reported.{Gives}
 use Rattle.request_text.specs.declared.fault.Refusal.{Refusal}
 use Rattle.request_text.proofs.PartLaws.{parts_of}
 use Rattle.request_text.proofs.Seeds.{same_value}

@@ -23,6 +23,7 @@ invariant_of-result c =
       bump = c.in_ok-terms.ensures.bump;
       alone = λ there. alone (view c.args.value.now) _ c.in_ok-whole_of.ensures.gives (c.in_ok-terms.ensures.there there) c.in_ok-coins.ensures.gives;
       locktime = c.in_ok-terms.ensures.locktime;
+      psbt = c.in_ok-terms.ensures.psbt;
     }
 
 pub returns-clause-seed : goal.returns-clause-seed

@@ -1,6 +1,0 @@
-use Rattle.std.proofs.Common.{drop}
-use Rattle.report_check.proofs.UpToLaws.{IsSeeking}
-use Rattle.report_check.proofs.up_to.column_end.Given as goal
-
-abbrev pub invariant-seeking : goal.invariant-seeking
-invariant-seeking l = IsSeeking l.steps l.row l.stage (drop l.i l.steps) l.there
