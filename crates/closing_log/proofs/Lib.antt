@@ -5,6 +5,7 @@ pub mod DigestLaws
 pub mod EitherLaws
 pub mod Exactness
 pub mod Feeding
+pub mod FirstFaults
 pub mod LetterLaws
 pub mod LineLaws
 pub mod LogLaws

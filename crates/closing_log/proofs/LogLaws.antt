@@ -5,13 +5,14 @@ use Rattle.std.proofs.lemmas.List.{length-append, append_cancel_left, append_can
 use Rattle.fund_base.specs.Parsing.{◌>>=◌}
 use Rattle.closing_log.specs.declared.fault.LogTextFault.{LogTextFault}
 use Rattle.closing_log.specs.declared.fault.LogTextFault.TheVariants as faults
-use Rattle.closing_log.specs.Exact.{Begins, StopsAt, NoneGoesOn, IsFirstFault}
-use Rattle.closing_log.specs.Gives.{Tells, IsPlaceOf, IsFault}
+use Rattle.closing_log.specs.Exact.{StopsAt, IsFirstFault}
+use Rattle.closing_log.specs.Gives.{Agrees, IsPlaceOf, IsLogTextFault}
 use Rattle.closing_log.specs.declared.part.Part.TheVariants.{End, Open}
 use Rattle.closing_log.specs.Log.{PlainSection, PlainOpen, PlainLog}
 use Rattle.closing_log.specs.LogText.{IsEnding, AreSections, Anything, IsLogText, IsCount}
 use Rattle.closing_log.specs.Reading.{word_at, part_at, body_at, log_rest, log_at}
-use Rattle.closing_log.proofs.Exactness.{Law, Then, then_law, law_as, ok_is, not_both, one_on}
+use Rattle.closing_log.proofs.Exactness.{Law, Then, then_law, law_as, ok_is, not_both}
+use Rattle.closing_log.proofs.FirstFaults.{fault_where, stop_within}
 use Rattle.closing_log.proofs.WordLaws.{IsWord, word_piece, word_again}
 use Rattle.closing_log.proofs.BodyLaws.{BodyOf, stop_of, body_law}
 use Rattle.closing_log.proofs.Loops.{body_end, body_open, body_fail, body_out}
@@ -68,27 +69,9 @@ one_log bytes a b first second = ok_is a b (stop_of (log_at bytes)) (log_again b
 
 -- ---- the place of a fault
 
--- at the end there is no byte behind it
-never_at : (bytes front stop : List ℕ) (place : ℕ) → bytes ≡ front ++ stop → length front ≡ place → NoneGoesOn IsLogText front stop → place < length bytes → Begins IsLogText (take (place + 1) bytes) → ⊥
-never_at bytes front [] place parts at never lt begins = omega (arith, lt, at, ap length parts, length-append front [])
-never_at bytes front (b ∷ r) place parts at never lt begins =
-    let cut : take (place + 1) bytes ≡ front ++ b ∷ [] = ap (take (place + 1)) (parts ∙ sym (one_on front b r)) ∙ take_at (front ++ b ∷ []) r (place + 1) (omega (arith, at, length-append front (b ∷ []))) in
-    never (subst (Begins IsLogText) cut begins)
-
 pub first_fault : (bytes stop : List ℕ) (k place : ℕ) → log_at bytes ≡ Err (stop, k) → place + length stop ≡ length bytes → IsFirstFault IsLogText bytes place
 first_fault bytes stop k place e place-is =
-    let s = log_stops bytes stop k e in
-    let at : length s.front ≡ place = omega (arith, place-is, ap length s.parts, length-append s.front stop) in
-    let cut : take place bytes ≡ s.front = ap (take place) s.parts ∙ take_at s.front stop place at in
-    record {
-      within = omega arith;
-      begins = subst (Begins IsLogText) (sym cut) s.begins;
-      never = never_at bytes s.front stop place s.parts at s.never;
-      whole = λ log i. not_both log stop (stop_of (log_at bytes)) (log_again bytes log i) (ap stop_of e);
-    }
-
-pub stop_within : (bytes stop : List ℕ) (k : ℕ) → log_at bytes ≡ Err (stop, k) → length stop ≤ length bytes
-stop_within bytes stop k e = let s = log_stops bytes stop k e in omega (arith, ap length s.parts, length-append s.front stop)
+    fault_where IsLogText bytes stop place (log_stops bytes stop k e) place-is (λ log i. not_both log stop (stop_of (log_at bytes)) (log_again bytes log i) (ap stop_of e))
 
 -- ---- the count of sections
 
@@ -128,13 +111,13 @@ first_count bytes stop k place e place-is =
 -- ---- what the reader tells
 
 form_place : (bytes stop : List ℕ) (k : ℕ) → log_at bytes ≡ Err (stop, k) → IsPlaceOf bytes (log_at bytes) (length bytes - length stop) k
-form_place bytes stop k e = record { stop = stop; is = e; place_is = omega (arith, stop_within bytes stop k e) }
+form_place bytes stop k e = record { stop = stop; is = e; place_is = omega (arith, stop_within IsLogText bytes stop (log_stops bytes stop k e)) }
 
-tell_fault : (bytes stop : List ℕ) (k : ℕ) (f : LogTextFault) → f ≡ faults.Form (length bytes - length stop) k → log_at bytes ≡ Err (stop, k) → Tells bytes (Err f) (log_at bytes)
-tell_fault bytes stop k f is e = subst (λ (g : LogTextFault). Tells bytes (Err g) (log_at bytes)) (sym is) (form_place bytes stop k e)
+tell_fault : (bytes stop : List ℕ) (k : ℕ) (f : LogTextFault) → f ≡ faults.Form (length bytes - length stop) k → log_at bytes ≡ Err (stop, k) → Agrees bytes (Err f) (log_at bytes)
+tell_fault bytes stop k f is e = subst (λ (g : LogTextFault). Agrees bytes (Err g) (log_at bytes)) (sym is) (form_place bytes stop k e)
 
 -- bytes that don't name the format
-pub tell_word : (bytes stop : List ℕ) (f : LogTextFault) → f ≡ faults.Form (length bytes - length stop) 0 → word_at (codes "fund-log 1\n") bytes ≡ Err stop → Tells bytes (Err f) (log_at bytes)
+pub tell_word : (bytes stop : List ℕ) (f : LogTextFault) → f ≡ faults.Form (length bytes - length stop) 0 → word_at (codes "fund-log 1\n") bytes ≡ Err stop → Agrees bytes (Err f) (log_at bytes)
 unfolding log_at
 tell_word bytes stop f is e = tell_fault bytes stop 0 f is (ap log_rest e)
 
@@ -142,10 +125,10 @@ pub log_begins : (bytes rest : List ℕ) → word_at (codes "fund-log 1\n") byte
 unfolding log_at
 log_begins bytes rest e = let k : length rest - 0 ≡ length rest = omega arith in rw k (sym (ap log_rest e))
 
-pub tell_part : (bytes : List ℕ) (count i : ℕ) (done : List PlainSection) (rest stop : List ℕ) (f : LogTextFault) → f ≡ faults.Form (length bytes - length stop) (length done) → i < count → part_at rest ≡ Err stop → body_at (count - i) done rest ≡ log_at bytes → Tells bytes (Err f) (log_at bytes)
+pub tell_part : (bytes : List ℕ) (count i : ℕ) (done : List PlainSection) (rest stop : List ℕ) (f : LogTextFault) → f ≡ faults.Form (length bytes - length stop) (length done) → i < count → part_at rest ≡ Err stop → body_at (count - i) done rest ≡ log_at bytes → Agrees bytes (Err f) (log_at bytes)
 tell_part bytes count i done rest stop f is lt e so_far = tell_fault bytes stop (length done) f is (sym so_far ∙ body_fail count i done rest stop lt e)
 
-pub tell_out : (bytes : List ℕ) (count i : ℕ) (done : List PlainSection) (rest : List ℕ) (f : LogTextFault) → f ≡ faults.Form (length bytes - length rest) (length done) → count ≤ i → body_at (count - i) done rest ≡ log_at bytes → Tells bytes (Err f) (log_at bytes)
+pub tell_out : (bytes : List ℕ) (count i : ℕ) (done : List PlainSection) (rest : List ℕ) (f : LogTextFault) → f ≡ faults.Form (length bytes - length rest) (length done) → count ≤ i → body_at (count - i) done rest ≡ log_at bytes → Agrees bytes (Err f) (log_at bytes)
 tell_out bytes count i done rest f is le so_far = tell_fault bytes rest (length done) f is (sym so_far ∙ body_out count i done rest le)
 
 pub tell_end : (bytes : List ℕ) (count i : ℕ) (done : List PlainSection) (rest after : List ℕ) → i < count → part_at rest ≡ Ok (End, after) → body_at (count - i) done rest ≡ log_at bytes → log_at bytes ≡ Ok (record { closed = done; tail = None; ended = true })
@@ -156,16 +139,16 @@ tell_open bytes count i done rest o after lt e so_far = sym so_far ∙ body_open
 
 -- ---- the clauses
 
-pub tells_found : (bytes : List ℕ) (r : Result PlainLog LogTextFault) → Tells bytes r (log_at bytes) → IfOk r (λ log. IsLogText bytes log)
+pub tells_found : (bytes : List ℕ) (r : Result PlainLog LogTextFault) → Agrees bytes r (log_at bytes) → IfOk r (λ log. IsLogText bytes log)
 tells_found bytes (Ok log) e = log_takes bytes log e
 tells_found bytes (Err f) e = tt
 
-pub tells_only : (bytes : List ℕ) (r : Result PlainLog LogTextFault) → Tells bytes r (log_at bytes) → (log : PlainLog) → IsLogText bytes log → MatchResult r (λ l. l ≡ log) (λ e. e ≡ faults.Memory)
+pub tells_only : (bytes : List ℕ) (r : Result PlainLog LogTextFault) → Agrees bytes r (log_at bytes) → (log : PlainLog) → IsLogText bytes log → MatchResult r (λ l. l ≡ log) (λ e. e ≡ faults.Memory)
 tells_only bytes (Ok l) e log i = one_log bytes l log (log_takes bytes l e) i
 tells_only bytes (Err faults.Memory) e log i = refl
 tells_only bytes (Err (faults.Form place k)) e log i = absurd ((first_fault bytes e.stop k place e.is e.place_is).whole log i)
 
-pub tells_fault : (bytes : List ℕ) (r : Result PlainLog LogTextFault) → Tells bytes r (log_at bytes) → IfErr r (IsFault bytes)
+pub tells_fault : (bytes : List ℕ) (r : Result PlainLog LogTextFault) → Agrees bytes r (log_at bytes) → IfErr r (IsLogTextFault bytes)
 tells_fault bytes (Ok l) e = tt
 tells_fault bytes (Err faults.Memory) e = tt
 tells_fault bytes (Err (faults.Form place k)) e = (first_fault bytes e.stop k place e.is e.place_is, first_count bytes e.stop k place e.is e.place_is)

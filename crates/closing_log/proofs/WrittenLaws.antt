@@ -1,13 +1,12 @@
 -- What is written of a log is a text of it.
-use Rattle.std.proofs.Common.{◌≡◌, ℕ, zero, suc, ◌+◌, ◌≤◌, ◌<◌, Bool, true, false, List, [], ◌∷◌, ◌++◌, length, get_or, take, drop, All, Option, Some, None, inl, inr, refl, sym, ap, subst, ◌∙◌, append_assoc, arith}
+use Rattle.std.proofs.Common.{◌≡◌, ℕ, zero, suc, ◌+◌, ◌≤◌, ◌<◌, Bool, true, false, List, [], ◌∷◌, ◌++◌, length, get_or, All, Option, Some, None, inl, inr, refl, sym, ap, subst, ◌∙◌, append_assoc, arith}
 use Rattle.std.specs.Prelude.{IsSome, is_some, IfSome, ◌↔◌}
 use Rattle.std.specs.List.{flat_map, AllByRecursion}
-use Rattle.std.proofs.lemmas.List.{take-append-drop, get_or_past, take-take}
+use Rattle.std.proofs.lemmas.List.{get_or_past}
 use Rattle.std.proofs.lemmas.List.Concat.{flat_map-cons}
 use Rattle.std.proofs.lemmas.Bool.{cases_lt}
 use Rattle.hex.specs.Hex.{encode_lower, lower_digits, IsBytes}
 use Rattle.hex.proofs.HexLemmas.{decode_of-encode_lower, decode_sized-twice, length-encode_with}
-use Rattle.closing_log.specs.Exact.{Begins, IsFirstFault}
 use Rattle.closing_log.specs.Log.{PlainSection, PlainOpen, PlainLog}
 use Rattle.closing_log.specs.LogText.{IsDigest, IsEnding, AreSections, CanBeClosed, CanBeOpen, CanBeWritten, IsSizedSection, IsSizedOpen, IsSized, IsClosed, IsLogText, IsCount, section_text, ending_text, text_of}
 
@@ -68,21 +67,7 @@ sections_can (s ∷ ss) tail ended text is = let others = sections_can ss tail e
 pub text_can : (bytes : List ℕ) (log : PlainLog) → IsLogText bytes log → CanBeWritten log
 text_can bytes log i = let c = sections_can log.closed log.tail log.ended i.back i.sections in record { closed = c.0; tail = c.1.0; ended = c.1.1 }
 
--- ---- one place, one count
-
-begins_less : (bytes : List ℕ) (p q : ℕ) → p < q → Begins IsLogText (take q bytes) → Begins IsLogText (take (p + 1) bytes)
-begins_less bytes p q lt b =
-    let parts : take q bytes ≡ take (p + 1) bytes ++ drop (p + 1) (take q bytes) = sym (take-append-drop (p + 1) (take q bytes)) ∙ ap (λ t. t ++ drop (p + 1) (take q bytes)) (take-take (p + 1) q bytes (omega arith)) in
-    record { more = drop (p + 1) (take q bytes) ++ b.more; value = b.value; means = subst (λ (t : List ℕ). IsLogText t b.value) (ap (λ t. t ++ b.more) parts ∙ append_assoc (take (p + 1) bytes) (drop (p + 1) (take q bytes)) b.more) b.means }
-
-not_before : (bytes : List ℕ) (p q : ℕ) → IsFirstFault IsLogText bytes p → IsFirstFault IsLogText bytes q → p < q → ⊥
-not_before bytes p q first second lt = first.never (omega (arith, lt, second.within)) (begins_less bytes p q lt second.begins)
-
-pub one_place : (bytes : List ℕ) (p q : ℕ) → IsFirstFault IsLogText bytes p → IsFirstFault IsLogText bytes q → p ≡ q
-one_place bytes p q first second = elim (cases_lt p q) [
-  | inl lt ↦ absurd (not_before bytes p q first second lt)
-  | inr le ↦ elim (cases_lt q p) [ inl lt ↦ absurd (not_before bytes q p second first lt) | inr ge ↦ omega arith ]
-]
+-- ---- one count
 
 count_le : (bytes : List ℕ) (place m n : ℕ) → IsCount bytes place m → IsCount bytes place n → m ≤ n
 count_le bytes place zero n first second = omega arith

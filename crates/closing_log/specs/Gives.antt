@@ -29,12 +29,12 @@ pub record IsPlaceOf (bytes : List ℕ) (read : Result PlainLog (List ℕ × ℕ
   pub is : read ≡ Err (stop, sections)
   pub place_is : place + length stop ≡ length bytes
 
-abbrev pub Tells : List ℕ → Result PlainLog LogTextFault → Result PlainLog (List ℕ × ℕ) → Type 0
-Tells bytes (Ok log) read = read ≡ Ok log
-Tells bytes (Err faults.Memory) read = Unit {0}
-Tells bytes (Err (faults.Form place sections)) read = IsPlaceOf bytes read place sections
+abbrev pub Agrees : List ℕ → Result PlainLog LogTextFault → Result PlainLog (List ℕ × ℕ) → Type 0
+Agrees bytes (Ok log) read = read ≡ Ok log
+Agrees bytes (Err faults.Memory) read = Unit {0}
+Agrees bytes (Err (faults.Form place sections)) read = IsPlaceOf bytes read place sections
 
 -- what is told of bytes that are no text: the place of the first fault, and how many sections stand before it
-abbrev pub IsFault : List ℕ → LogTextFault → Type 0
-IsFault bytes faults.Memory = Unit {0}
-IsFault bytes (faults.Form place sections) = IsFirstFault IsLogText bytes place × IsCount bytes place sections
+abbrev pub IsLogTextFault : List ℕ → LogTextFault → Type 0
+IsLogTextFault bytes faults.Memory = Unit {0}
+IsLogTextFault bytes (faults.Form place sections) = IsFirstFault IsLogText bytes place × IsCount bytes place sections

@@ -109,7 +109,7 @@ IsEnding text (Some o) false = IsOpen text o
 IsEnding text _ _ = ⊥
 
 -- sections one behind the other
-pub record IsBehind (First : List ℕ → Type 0) (Others : List ℕ → Type 0) (text : List ℕ) : Type 0 where
+pub record AreJoined (First : List ℕ → Type 0) (Others : List ℕ → Type 0) (text : List ℕ) : Type 0 where
   pub front : List ℕ
   pub back : List ℕ
   pub parts : text ≡ front ++ back
@@ -118,7 +118,7 @@ pub record IsBehind (First : List ℕ → Type 0) (Others : List ℕ → Type 0)
 
 abbrev pub AreSections : List PlainSection → (List ℕ → Type 0) → List ℕ → Type 0
 AreSections [] Ending text = Ending text
-AreSections (s ∷ ss) Ending text = IsBehind (λ front. IsClosed front s) (AreSections ss Ending) text
+AreSections (s ∷ ss) Ending text = AreJoined (λ front. IsClosed front s) (AreSections ss Ending) text
 
 -- the bytes are a text of this log
 pub record IsLogText (bytes : List ℕ) (log : PlainLog) : Type 0 where

@@ -2,6 +2,7 @@
 //! place where bytes leave the grammar. The readers of words, numbers, places and digests serve other texts too.
 #![tactic(auto)]
 
+mod digesting;
 mod fault;
 mod laws;
 mod lines;
@@ -20,4 +21,6 @@ pub use log::{LogText, OpenSection, Section, Stage};
 pub use mark::Mark;
 pub use reading::read_sections;
 pub use tries::tries_in;
-pub use writing::{write_decimal, write_digest, write_places, write_sections, write_tail};
+pub use writing::{
+    text_digest, write_decimal, write_digest, write_places, write_sections, write_tail,
+};

@@ -3,10 +3,10 @@
 ghost use Rattle.std.specs.Prelude.{◌≡◌, ◌≤◌, ◌+◌, ◌-◌, drop, length, IfErr, IfOk, MatchResult};
 ghost use Rattle.std.specs.List.{list_all, prefix_len};
 ghost use Rattle.closing_log.specs.declared.fault.LogTextFault.TheVariants as faults;
-ghost use Rattle.closing_log.specs.Gives.{Gives, IsFault, Reads, Tells};
+ghost use Rattle.closing_log.specs.Gives.{Gives, IsLogTextFault, Reads, Agrees};
 ghost use Rattle.closing_log.specs.Log.{PlainLog};
 ghost use Rattle.closing_log.specs.LogText.{IsLogText};
-ghost use Rattle.closing_log.specs.Reading.{answer_at, closing_at, head_at, is_letter, letters_at, log_at, lead_at, part_at, section_rest, stage_at, searched};
+ghost use Rattle.closing_log.specs.Reading.{answer_at, closing_at, head_at, is_letter, letters_at, log_at, part_at, section_rest};
 
 use crate::fault::{LineFault, LogTextFault};
 use crate::lines::{read_choice, read_digest, read_number, read_places, read_word};
@@ -192,7 +192,7 @@ fn form(whole: &[u8], stop: &[u8], sections: usize) -> LogTextFault
 /// The log of the bytes, read part by part.
 #[tactic(auto, using(crate::proofs::LogLaws::tell_word, crate::proofs::LogLaws::log_begins, crate::proofs::LogLaws::tell_part, crate::proofs::LogLaws::tell_out, crate::proofs::LogLaws::tell_end, crate::proofs::LogLaws::tell_open, crate::proofs::Loops::body_more))]
 fn read_parts(alloc: Global, bytes: &[u8]) -> Result<LogText, LogTextFault>
-    ensures { Tells bytes.now result (log_at bytes.now) }
+    ensures { Agrees bytes.now result (log_at bytes.now) }
 {
     let mut rest = match read_word(bytes, b"fund-log 1\n") {
         Ok(rest) => rest,
@@ -237,7 +237,7 @@ pub fn read_sections(alloc: Global, bytes: &[u8]) -> Result<LogText, LogTextFaul
     ensures only { (log : PlainLog) → IsLogText bytes.now log → MatchResult result (λ read. read ≡ log) (λ e. e ≡ faults.Memory) }
 
     // Where else they leave the texts, and how many sections stand before that place.
-    ensures fault { IfErr result (IsFault bytes.now) }
+    ensures fault { IfErr result (IsLogTextFault bytes.now) }
 {
     read_parts(alloc, bytes)
 }

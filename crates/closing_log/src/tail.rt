@@ -30,7 +30,7 @@ impl Behind {
     }
 }
 
-/// The error is want of memory.
+/// The error is out of memory.
 impl Writer for Behind {
     type Error = AllocError;
 

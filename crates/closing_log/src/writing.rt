@@ -1,12 +1,15 @@
-//! A log written as its text: one walk, over a writer that counts bytes, keeps them, or keeps those behind a place.
+//! A log written as its text: one walk, over a writer that counts bytes, keeps them, keeps those behind a place, or digests
+//! them.
 
-ghost use Rattle.std.specs.Prelude.{◌≡◌, ◌∷◌, ◌++◌, ◌≤◌, ℕ, length, take, drop, codes, IfOk, OnOk};
+ghost use Rattle.std.specs.Prelude.{◌≡◌, ◌∷◌, ◌++◌, ℕ, length, take, drop, codes, IfOk, OnOk};
 ghost use Rattle.std.specs.Fmt.{decimal};
 ghost use Rattle.std.specs.List.{flat_map};
 ghost use Rattle.hex.specs.Hex.{encode_lower};
 ghost use Rattle.fund_base.specs.Writer.{Feeds};
+ghost use Rattle.sha2.specs.Sha256.{sha256};
 ghost use Rattle.closing_log.specs.LogText.{CanBeWritten, IsLogText, IsSized, answer_text, ending_text, head_text, places_text, section_text, stage_word, tail_text, text_of};
 
+use crate::digesting::Digesting;
 use crate::lines::Worded;
 use crate::log::{LogText, OpenSection, Section, Stage};
 use crate::tail::Behind;
@@ -187,4 +190,15 @@ pub fn write_tail(alloc: Global, log: &LogText, from: u64) -> Result<Vec<u8>, Me
     let mut out = Behind::new(Vec::with_capacity(alloc, room as usize)?, from);
     write_text(&mut out, log)?;
     Ok(out.into_bytes())
+}
+
+/// The SHA-256 of the log's text, for which no memory is asked.
+pub fn text_digest(log: &LogText) -> [u8; 32]
+    ensures { result ≡ sha256 (text_of log.now) }
+{
+    let mut out = Digesting::new();
+    match write_text(&mut out, log) {
+        Ok(()) => out.finish(),
+        Err(never) => match never {},
+    }
 }

@@ -13,7 +13,7 @@ use Rattle.search_run.proofs.SearchedLaws.{all_sections, answered_sections}
 use Rattle.search_run.specs.Answer.{HasNone, IsAnswer, IsFirstTaken}
 use Rattle.search_run.specs.Found.{IsResultOf, PlainFound, taken}
 use Rattle.search_run.specs.Kept.{is_over, log_of, tail_of}
-use Rattle.search_run.specs.Run.{Stand, at_hand, beginning, end_by, or_unfinished, run}
+use Rattle.search_run.specs.Run.{Stand, results_in_column, beginning, end_by, or_unfinished, run}
 use Rattle.search_run.specs.Stands.{IsEndOf}
 use Rattle.search_run.specs.Step.{AreSteps, PlainStep, is_drawn}
 use Rattle.search_run.specs.declared.ending.End.{End}
@@ -56,7 +56,7 @@ ended_so p s o e = by s.left refl e
 
     by : (left : List PlainStep) → s.left ≡ left → end_by p.request.take p.request.seed s left ≡ ends.Ended o → EndsSo p s o
     by [] is e = record { over = is; taken_is = let x = e in cc }
-    by (x ∷ rest) is e = absurd (open_end p.request.take (taken (at_hand p.request.seed s (x ∷ rest))) e)
+    by (x ∷ rest) is e = absurd (open_end p.request.take (taken (results_in_column p.request.seed s (x ∷ rest))) e)
 
 -- a run that goes on
 pub record GoesOn (s : Stand) : Type 0 where
@@ -75,7 +75,7 @@ open_so p s e = by s.left refl e
 record IsShort (p : PlainPlan) (s : Stand) (f : PlainFound) : Type 0 where
   asked : p.request.take ≡ true
   going : GoesOn s
-  taken_is : taken (at_hand p.request.seed s s.left) ≡ Some f
+  taken_is : taken (results_in_column p.request.seed s s.left) ≡ Some f
 
 -- a result is taken for want of tries where that is asked for and one is at hand
 record IsAsked (b : Bool) (found : Option PlainFound) (f : PlainFound) : Type 0 where
@@ -93,15 +93,15 @@ short_so p s f e = by s.left refl e
     by : (left : List PlainStep) → s.left ≡ left → end_by p.request.take p.request.seed s left ≡ ends.Partial f → IsShort p s f
     by [] is e = absurd (cc)
     by (x ∷ rest) is e =
-        let k = asked_by p.request.take (taken (at_hand p.request.seed s (x ∷ rest))) e in
+        let k = asked_by p.request.take (taken (results_in_column p.request.seed s (x ∷ rest))) e in
         record {
           asked = k.asked;
           going = record { step = x; rest = rest; left = is };
-          taken_is = ap (λ (left : List PlainStep). taken (at_hand p.request.seed s left)) is ∙ k.found_is;
+          taken_is = ap (λ (left : List PlainStep). taken (results_in_column p.request.seed s left)) is ∙ k.found_is;
         }
 
 -- nothing is taken where it isn't asked for, or nothing is at hand
-untaken : (p : PlainPlan) (s : Stand) → end_at p s ≡ ends.Unfinished → (p.request.take ≡ false) ⊎ (at_hand p.request.seed s s.left ≡ [])
+untaken : (p : PlainPlan) (s : Stand) → end_at p s ≡ ends.Unfinished → (p.request.take ≡ false) ⊎ (results_in_column p.request.seed s s.left ≡ [])
 untaken p s e = by s.left e
   where
     by_asked : (b : Bool) (found : List PlainFound) → cond b (or_unfinished (taken found)) ends.Unfinished ≡ ends.Unfinished → (b ≡ false) ⊎ (taken found ≡ None)
@@ -112,12 +112,12 @@ untaken p s e = by s.left e
         by_found None e = refl
         by_found (Some g) e = absurd (cc)
 
-    by : (left : List PlainStep) → end_by p.request.take p.request.seed s left ≡ ends.Unfinished → (p.request.take ≡ false) ⊎ (at_hand p.request.seed s left ≡ [])
+    by : (left : List PlainStep) → end_by p.request.take p.request.seed s left ≡ ends.Unfinished → (p.request.take ≡ false) ⊎ (results_in_column p.request.seed s left ≡ [])
     by [] e = absurd (cc)
     by (x ∷ rest) e =
-        elim (by_asked p.request.take (at_hand p.request.seed s (x ∷ rest)) e) [
+        elim (by_asked p.request.take (results_in_column p.request.seed s (x ∷ rest)) e) [
           | inl unasked ↦ inl unasked
-          | inr none ↦ inr (none_taken (at_hand p.request.seed s (x ∷ rest)) none)
+          | inr none ↦ inr (none_taken (results_in_column p.request.seed s (x ∷ rest)) none)
         ]
 
 -- the log of a run that came to its end
@@ -196,7 +196,7 @@ taken_short p n f h steps e =
       change = refl;
       measure = waste_measured p mark.Partial f h result;
       asked = k.asked;
-      taken = is_taken (at_hand p.request.seed (stand_after p n) (stand_after p n).left) f k.taken_is;
+      taken = is_taken (results_in_column p.request.seed (stand_after p n) (stand_after p n).left) f k.taken_is;
       used_up = has_tried p n k.going;
     }
 

@@ -6,10 +6,10 @@ use Rattle.coin_candidates.specs.declared.candidate.Candidate.{Candidate}
 use Rattle.tx_codec.specs.Transaction.{Transaction}
 use Rattle.fee_rates.specs.Fee.{fee_of, vsize_of}
 use Rattle.fee_rates.specs.Terms.{base_of, change_fee_of, change_spend_of}
-use Rattle.fee_rates.specs.declared.terms.Load.{Load}
+use Rattle.fee_rates.specs.declared.terms.PaymentLoad.{PaymentLoad}
 use Rattle.request_text.specs.PlainRequest.{PlainRequest, paid_to}
 use Rattle.wallet_text.specs.declared.wallet.Watch.{Watch}
-use Rattle.fund_steps.specs.Amounts.{fees_of, value_of}
+use Rattle.fund_steps.specs.Amounts.{charges_of, fees_of, value_of}
 use Rattle.fund_steps.specs.Plan.{PlainPlan}
 use Rattle.fund_steps.specs.Terms.{rates_of}
 use Rattle.fund_plan.specs.Answer.{IsPayment}
@@ -28,14 +28,14 @@ change_waste : (paid amount base fees later burden raised value cf spend : ℕ) 
     → ((pos fees -ℤ pos later) +ℤ pos (cf + spend)) +ℤ pos (base + later + burden + raised) ≡ pos ((value - (paid + amount)) + spend)
 change_waste paid amount base fees later burden raised value cf spend due = omega (arith, ints, due)
 
-wastes : (r : PlainRequest) (w : Watch) (l : Load) (coins : List Candidate) (amount : Option ℕ) (t : Transaction) → Pays r w l coins amount t
+wastes : (r : PlainRequest) (w : Watch) (l : PaymentLoad) (coins : List Candidate) (amount : Option ℕ) (t : Transaction) → Pays r w l coins amount t
     → waste_of r l coins amount +ℤ pos (fee_of r.rate (vsize_of (base_of l)) + fees_of r.long_term coins + l.burden + raised_of r.rate l) ≡ pos ((value_of coins - outputs_of r amount) + spending_of r l amount)
 wastes r w l coins None t p =
     let fee = rw (sum_plain r.recipients t.outputs p.outputs) at p.fee in
-    plain_waste (paid_to r.recipients) (fee_of r.rate (vsize_of (base_of l))) (fees_of r.rate coins) (fees_of r.long_term coins) l.burden (raised_of r.rate l) (value_of coins) fee.0
+    plain_waste (paid_to r.recipients) (fee_of r.rate (vsize_of (base_of l))) (charges_of r.rate coins) (fees_of r.long_term coins) l.burden (raised_of r.rate l) (value_of coins) fee.0
 wastes r w l coins (Some amount) t p =
     let fee = rw (sum_change r.recipients t.outputs (record { value = amount; script = w.script }) p.outputs) at p.fee in
-    change_waste (paid_to r.recipients) amount (fee_of r.rate (vsize_of (base_of l))) (fees_of r.rate coins) (fees_of r.long_term coins) l.burden (raised_of r.rate l) (value_of coins) (change_fee_of (rates_of r) l) (change_spend_of (rates_of r) l) fee
+    change_waste (paid_to r.recipients) amount (fee_of r.rate (vsize_of (base_of l))) (charges_of r.rate coins) (fees_of r.long_term coins) l.burden (raised_of r.rate l) (value_of coins) (change_fee_of (rates_of r) l) (change_spend_of (rates_of r) l) fee
 
 quarter : (w : ℕ) → (w ≤ 4 * vsize_of w) × (4 * vsize_of w ≤ w + 3)
 unfolding vsize_of
@@ -54,6 +54,7 @@ figures_agree p f a =
     record {
       money = omega (arith, sum, within);
       rate = omega (arith, sum, within, rate, a.pays.fee_covers);
+      prices = omega (arith, sum, within, rate, a.pays.fee_covers);
       size = quarter f.weight;
       light = omega (arith, a.weight_is, a.pays.weight);
       waste =

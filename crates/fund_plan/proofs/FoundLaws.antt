@@ -13,12 +13,11 @@ use Rattle.coin_candidates.specs.Candidates.{IsCandidate}
 use Rattle.fund_base.specs.Outpoints.{outpoint_cmp}
 use Rattle.fund_base.specs.declared.outpoint.OutPoint.{OutPoint}
 use Rattle.coin_candidates.specs.declared.candidate.Candidate.{Candidate}
-use Rattle.fee_rates.specs.Fee.{input_fee_of}
-use Rattle.fee_rates.specs.declared.terms.Load.{Load}
+use Rattle.fee_rates.specs.declared.terms.PaymentLoad.{PaymentLoad}
 use Rattle.fee_rates.specs.Terms.{base_of, big_of, change_fee_of, change_least_of, change_limit_of, hi_of, small_of, target_of, terms_of}
 use Rattle.request_text.specs.PlainRequest.{paid_to}
 use Rattle.output_groups.proofs.Members.{all_from}
-use Rattle.output_groups.specs.Measures.{IsGroup, gain, is_useful}
+use Rattle.output_groups.specs.Measures.{IsGroup, charge_of, gain, is_useful}
 use Rattle.output_groups.specs.declared.rows.Row.{Row}
 use Rattle.pick_problem.specs.Problem.{PlainProblem, Rising, value_of as value_at, weight_of as weight_at}
 use Rattle.pick_problem.specs.declared.item.Item.{Item}
@@ -29,7 +28,7 @@ use Rattle.pick_problem.specs.Admissible.{IsAdmissible}
 use Rattle.search_run.specs.Found.{IsResultOf, PlainFound}
 use Rattle.fund_plan.specs.Answer.{IsAtHandBy, IsPayment}
 use Rattle.fund_plan.specs.Figures.{waste_of}
-use Rattle.fund_steps.specs.Amounts.{AreWithin, fees_of, value_of, weight_of}
+use Rattle.fund_steps.specs.Amounts.{AreWithin, charges_of, value_of, weight_of}
 use Rattle.fund_steps.specs.Listed.{burden_in, presets_in}
 use Rattle.fund_steps.specs.Plan.{IsPlan, PlainPlan, coins_in, ladder_in}
 use Rattle.fund_steps.specs.Terms.{load_of, rates_of}
@@ -56,6 +55,13 @@ beyond paid base burden raised value fees bring cf cl worth costs vc fc change i
 
 left_some : (bring cf cl worth costs : ℕ) (short : ℤ) → bring + costs ≡ worth → (short +ℤ pos cf +ℤ pos cl) ≤ℤ pos bring → pos 0 ≤ℤ (((pos worth -ℤ pos costs) -ℤ short) -ℤ pos cf)
 left_some bring cf cl worth costs short is high = omega (arith, ints)
+
+-- what is brought is within what all coins are worth
+pub reachable : (t : ℤ) (bring worth costs : ℕ) → t ≤ℤ pos bring → bring + costs ≡ worth → worth ≤ 2_100_000_000_000_000 → t ≤ℤ pos 2_100_000_000_000_000
+reachable t bring worth costs low is most = omega (arith, ints, low, is, most)
+
+before_change : (t : ℤ) (bring cf cl : ℕ) → (t +ℤ pos cf +ℤ pos cl) ≤ℤ pos bring → t ≤ℤ pos bring
+before_change t bring cf cl h = omega (arith, ints, h)
 
 pub reached : (t : ℤ) (v : ℕ) → pos 0 ≤ℤ t → unsigned_abs t ≤ v → t ≤ℤ pos v
 reached t v some low = let e = pos-nat_abs t (yes_non_neg some) in omega (arith, ints, e)
@@ -149,7 +155,7 @@ together f p row places h rising =
 record Brings (p : PlainPlan) (row : Row) (places : List ℕ) (x : PlainProblem) : Type 0 where
   value : value_at x places ≡ sum_by (gain p.request.rate) (chosen_at p row places)
   weight : weight_at x places ≡ weight_of (chosen_at p row places)
-  worth : sum_by (gain p.request.rate) (chosen_at p row places) + fees_of p.request.rate (chosen_at p row places) ≡ value_of (chosen_at p row places)
+  worth : sum_by (gain p.request.rate) (chosen_at p row places) + charges_of p.request.rate (chosen_at p row places) ≡ value_of (chosen_at p row places)
 
 pub useful_in : (p : PlainPlan) (row : Row) (places : List ℕ) → IsPlan p → Rising (length (pool_in p row).groups) 0 places → All (λ c. is_useful p.request.rate c ≡ true) (chosen_at p row places)
 useful_in p row places h rising =
@@ -185,14 +191,15 @@ pays_plainly p row places h e rising adm =
     let above : pos 0 ≤ℤ hi = omega (arith, ints, some) in
     let high : pos v ≤ℤ hi = capped hi v above (omega (arith, adm.fits.0, by.value)) in
     let value = together (λ (c : Candidate). c.value) p row places h rising in
-    let fees = together (λ (c : Candidate). input_fee_of r.rate c.weight) p row places h rising in
+    let fees = together (charge_of r.rate) p row places h rising in
     let weight = together (λ (c : Candidate). c.weight) p row places h rising in
     let cf = change_fee_of (rates_of r) l in
     let cl = change_least_of (rates_of r) l in
+    let is = target_in p row (reachable target v (value_of chosen) (charges_of r.rate chosen) low by.worth (chosen_fit p row places h rising).value) in
     let balance =
-    within (paid_to r.recipients) (base_fee p row) (burden_in p) (raised_of r.rate l) (value_of given) (fees_of r.rate given) v cf cl (value_of chosen) (fees_of r.rate chosen) (value_of coins) (fees_of r.rate coins) by.worth value fees
-    (subst (λ (t : ℤ). t ≤ℤ pos v) (target_in p row) low)
-    (subst (λ (t : ℤ). pos v ≤ℤ ((t +ℤ pos cf +ℤ pos cl) -ℤ pos 1)) (target_in p row) high)
+    within (paid_to r.recipients) (base_fee p row) (burden_in p) (raised_of r.rate l) (value_of given) (charges_of r.rate given) v cf cl (value_of chosen) (charges_of r.rate chosen) (value_of coins) (charges_of r.rate coins) by.worth value fees
+    (subst (λ (t : ℤ). t ≤ℤ pos v) is low)
+    (subst (λ (t : ℤ). pos v ≤ℤ ((t +ℤ pos cf +ℤ pos cl) -ℤ pos 1)) is high)
     in
     let one : 1 ≤ weight_of chosen = weigh_some r.rate chosen (chosen_fit p row places h rising).each (omega (arith, ints, some, low)) in
     let light : weight_of chosen ≤ 400_000 - base_of l - weight_of given = omega (arith, adm.light, by.weight) in
@@ -213,17 +220,18 @@ pays_changed p row places h rising low e light =
     let worth = gains_are r.rate chosen (useful_in p row places h rising) in
     let some = some_target p row e in
     let value = together (λ (c : Candidate). c.value) p row places h rising in
-    let fees = together (λ (c : Candidate). input_fee_of r.rate c.weight) p row places h rising in
+    let fees = together (charge_of r.rate) p row places h rising in
     let weight = together (λ (c : Candidate). c.weight) p row places h rising in
     let cf = change_fee_of (rates_of r) l in
     let cl = change_least_of (rates_of r) l in
     let amount = left_of r l chosen in
-    let is : pos amount ≡ ((pos (value_of chosen) -ℤ pos (fees_of r.rate chosen)) -ℤ target) -ℤ pos cf =
-    pos-nat_abs (((pos (value_of chosen) -ℤ pos (fees_of r.rate chosen)) -ℤ target) -ℤ pos cf) (yes_non_neg (left_some v cf cl (value_of chosen) (fees_of r.rate chosen) target worth low)) in
+    let is : pos amount ≡ ((pos (value_of chosen) -ℤ pos (charges_of r.rate chosen)) -ℤ target) -ℤ pos cf =
+    pos-nat_abs (((pos (value_of chosen) -ℤ pos (charges_of r.rate chosen)) -ℤ target) -ℤ pos cf) (yes_non_neg (left_some v cf cl (value_of chosen) (charges_of r.rate chosen) target worth low)) in
+    let below = target_in p row (reachable target v (value_of chosen) (charges_of r.rate chosen) (before_change target v cf cl low) worth (chosen_fit p row places h rising).value) in
     let rest =
-    beyond (paid_to r.recipients) (base_fee p row) (burden_in p) (raised_of r.rate l) (value_of given) (fees_of r.rate given) v cf cl (value_of chosen) (fees_of r.rate chosen) (value_of coins) (fees_of r.rate coins) amount worth value fees
-    (is ∙ ap (λ (t : ℤ). ((pos (value_of chosen) -ℤ pos (fees_of r.rate chosen)) -ℤ t) -ℤ pos cf) (target_in p row))
-    (subst (λ (t : ℤ). (t +ℤ pos cf +ℤ pos cl) ≤ℤ pos v) (target_in p row) low)
+    beyond (paid_to r.recipients) (base_fee p row) (burden_in p) (raised_of r.rate l) (value_of given) (charges_of r.rate given) v cf cl (value_of chosen) (charges_of r.rate chosen) (value_of coins) (charges_of r.rate coins) amount worth value fees
+    (is ∙ ap (λ (t : ℤ). ((pos (value_of chosen) -ℤ pos (charges_of r.rate chosen)) -ℤ t) -ℤ pos cf) below)
+    (subst (λ (t : ℤ). (t +ℤ pos cf +ℤ pos cl) ≤ℤ pos v) below low)
     in
     let one : 1 ≤ weight_of chosen = weigh_some r.rate chosen (chosen_fit p row places h rising).each (omega (arith, ints, some, low)) in
     let less : weight_of chosen ≤ 400_000 - base_of l - weight_of given - 4 * l.change_size = light in
@@ -309,7 +317,7 @@ named p f result =
       admissible = here;
     }
 
-light_by : (l : Load) (coins : List Candidate) (change : Option ℕ) → payment_weight l coins change ≤ 400_000 → weight_of coins ≤ 400_000
+light_by : (l : PaymentLoad) (coins : List Candidate) (change : Option ℕ) → payment_weight l coins change ≤ 400_000 → weight_of coins ≤ 400_000
 light_by l coins None h = omega (arith, h)
 light_by l coins (Some n) h = omega (arith, h)
 

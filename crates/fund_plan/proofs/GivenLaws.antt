@@ -1,9 +1,9 @@
 -- What the presets alone come to.
-use Rattle.std.specs.Prelude.{ℕ, pos, ◌≡◌, ◌≤◌, ◌<◌, ◌+◌, ◌-◌, ◌-ℤ◌, ◌↔◌, if◌then◌else◌, ◌==◌, int_le, not, Bool, true, false, cond, length, List, [], ◌∷◌, Some, None}
-use Rattle.std.specs.Int.{int_max}
+use Rattle.std.specs.Prelude.{ℕ, ℤ, pos, ◌≤ℤ◌, ◌≡◌, ◌≤◌, ◌<◌, ◌+◌, ◌-◌, ◌-ℤ◌, ◌↔◌, if◌then◌else◌, ◌==◌, int_le, not, Bool, true, false, cond, length, List, [], ◌∷◌, Some, None}
+use Rattle.std.specs.Int.{int_max, int_min}
 use Rattle.std.proofs.Common.{refl, sym, ap, subst, ◌∙◌, arith}
 use Rattle.std.proofs.lemmas.Bool.{and_from, and_parts, eqb-true}
-use Rattle.std.proofs.lemmas.Int.{ints}
+use Rattle.std.proofs.lemmas.Int.{clamps, ints}
 use Rattle.closing_log.specs.declared.mark.Mark.TheVariants as mark
 use Rattle.search_run.specs.declared.ending.End.TheVariants as ends
 use Rattle.fund_steps.proofs.TermLaws.{met_where}
@@ -11,7 +11,7 @@ use Rattle.fee_rates.specs.Fee.{fee_of, vsize_of}
 use Rattle.fee_rates.specs.Terms.{base_of, target_of}
 use Rattle.request_text.specs.PlainRequest.{paid_to}
 use Rattle.coin_candidates.specs.declared.candidate.Candidate.{Candidate}
-use Rattle.fund_steps.specs.Amounts.{fees_of, value_of}
+use Rattle.fund_steps.specs.Amounts.{charges_of, value_of}
 use Rattle.fund_steps.specs.Listed.{burden_in, presets_in}
 use Rattle.fund_steps.specs.Plan.{IsPlan, PlainPlan}
 use Rattle.fund_steps.specs.Presets.{presets_of}
@@ -79,14 +79,40 @@ brings_all paid base burden value fees e = grind (arith, ints, e)
 all_brought : (paid base burden value fees : ℕ) → paid + base + fees + burden + 0 ≤ value → int_le (pos (paid + base + burden) -ℤ (pos value -ℤ pos fees)) (pos 0) ≡ true
 all_brought paid base burden value fees h = grind (arith, ints, h)
 
-brings_by : (b : Bool) (paid base burden value fees rest : ℕ) → b ≡ true → int_le (if b then pos (paid + base + burden) -ℤ (pos value -ℤ pos fees) else int_max (pos (paid + base + burden) -ℤ (pos value -ℤ pos fees)) (pos 1)) (pos 0) ≡ true
+-- a target that is cut is nothing where the whole is
+below_cut : (x : ℤ) → int_le (int_min x (pos 1_000_000_000_000_000_000)) (pos 0) ≡ true → int_le x (pos 0) ≡ true
+below_cut x e = no_more x (uncut x (low (int_min x (pos 1_000_000_000_000_000_000)) e))
+  where
+    low : (z : ℤ) → int_le z (pos 0) ≡ true → z ≤ℤ pos 0
+    low z e = grind (arith, ints, e)
+
+    uncut : (x : ℤ) → int_min x (pos 1_000_000_000_000_000_000) ≤ℤ pos 0 → x ≤ℤ pos 0
+    uncut x h = omega (arith, ints, clamps, h)
+
+    no_more : (z : ℤ) → z ≤ℤ pos 0 → int_le z (pos 0) ≡ true
+    no_more z h = grind (arith, ints, h)
+
+cut_below : (x : ℤ) → int_le x (pos 0) ≡ true → int_le (int_min x (pos 1_000_000_000_000_000_000)) (pos 0) ≡ true
+cut_below x e = no_more (int_min x (pos 1_000_000_000_000_000_000)) (cut x (low x e))
+  where
+    low : (z : ℤ) → int_le z (pos 0) ≡ true → z ≤ℤ pos 0
+    low z e = grind (arith, ints, e)
+
+    cut : (x : ℤ) → x ≤ℤ pos 0 → int_min x (pos 1_000_000_000_000_000_000) ≤ℤ pos 0
+    cut x h = omega (arith, ints, clamps, h)
+
+    no_more : (z : ℤ) → z ≤ℤ pos 0 → int_le z (pos 0) ≡ true
+    no_more z h = grind (arith, ints, h)
+
+brings_by : (b : Bool) (paid base burden value fees rest : ℕ) → b ≡ true
+    → int_le (int_min (if b then pos (paid + base + burden) -ℤ (pos value -ℤ pos fees) else int_max (pos (paid + base + burden) -ℤ (pos value -ℤ pos fees)) (pos 1)) (pos 1_000_000_000_000_000_000)) (pos 0) ≡ true
     → paid + base + fees + burden + (if b then 0 else rest) ≤ value
-brings_by true paid base burden value fees rest t e = brings_all paid base burden value fees e
+brings_by true paid base burden value fees rest t e = brings_all paid base burden value fees (below_cut (pos (paid + base + burden) -ℤ (pos value -ℤ pos fees)) e)
 brings_by false paid base burden value fees rest t e = absurd (cc)
 
 brought_by : (b : Bool) (paid base burden value fees rest : ℕ) → b ≡ true → paid + base + fees + burden + (if b then 0 else rest) ≤ value
-    → int_le (if b then pos (paid + base + burden) -ℤ (pos value -ℤ pos fees) else int_max (pos (paid + base + burden) -ℤ (pos value -ℤ pos fees)) (pos 1)) (pos 0) ≡ true
-brought_by true paid base burden value fees rest t h = all_brought paid base burden value fees h
+    → int_le (int_min (if b then pos (paid + base + burden) -ℤ (pos value -ℤ pos fees) else int_max (pos (paid + base + burden) -ℤ (pos value -ℤ pos fees)) (pos 1)) (pos 1_000_000_000_000_000_000)) (pos 0) ≡ true
+brought_by true paid base burden value fees rest t h = cut_below (pos (paid + base + burden) -ℤ (pos value -ℤ pos fees)) (all_brought paid base burden value fees h)
 brought_by false paid base burden value fees rest t h = absurd (cc)
 
 some_given : (coins : List Candidate) → not (length coins == 0) ≡ true → 0 < length coins
@@ -111,7 +137,7 @@ given_brings p e =
     let both = and_parts (not (length given == 0)) (int_le (target_of (rates_of r) (load_of r p.change given (burden_in p))) (pos 0)) e in
     record {
       some = some_given given both.0;
-      enough = brings_by (not (length given == 0)) (paid_to r.recipients) (base_fee p) (burden_in p) (value_of given) (fees_of r.rate given) (1 - (paid_to r.recipients + base_fee p + burden_in p)) both.0 both.1;
+      enough = brings_by (not (length given == 0)) (paid_to r.recipients) (base_fee p) (burden_in p) (value_of given) (charges_of r.rate given) (1 - (paid_to r.recipients + base_fee p + burden_in p)) both.0 both.1;
     }
 
 brings_given : (p : PlainPlan) → BringAll p → is_given p ≡ true
@@ -121,7 +147,7 @@ brings_given p b =
     let given = presets_in p in
     let some = given_some given b.some in
     and_from (not (length given == 0)) (int_le (target_of (rates_of r) (load_of r p.change given (burden_in p))) (pos 0)) some
-    (brought_by (not (length given == 0)) (paid_to r.recipients) (base_fee p) (burden_in p) (value_of given) (fees_of r.rate given) (1 - (paid_to r.recipients + base_fee p + burden_in p)) some b.enough)
+    (brought_by (not (length given == 0)) (paid_to r.recipients) (base_fee p) (burden_in p) (value_of given) (charges_of r.rate given) (1 - (paid_to r.recipients + base_fee p + burden_in p)) some b.enough)
 
 pub given_where : (p : PlainPlan) → (is_given p ≡ true ↔ BringAll p)
 given_where p = (given_brings p, brings_given p)

@@ -1,7 +1,9 @@
 -- Plans that go on from what was kept of them.
 use Rattle.std.specs.Prelude.{ℕ, ◌≡◌, ◌<◌, ◌≤◌, ◌-◌, ◌+◌, min, Bool, true, false, List, [], ◌∷◌, Option, Some, None, if◌then◌else◌}
 use Rattle.std.proofs.Common.{refl, sym, ap, subst, ◌∙◌}
+use Rattle.sha2.specs.Sha256.{sha256}
 use Rattle.closing_log.specs.Log.{PlainLog}
+use Rattle.closing_log.specs.LogText.{text_of}
 use Rattle.pick_problem.specs.Walk.{upward}
 use Rattle.search_keep.specs.SavedText.{CanBeSaved, PlainSaved}
 use Rattle.search_run.proofs.KeptLaws.{kept_is, refreshed_goes_on, same_end, same_log, same_saved}
@@ -21,7 +23,7 @@ use Rattle.fund_steps.proofs.WholeLaws.{steps_whole}
 use Rattle.fund_steps.specs.Basis.{basis_of}
 use Rattle.fund_steps.specs.Plan.{PlainPlan}
 use Rattle.fund_plan.specs.Outcome.{IsAnswerOf, by_end, end_at, is_partial, most_tries}
-use Rattle.fund_plan.specs.Resumed.{AreAccepted, CanRestore, IsStandOf, log_in, restored_at, saved_at}
+use Rattle.fund_plan.specs.Resumed.{AreAccepted, CanRestore, IsStandOf, log_digest, log_in, restored_at, saved_at}
 use Rattle.fund_plan.specs.State.{PlanState, end_by, end_in, granted, moved, moved_by, partial_of, told}
 use Rattle.fund_plan.specs.Steps.{steps_of}
 use Rattle.fund_plan.proofs.CanLaws.{writable}
@@ -47,27 +49,28 @@ module _ (p : PlainPlan) (x y : Stand) (e : refreshed x ≡ refreshed y) where
 
   pub alike_saved : (job : List ℕ) (parts : ℕ) → saved_at job parts (state_at p x) ≡ saved_at job parts (state_at p y)
   alike_saved job parts =
-      ap (λ (end : End). if is_partial end then None else saved_with job parts (saved_of x)) alike_end
-      ∙ ap (λ (o : Option run.PlainSaved). if is_partial (end_in (state_at p y)) then None else saved_with job parts o) (same_saved p.request.seed x y e)
+      ap (λ (end : End). if is_partial end then None else saved_with job parts (Some (log_digest (state_at p x))) (saved_of x)) alike_end
+      ∙ (ap (λ (o : Option run.PlainSaved). if is_partial (end_in (state_at p y)) then None else saved_with job parts (Some (log_digest (state_at p x))) o) (same_saved p.request.seed x y e)
+      ∙ ap (λ (l : PlainLog). if is_partial (end_in (state_at p y)) then None else saved_with job parts (Some (sha256 (text_of l))) (saved_of y)) alike_log)
 
 -- ---- what is saved of an unfinished plan
 
-saved_back : (job : List ℕ) (parts : ℕ) (saved : PlainSaved) (o : Option run.PlainSaved) → saved_with job parts o ≡ Some saved → o ≡ Some (saved_in saved)
-saved_back job parts saved None e = absurd (cc)
-saved_back job parts saved (Some k) e =
-    let same : record { job = job; tries = k.tries; row = k.row; stage = k.stage; chosen = k.chosen; next = k.next; best = k.best; parts = parts } ≡ saved = cc in
+saved_back : (job : List ℕ) (parts : ℕ) (log : Option (List ℕ)) (saved : PlainSaved) (o : Option run.PlainSaved) → saved_with job parts log o ≡ Some saved → o ≡ Some (saved_in saved)
+saved_back job parts log saved None e = absurd (cc)
+saved_back job parts log saved (Some k) e =
+    let same : record { job = job; tries = k.tries; row = k.row; stage = k.stage; chosen = k.chosen; next = k.next; best = k.best; parts = parts; log = log } ≡ saved = cc in
     ap (λ (s : PlainSaved). Some (saved_in s)) same
 
-job_back : (job : List ℕ) (parts : ℕ) (saved : PlainSaved) (o : Option run.PlainSaved) → saved_with job parts o ≡ Some saved → saved.job ≡ job
-job_back job parts saved None e = absurd (cc)
-job_back job parts saved (Some k) e =
-    let same : record { job = job; tries = k.tries; row = k.row; stage = k.stage; chosen = k.chosen; next = k.next; best = k.best; parts = parts } ≡ saved = cc in
+job_back : (job : List ℕ) (parts : ℕ) (log : Option (List ℕ)) (saved : PlainSaved) (o : Option run.PlainSaved) → saved_with job parts log o ≡ Some saved → saved.job ≡ job
+job_back job parts log saved None e = absurd (cc)
+job_back job parts log saved (Some k) e =
+    let same : record { job = job; tries = k.tries; row = k.row; stage = k.stage; chosen = k.chosen; next = k.next; best = k.best; parts = parts; log = log } ≡ saved = cc in
     sym (ap (λ (s : PlainSaved). s.job) same)
 
-parts_back : (job : List ℕ) (parts : ℕ) (saved : PlainSaved) (o : Option run.PlainSaved) → saved_with job parts o ≡ Some saved → saved.parts ≡ parts
-parts_back job parts saved None e = absurd (cc)
-parts_back job parts saved (Some k) e =
-    let same : record { job = job; tries = k.tries; row = k.row; stage = k.stage; chosen = k.chosen; next = k.next; best = k.best; parts = parts } ≡ saved = cc in
+parts_back : (job : List ℕ) (parts : ℕ) (log : Option (List ℕ)) (saved : PlainSaved) (o : Option run.PlainSaved) → saved_with job parts log o ≡ Some saved → saved.parts ≡ parts
+parts_back job parts log saved None e = absurd (cc)
+parts_back job parts log saved (Some k) e =
+    let same : record { job = job; tries = k.tries; row = k.row; stage = k.stage; chosen = k.chosen; next = k.next; best = k.best; parts = parts; log = log } ≡ saved = cc in
     sym (ap (λ (s : PlainSaved). s.parts) same)
 
 tries_back : (s : Stand) (left : List PlainStep) (k : run.PlainSaved) → saved_by s left ≡ Some k → k.tries ≡ s.past.tries
@@ -89,17 +92,17 @@ record IsKept (s : PlanState) (n : ℕ) (job : List ℕ) (parts : ℕ) (saved : 
   of_parts : saved.parts ≡ parts
 
 unsaved : (s : PlanState) (f : PlainFound) (job : List ℕ) (parts : ℕ) → s.partial ≡ Some f → saved_at job parts s ≡ None
-unsaved s f job parts some = ap (λ (o : Option PlainFound). if is_partial (end_by s o) then None else saved_with job parts (saved_of s.stand)) some
+unsaved s f job parts some = ap (λ (o : Option PlainFound). if is_partial (end_by s o) then None else saved_with job parts (Some (log_digest s)) (saved_of s.stand)) some
 
-kept_there : (s : PlanState) (n : ℕ) (job : List ℕ) (parts : ℕ) (saved : PlainSaved) (b : Bool) → s.partial ≡ None → is_partial (end_in (state_at s.plan (further s.plan s.stand n))) ≡ b →
-    (if b then None else saved_with job parts (saved_of (further s.plan s.stand n))) ≡ Some saved → IsKept s n job parts saved
-kept_there s n job parts saved true none is e = absurd (cc)
-kept_there s n job parts saved false none is e = record {
+kept_there : (s : PlanState) (n : ℕ) (job : List ℕ) (parts : ℕ) (log : Option (List ℕ)) (saved : PlainSaved) (b : Bool) → s.partial ≡ None → is_partial (end_in (state_at s.plan (further s.plan s.stand n))) ≡ b →
+    (if b then None else saved_with job parts log (saved_of (further s.plan s.stand n))) ≡ Some saved → IsKept s n job parts saved
+kept_there s n job parts log saved true none is e = absurd (cc)
+kept_there s n job parts log saved false none is e = record {
   none = none;
-  here = saved_back job parts saved (saved_of (further s.plan s.stand n)) e;
+  here = saved_back job parts log saved (saved_of (further s.plan s.stand n)) e;
   log = ap log_in (moved_none s n s.partial none) ∙ ap (λ (b : Bool). log_of b (further s.plan s.stand n)) is;
-  of_job = job_back job parts saved (saved_of (further s.plan s.stand n)) e;
-  of_parts = parts_back job parts saved (saved_of (further s.plan s.stand n)) e;
+  of_job = job_back job parts log saved (saved_of (further s.plan s.stand n)) e;
+  of_parts = parts_back job parts log saved (saved_of (further s.plan s.stand n)) e;
 }
 
 kept : (s : PlanState) (n : ℕ) (job : List ℕ) (parts : ℕ) (saved : PlainSaved) → saved_at job parts (moved s n) ≡ Some saved → IsKept s n job parts saved
@@ -111,7 +114,7 @@ kept s n job parts saved e = by s.partial refl
         absurd (cc)
     by None is =
         let there = state_at s.plan (further s.plan s.stand n) in
-        kept_there s n job parts saved (is_partial (end_in there)) is refl
+        kept_there s n job parts (Some (log_digest there)) saved (is_partial (end_in there)) is refl
         (sym (ap (saved_at job parts) (moved_none s n s.partial is)) ∙ e)
 
 -- ---- going on from it

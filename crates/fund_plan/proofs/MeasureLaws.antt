@@ -1,5 +1,5 @@
 -- Waste, weight and coins of a payment, by those of its selection.
-use Rattle.std.specs.Prelude.{ℕ, ℤ, pos, ◌≡◌, ◌≤◌, ◌+◌, ◌-◌, ◌+ℤ◌, ◌-ℤ◌, false, Bool, List, [], ◌∷◌, ◌++◌, fold, length, map, slice_index_or, sum_by, Option, Some, None}
+use Rattle.std.specs.Prelude.{◌≤ℤ◌, ℕ, ℤ, pos, ◌≡◌, ◌≤◌, ◌+◌, ◌-◌, ◌+ℤ◌, ◌-ℤ◌, false, Bool, List, [], ◌∷◌, ◌++◌, fold, length, map, slice_index_or, sum_by, Option, Some, None}
 use Rattle.std.specs.Int.Signed.{pos-nat_abs, yes_non_neg}
 use Rattle.std.proofs.Common.{refl, sym, ap, subst, ◌∙◌, arith}
 use Rattle.std.proofs.lemmas.Int.{ints}
@@ -11,7 +11,7 @@ use Rattle.closing_log.specs.declared.mark.Mark.{Mark}
 use Rattle.fee_rates.specs.Fee.{fee_of, input_fee_of, vsize_of}
 use Rattle.fee_rates.specs.Terms.{base_of, change_fee_of, change_spend_of, target_of, terms_of}
 use Rattle.coin_candidates.specs.declared.candidate.Candidate.{Candidate}
-use Rattle.output_groups.specs.Measures.{coin_cost, cost_of as group_cost}
+use Rattle.output_groups.specs.Measures.{charge_of, coin_cost, cost_of as group_cost}
 use Rattle.output_groups.specs.Pool.{item_of}
 use Rattle.output_groups.specs.declared.rows.Row.{Row}
 use Rattle.pick_problem.specs.Admissible.{IsAdmissible}
@@ -20,7 +20,7 @@ use Rattle.pick_problem.specs.declared.item.Item.{Item}
 use Rattle.request_text.specs.PlainRequest.{paid_to}
 use Rattle.search_run.specs.Found.{IsResultOf, PlainFound, coins_at as count_at, found_at}
 use Rattle.search_run.specs.Step.{PlainStep}
-use Rattle.fund_steps.specs.Amounts.{fees_of, value_of}
+use Rattle.fund_steps.specs.Amounts.{charges_of, fees_of, value_of}
 use Rattle.fund_steps.specs.Basis.{basis_of}
 use Rattle.fund_steps.specs.Listed.{burden_in, presets_in}
 use Rattle.fund_steps.specs.Plan.{IsPlan, PlainPlan}
@@ -31,25 +31,25 @@ use Rattle.fund_plan.specs.Figures.{cost_of, waste_of}
 use Rattle.fund_plan.specs.Pays.{payment_weight, raised_of}
 use Rattle.fund_plan.specs.Steps.{is_given, load_in, pool_in, problem_at, steps_of, terms_in}
 use Rattle.fund_plan.proofs.BringLaws.{gains_are, items_in, short_of, some_target, target_in, values_are, weights_are}
-use Rattle.fund_plan.proofs.FoundLaws.{named, problem_items, together, useful_in}
+use Rattle.fund_plan.proofs.FoundLaws.{chosen_fit, named, problem_items, reachable, together, useful_in}
 use Rattle.fund_plan.proofs.RowLaws.{found_in}
 use Rattle.fund_plan.proofs.SpendLaws.{ones}
 
 -- ---- the cost of places is that of their coins
 
--- fees now less fees in the long run
+-- fees and prices now less fees in the long run
 abbrev spread_of : (rate long_term : ℕ) → List Candidate → ℤ
-spread_of rate long_term coins = pos (fees_of rate coins) -ℤ pos (fees_of long_term coins)
+spread_of rate long_term coins = pos (charges_of rate coins) -ℤ pos (fees_of long_term coins)
 
-more_spread : (z : ℤ) (a b m n s t : ℕ) → s ≡ a + m → t ≡ b + n → (z +ℤ (pos a -ℤ pos b)) +ℤ (pos m -ℤ pos n) ≡ z +ℤ (pos s -ℤ pos t)
-more_spread z a b m n s t p q = omega (arith, ints)
+more_spread : (z : ℤ) (a price b m n s t : ℕ) → s ≡ (a + price) + m → t ≡ b + n → (z +ℤ ((pos a -ℤ pos b) +ℤ pos price)) +ℤ (pos m -ℤ pos n) ≡ z +ℤ (pos s -ℤ pos t)
+more_spread z a price b m n s t p q = omega (arith, ints)
 
 cost_from : (rate long_term : ℕ) (g : List Candidate) (z : ℤ) → fold (λ (s : ℤ) (c : Candidate). s +ℤ coin_cost rate long_term c) z g ≡ z +ℤ spread_of rate long_term g
 cost_from rate long_term [] z = omega (arith, ints)
 cost_from rate long_term (c ∷ g) z =
     cost_from rate long_term g (z +ℤ coin_cost rate long_term c)
-    ∙ more_spread z (input_fee_of rate c.weight) (input_fee_of long_term c.weight) (fees_of rate g) (fees_of long_term g) (fees_of rate (c ∷ g)) (fees_of long_term (c ∷ g))
-    (sum_by-cons (λ (x : Candidate). input_fee_of rate x.weight) c g) (sum_by-cons (λ (x : Candidate). input_fee_of long_term x.weight) c g)
+    ∙ more_spread z (input_fee_of rate c.weight) c.price (input_fee_of long_term c.weight) (charges_of rate g) (fees_of long_term g) (charges_of rate (c ∷ g)) (fees_of long_term (c ∷ g))
+    (sum_by-cons (charge_of rate) c g) (sum_by-cons (λ (x : Candidate). input_fee_of long_term x.weight) c g)
 
 cost_is : (rate long_term : ℕ) (g : List Candidate) → group_cost rate long_term g ≡ spread_of rate long_term g
 cost_is rate long_term g = let e = cost_from rate long_term g (pos 0) in omega (arith, ints, e)
@@ -64,8 +64,8 @@ costs_are rate long_term t groups x (j ∷ places) is rising =
     let g = slice_index_or groups j [] in
     let rest = members groups places in
     let here = ap (λ (i : Item). i.cost) (ap (λ (xs : List Item). slice_index_or xs j d) is ∙ get_or-map (item_of rate long_term) groups j [] d rising.1) ∙ cost_is rate long_term g in
-    both_spread _ (cost_at x places) (fees_of rate g) (fees_of long_term g) (fees_of rate rest) (fees_of long_term rest) (fees_of rate (g ++ rest)) (fees_of long_term (g ++ rest)) here
-    (costs_are rate long_term (j + 1) groups x places is rising.2) (sum_by-append (λ (c : Candidate). input_fee_of rate c.weight) g rest) (sum_by-append (λ (c : Candidate). input_fee_of long_term c.weight) g rest)
+    both_spread _ (cost_at x places) (charges_of rate g) (fees_of long_term g) (charges_of rate rest) (fees_of long_term rest) (charges_of rate (g ++ rest)) (fees_of long_term (g ++ rest)) here
+    (costs_are rate long_term (j + 1) groups x places is rising.2) (sum_by-append (charge_of rate) g rest) (sum_by-append (λ (c : Candidate). input_fee_of long_term c.weight) g rest)
 
 -- ---- how many coins
 
@@ -104,6 +104,9 @@ module _ (p : PlainPlan) (row : Row) (places : List ℕ) (h : IsPlan p) (searche
   cost_here : (x : PlainProblem) → x.items ≡ (pool_in p row).items → cost_at x places ≡ spread_of p.request.rate p.request.long_term (chosen_at p row places)
   cost_here x is = costs_are p.request.rate p.request.long_term 0 (pool_in p row).groups x places (is ∙ items_in p row) rising
 
+  charges_all : (rate : ℕ) → charges_of rate (coins_at p row places) ≡ charges_of rate (presets_in p) + charges_of rate (chosen_at p row places)
+  charges_all rate = together (charge_of rate) p row places h rising
+
   fees_all : (rate : ℕ) → fees_of rate (coins_at p row places) ≡ fees_of rate (presets_in p) + fees_of rate (chosen_at p row places)
   fees_all rate = together (λ (c : Candidate). input_fee_of rate c.weight) p row places h rising
 
@@ -120,10 +123,13 @@ module _ (p : PlainPlan) (row : Row) (places : List ℕ) (h : IsPlan p) (searche
       let lo : pos x.lo ≡ target_of (rates_of r) l = pos-nat_abs (target_of (rates_of r) l) (yes_non_neg (omega (arith, ints, some))) in
       let value = values_are r.rate r.long_term 0 (pool_in p row).groups x places (items_in p row) rising in
       let enough : x.lo ≤ value_at x places = adm.reaches in
-      plain_sum (paid_to r.recipients) base_fee (burden_in p) (raised_of r.rate l) (value_of given) (fees_of r.rate given) (fees_of r.long_term given) x.lo (value_at x places) (value_of chosen) (fees_of r.rate chosen) (fees_of r.long_term chosen)
-      (value_of (coins_at p row places)) (fees_of r.rate (coins_at p row places)) (fees_of r.long_term (coins_at p row places)) (cost_at x places)
-      (lo ∙ target_in p row) enough (omega (arith, value, gains_are r.rate chosen (useful_in p row places h rising)))
-      (together (λ (c : Candidate). c.value) p row places h rising) (fees_all r.rate) (fees_all r.long_term) (cost_here x refl)
+      let worth = gains_are r.rate chosen (useful_in p row places h rising) in
+      let low : target_of (rates_of r) l ≤ℤ pos (value_at x places) = omega (arith, ints, lo, enough) in
+      let is = target_in p row (reachable (target_of (rates_of r) l) (value_at x places) (value_of chosen) (charges_of r.rate chosen) low (omega (arith, value, worth)) (chosen_fit p row places h rising).value) in
+      plain_sum (paid_to r.recipients) base_fee (burden_in p) (raised_of r.rate l) (value_of given) (charges_of r.rate given) (fees_of r.long_term given) x.lo (value_at x places) (value_of chosen) (charges_of r.rate chosen) (fees_of r.long_term chosen)
+      (value_of (coins_at p row places)) (charges_of r.rate (coins_at p row places)) (fees_of r.long_term (coins_at p row places)) (cost_at x places)
+      (lo ∙ is) enough (omega (arith, value, worth))
+      (together (λ (c : Candidate). c.value) p row places h rising) (charges_all r.rate) (fees_all r.long_term) (cost_here x refl)
 
   changed_waste : (n : ℕ) (x : PlainProblem) → x.items ≡ (pool_in p row).items
       → waste_of p.request (load_in p row) (coins_at p row places) (Some n) ≡ (cost_at x places +ℤ pos (change_fee_of (rates_of p.request) (load_in p row) + change_spend_of (rates_of p.request) (load_in p row))) +ℤ cost_of p.request (presets_in p)
@@ -131,8 +137,8 @@ module _ (p : PlainPlan) (row : Row) (places : List ℕ) (h : IsPlan p) (searche
       let r = p.request in
       let given = presets_in p in
       let chosen = chosen_at p row places in
-      changed_sum (fees_of r.rate given) (fees_of r.long_term given) (fees_of r.rate chosen) (fees_of r.long_term chosen) (fees_of r.rate (coins_at p row places)) (fees_of r.long_term (coins_at p row places))
-      (change_fee_of (rates_of r) (load_in p row) + change_spend_of (rates_of r) (load_in p row)) (cost_at x places) (fees_all r.rate) (fees_all r.long_term) (cost_here x is)
+      changed_sum (charges_of r.rate given) (fees_of r.long_term given) (charges_of r.rate chosen) (fees_of r.long_term chosen) (charges_of r.rate (coins_at p row places)) (fees_of r.long_term (coins_at p row places))
+      (change_fee_of (rates_of r) (load_in p row) + change_spend_of (rates_of r) (load_in p row)) (cost_at x places) (charges_all r.rate) (fees_all r.long_term) (cost_here x is)
 
   waste_at : (s : Stage) (last : Bool) → IsAdmissible (problem_at p row s) places
       → waste_of p.request (load_in p row) (coins_at p row places) (change_at p row s places) ≡ (found_at (step_at p row s last) places).waste +ℤ cost_of p.request (presets_in p)

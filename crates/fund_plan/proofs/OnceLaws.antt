@@ -6,7 +6,7 @@ use Rattle.tx_codec.specs.Transaction.{Transaction}
 use Rattle.fee_rates.specs.Fee.{fee_of, vsize_of}
 use Rattle.fee_rates.specs.Terms.{base_of, change_fee_of, change_least_of}
 use Rattle.request_text.specs.PlainRequest.{paid_to}
-use Rattle.fund_steps.specs.Amounts.{fees_of, value_of}
+use Rattle.fund_steps.specs.Amounts.{charges_of, value_of}
 use Rattle.fund_plan.specs.Answer.{AnswersAlone, PaysAlone, given_from}
 use Rattle.fund_plan.specs.Pays.{raised_of}
 use Rattle.fund_plan.specs.Selection.{PlainFunded}
@@ -34,7 +34,7 @@ apart p coins n t u x y =
     let l = load_of p.request p.change coins (burden_in p) in
     let plain = rw (sum_plain p.request.recipients t.outputs x.outputs) at x.fee in
     let changed = rw (sum_change p.request.recipients u.outputs (record { value = n; script = p.change.script }) y.outputs) at y.fee in
-    clash (paid_to p.request.recipients) n (fee_of p.request.rate (vsize_of (base_of l))) (fees_of p.request.rate coins) l.burden (raised_of p.request.rate l) (value_of coins) (change_fee_of (rates_of p.request) l) (change_least_of (rates_of p.request) l) plain.1 changed y.change_worth
+    clash (paid_to p.request.recipients) n (fee_of p.request.rate (vsize_of (base_of l))) (charges_of p.request.rate coins) l.burden (raised_of p.request.rate l) (value_of coins) (change_fee_of (rates_of p.request) l) (change_least_of (rates_of p.request) l) plain.1 changed y.change_worth
 
 one_change : (p : PlainPlan) (coins : List Candidate) (a b : Option ℕ) (t u : Transaction) → PaysAlone p coins a t → PaysAlone p coins b u → a ≡ b
 one_change p coins None None t u x y = refl
@@ -44,7 +44,7 @@ one_change p coins (Some n) (Some m) t u x y =
     let l = load_of p.request p.change coins (burden_in p) in
     let first = rw (sum_change p.request.recipients t.outputs (record { value = n; script = p.change.script }) x.outputs) at x.fee in
     let second = rw (sum_change p.request.recipients u.outputs (record { value = m; script = p.change.script }) y.outputs) at y.fee in
-    ap (λ (k : ℕ). Some k) (together (paid_to p.request.recipients) n m (fee_of p.request.rate (vsize_of (base_of l))) (fees_of p.request.rate coins) l.burden (raised_of p.request.rate l) (value_of coins) (change_fee_of (rates_of p.request) l) first second)
+    ap (λ (k : ℕ). Some k) (together (paid_to p.request.recipients) n m (fee_of p.request.rate (vsize_of (base_of l))) (charges_of p.request.rate coins) l.burden (raised_of p.request.rate l) (value_of coins) (change_fee_of (rates_of p.request) l) first second)
 
 -- ---- the outcome
 

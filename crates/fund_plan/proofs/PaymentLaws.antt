@@ -16,7 +16,7 @@ use Rattle.wallet_text.specs.WalletRules.{IsWatch}
 use Rattle.wallet_text.specs.declared.wallet.Watch.{Watch}
 use Rattle.fund_plan.specs.Pays.{change_outputs, outputs_of, payment_from, payment_of, payment_weight, recipient_output, sequence_of, unsigned_input}
 use Rattle.fund_plan.specs.Selection.{PlainFunded}
-use Rattle.fee_rates.specs.declared.terms.Load.{Load}
+use Rattle.fee_rates.specs.declared.terms.PaymentLoad.{PaymentLoad}
 use Rattle.fund_plan.specs.Weighed.{HasOutpoint}
 use Rattle.fund_plan.proofs.PaysLaws.{outputs_sum}
 
@@ -86,13 +86,13 @@ few_recipients [] = omega arith
 few_recipients (q ∷ rs) = omega (arith, few_recipients rs, sum_by-cons (λ (p : Recipient). output_size_of p.script) q rs)
 
 -- a load has the recipients of the request and the change of the script
-pub record IsLoadOf (r : PlainRequest) (w : Watch) (l : Load) : Type 0 where
+pub record IsLoadOf (r : PlainRequest) (w : Watch) (l : PaymentLoad) : Type 0 where
   pub outputs : l.outputs ≡ min (sum_by (λ (q : Recipient). output_size_of q.script) r.recipients) 1_000_000_000
   pub count : l.count ≡ min (length r.recipients) 1_000_000_000
   pub change_size : l.change_size ≡ output_size_of w.script
   pub paid : l.paid ≡ paid_to r.recipients
 
-pub recipients_few : (r : PlainRequest) (w : Watch) (l : Load) (coins : List Candidate) (amount : Option ℕ) → IsLoadOf r w l → payment_weight l coins amount ≤ 400_000 → length r.recipients ≤ 100_000
+pub recipients_few : (r : PlainRequest) (w : Watch) (l : PaymentLoad) (coins : List Candidate) (amount : Option ℕ) → IsLoadOf r w l → payment_weight l coins amount ≤ 400_000 → length r.recipients ≤ 100_000
 recipients_few r w l coins None is h = omega (arith, h, few_recipients r.recipients, is.outputs)
 recipients_few r w l coins (Some amount) is h = omega (arith, h, few_recipients r.recipients, is.outputs)
 

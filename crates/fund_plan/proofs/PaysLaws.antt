@@ -12,13 +12,15 @@ use Rattle.tx_codec.specs.declared.tx.TxOut.{TxOut}
 use Rattle.tx_codec.specs.Transaction.{Transaction}
 use Rattle.fee_rates.specs.Fee.{fee_of, vsize_of}
 use Rattle.fee_rates.specs.Output.{output_size_of}
-use Rattle.fee_rates.specs.Terms.{base_of, target_of, hi_of, small_of, change_fee_of, change_least_of}
-use Rattle.fee_rates.specs.declared.terms.Load.{Load}
+use Rattle.fee_rates.proofs.TermsLaws.{asked_target, target_asked}
+use Rattle.fee_rates.specs.Terms.{asked_of, base_of, target_of, hi_of, small_of, change_fee_of, change_least_of}
+use Rattle.fee_rates.specs.declared.terms.PaymentLoad.{PaymentLoad}
 use Rattle.fee_rates.proofs.FeeLaws.{weighed_parts, input_fee_parts, fee_below, vsize_bytes}
 use Rattle.request_text.specs.PlainRequest.{PlainRequest, paid_to}
 use Rattle.request_text.specs.declared.request.Recipient.{Recipient}
 use Rattle.wallet_text.specs.declared.wallet.Watch.{Watch}
-use Rattle.fund_steps.specs.Amounts.{AreWithin, fees_of, value_of, weight_of}
+use Rattle.fund_steps.proofs.SumLaws.{charges_are}
+use Rattle.fund_steps.specs.Amounts.{AreWithin, charges_of, prices_of, value_of, weight_of}
 use Rattle.fund_plan.specs.Answer.{IsSelection}
 use Rattle.fund_plan.specs.Selection.{PlainFunded}
 use Rattle.fund_plan.specs.Pays.{Balances, Pays, change_outputs, outputs_of, payment_from, payment_weight, raised_of, recipient_output}
@@ -91,16 +93,32 @@ pub raised_as : (some : Bool) (n value fees : ℕ) → (some ≡ false → (valu
 raised_as true n value fees none = ap (λ m. pos m -ℤ (pos value -ℤ pos fees)) (omega arith)
 raised_as false n value fees none = omega (arith, ints, int_max_is (pos n -ℤ (pos value -ℤ pos fees)) (pos 1), (none refl).0, (none refl).1)
 
-pub none_worth : (rate : ℕ) (coins : List Candidate) → not (length coins == 0) ≡ false → (value_of coins ≡ 0) × (fees_of rate coins ≡ 0)
+pub none_worth : (rate : ℕ) (coins : List Candidate) → not (length coins == 0) ≡ false → (value_of coins ≡ 0) × (charges_of rate coins ≡ 0)
 none_worth rate [] e = (refl, refl)
 none_worth rate (c ∷ coins) e = let none = eqb-true (length (c ∷ coins)) 0 (not-false _ e) in absurd (omega (arith, none))
 
 -- what the payment from the coins has to bring
-target_here : (r : PlainRequest) (w : Watch) (coins : List Candidate) (d : ℕ)
-    → target_of (rates_of r) (load_of r w coins d) ≡ needed (paid_to r.recipients) (fee_of r.rate (vsize_of (base_of (load_of r w coins d)))) d (raised_of r.rate (load_of r w coins d)) (value_of coins) (fees_of r.rate coins)
+asked_here : (r : PlainRequest) (w : Watch) (coins : List Candidate) (d : ℕ)
+    → asked_of (rates_of r) (load_of r w coins d) ≡ needed (paid_to r.recipients) (fee_of r.rate (vsize_of (base_of (load_of r w coins d)))) d (raised_of r.rate (load_of r w coins d)) (value_of coins) (charges_of r.rate coins)
 unfolding load_of
-target_here r w coins d =
-    raised_as (not (length coins == 0)) (paid_to r.recipients + fee_of r.rate (vsize_of (base_of (load_of r w coins d))) + d) (value_of coins) (fees_of r.rate coins) (none_worth r.rate coins)
+asked_here r w coins d =
+    raised_as (not (length coins == 0)) (paid_to r.recipients + fee_of r.rate (vsize_of (base_of (load_of r w coins d))) + d) (value_of coins) (charges_of r.rate coins) (none_worth r.rate coins)
+
+nothing_below : (t : ℤ) → t ≤ℤ pos 0 → t ≤ℤ pos 999_999_999_999_999_999
+nothing_below t h = omega (arith, ints, h)
+
+-- the target is that where nothing more is to be brought
+target_here : (r : PlainRequest) (w : Watch) (coins : List Candidate) (d : ℕ) → target_of (rates_of r) (load_of r w coins d) ≤ℤ pos 0
+    → target_of (rates_of r) (load_of r w coins d) ≡ needed (paid_to r.recipients) (fee_of r.rate (vsize_of (base_of (load_of r w coins d)))) d (raised_of r.rate (load_of r w coins d)) (value_of coins) (charges_of r.rate coins)
+target_here r w coins d low = target_asked (rates_of r) (load_of r w coins d) (nothing_below _ low) ∙ asked_here r w coins d
+
+within_cut : (t : ℤ) → t ≤ℤ pos 0 → t ≤ℤ pos 1_000_000_000_000_000_000
+within_cut t h = omega (arith, ints, h)
+
+needed_here : (r : PlainRequest) (w : Watch) (coins : List Candidate) (d : ℕ)
+    → needed (paid_to r.recipients) (fee_of r.rate (vsize_of (base_of (load_of r w coins d)))) d (raised_of r.rate (load_of r w coins d)) (value_of coins) (charges_of r.rate coins) ≤ℤ pos 0
+    → target_of (rates_of r) (load_of r w coins d) ≡ needed (paid_to r.recipients) (fee_of r.rate (vsize_of (base_of (load_of r w coins d)))) d (raised_of r.rate (load_of r w coins d)) (value_of coins) (charges_of r.rate coins)
+needed_here r w coins d low = asked_target (rates_of r) (load_of r w coins d) (within_cut _ (subst (λ (t : ℤ). t ≤ℤ pos 0) (sym (asked_here r w coins d)) low)) ∙ asked_here r w coins d
 
 -- which of three it was
 was_plain : (a b : Bool) (n : ℕ) → cond a Plain (cond b (Change n) Short) ≡ Plain → a ≡ true
@@ -118,15 +136,16 @@ was_short true b n e = absurd (cc)
 was_short false true n e = absurd (cc)
 was_short false false n e = (refl, refl)
 
--- the fee of the whole weight is within those of the parts
-pub plain_covers : (rate base paid more value : ℕ) (coins : List Candidate) → paid + fee_of rate (vsize_of base) + fees_of rate coins + 0 + more ≤ value → paid + fee_of rate (vsize_of (base + weight_of coins)) ≤ value
-plain_covers rate base paid more value coins h = omega (arith, weighed_parts (λ (c : Candidate). c.weight) rate base coins)
+-- the fee of the whole weight and the prices are within the parts
+pub plain_covers : (rate base paid more value : ℕ) (coins : List Candidate) → paid + fee_of rate (vsize_of base) + charges_of rate coins + 0 + more ≤ value → paid + fee_of rate (vsize_of (base + weight_of coins)) + prices_of coins ≤ value
+plain_covers rate base paid more value coins h = omega (arith, weighed_parts (λ (c : Candidate). c.weight) rate base coins, charges_are rate coins)
 
-pub change_covers : (rate base paid more value size : ℕ) (coins : List Candidate) → value ≡ paid + fee_of rate (vsize_of base) + fees_of rate coins + 0 + more + fee_of rate size → paid + fee_of rate (vsize_of (base + weight_of coins + 4 * size)) ≤ value
+pub change_covers : (rate base paid more value size : ℕ) (coins : List Candidate) → value ≡ paid + fee_of rate (vsize_of base) + charges_of rate coins + 0 + more + fee_of rate size → paid + fee_of rate (vsize_of (base + weight_of coins + 4 * size)) + prices_of coins ≤ value
 change_covers rate base paid more value size coins h =
     omega (
       arith,
       weighed_parts (λ (c : Candidate). c.weight) rate base coins,
+      charges_are rate coins,
       input_fee_parts rate (base + weight_of coins) (4 * size),
       fee_below rate (vsize_of (4 * size)) rate size (omega arith) (omega (arith, vsize_bytes size)),
     )
@@ -161,35 +180,39 @@ base_fee r w coins d = fee_of r.rate (vsize_of (base_of (load_of r w coins d)))
 
 -- inputs less outputs, where they pay without change
 plain_window : (r : PlainRequest) (w : Watch) (coins : List Candidate) (d : ℕ) → target_of (rates_of r) (load_of r w coins d) ≤ℤ pos 0 → pos 0 ≤ℤ hi_of (rates_of r) (load_of r w coins d)
-    → (paid_to r.recipients + base_fee r w coins d + fees_of r.rate coins + d + raised_of r.rate (load_of r w coins d) ≤ value_of coins)
-    × (value_of coins + 1 ≤ paid_to r.recipients + base_fee r w coins d + fees_of r.rate coins + d + raised_of r.rate (load_of r w coins d) + change_fee_of (rates_of r) (load_of r w coins d) + change_least_of (rates_of r) (load_of r w coins d))
+    → (paid_to r.recipients + base_fee r w coins d + charges_of r.rate coins + d + raised_of r.rate (load_of r w coins d) ≤ value_of coins)
+    × (value_of coins + 1 ≤ paid_to r.recipients + base_fee r w coins d + charges_of r.rate coins + d + raised_of r.rate (load_of r w coins d) + change_fee_of (rates_of r) (load_of r w coins d) + change_least_of (rates_of r) (load_of r w coins d))
 plain_window r w coins d low high =
     let l = load_of r w coins d in
     let cf = change_fee_of (rates_of r) l in
     let cl = change_least_of (rates_of r) l in
-    window (paid_to r.recipients) (base_fee r w coins d) d (raised_of r.rate l) (value_of coins) (fees_of r.rate coins) cf cl
-    (subst (λ (t : ℤ). t ≤ℤ pos 0) (target_here r w coins d) low)
-    (subst (λ (t : ℤ). pos 0 ≤ℤ ((t +ℤ pos cf +ℤ pos cl) -ℤ pos 1)) (target_here r w coins d) high)
+    window (paid_to r.recipients) (base_fee r w coins d) d (raised_of r.rate l) (value_of coins) (charges_of r.rate coins) cf cl
+    (subst (λ (t : ℤ). t ≤ℤ pos 0) (target_here r w coins d low) low)
+    (subst (λ (t : ℤ). pos 0 ≤ℤ ((t +ℤ pos cf +ℤ pos cl) -ℤ pos 1)) (target_here r w coins d low) high)
+
+no_more : (t : ℤ) (cf cl : ℕ) → (t +ℤ pos cf +ℤ pos cl) ≤ℤ pos 0 → t ≤ℤ pos 0
+no_more t cf cl h = omega (arith, ints, h)
 
 -- inputs less outputs, where they pay with change
 change_rest : (r : PlainRequest) (w : Watch) (coins : List Candidate) (d amount : ℕ) → amount ≡ unsigned_abs ((pos 0 -ℤ target_of (rates_of r) (load_of r w coins d)) -ℤ pos (change_fee_of (rates_of r) (load_of r w coins d))) → small_of (rates_of r) (load_of r w coins d) ≤ℤ pos 0
-    → (value_of coins ≡ paid_to r.recipients + amount + base_fee r w coins d + fees_of r.rate coins + d + raised_of r.rate (load_of r w coins d) + change_fee_of (rates_of r) (load_of r w coins d))
+    → (value_of coins ≡ paid_to r.recipients + amount + base_fee r w coins d + charges_of r.rate coins + d + raised_of r.rate (load_of r w coins d) + change_fee_of (rates_of r) (load_of r w coins d))
     × (change_least_of (rates_of r) (load_of r w coins d) ≤ amount)
 change_rest r w coins d amount is small =
     let l = load_of r w coins d in
     let cf = change_fee_of (rates_of r) l in
     let cl = change_least_of (rates_of r) l in
-    left (paid_to r.recipients) (base_fee r w coins d) d (raised_of r.rate l) (value_of coins) (fees_of r.rate coins) cf cl amount
-    (is ∙ ap (λ (t : ℤ). unsigned_abs ((pos 0 -ℤ t) -ℤ pos cf)) (target_here r w coins d))
-    (subst (λ (t : ℤ). (t +ℤ pos cf +ℤ pos cl) ≤ℤ pos 0) (target_here r w coins d) small)
+    let low = no_more (target_of (rates_of r) l) cf cl small in
+    left (paid_to r.recipients) (base_fee r w coins d) d (raised_of r.rate l) (value_of coins) (charges_of r.rate coins) cf cl amount
+    (is ∙ ap (λ (t : ℤ). unsigned_abs ((pos 0 -ℤ t) -ℤ pos cf)) (target_here r w coins d low))
+    (subst (λ (t : ℤ). (t +ℤ pos cf +ℤ pos cl) ≤ℤ pos 0) (target_here r w coins d low) small)
 
 -- coins that balance without change pay
-pub pays_without : (r : PlainRequest) (w : Watch) (l : Load) (coins : List Candidate) → AreSorted coins → Balances r l coins None (value_of coins) (paid_to r.recipients) → payment_weight l coins None ≤ 400_000
+pub pays_without : (r : PlainRequest) (w : Watch) (l : PaymentLoad) (coins : List Candidate) → AreSorted coins → Balances r l coins None (value_of coins) (paid_to r.recipients) → payment_weight l coins None ≤ 400_000
     → Pays r w l coins None (payment_from r w coins None)
 unfolding payment_from
 pays_without r w l coins sorted balance weight =
     let total = sum_plain r.recipients (map recipient_output r.recipients ++ []) refl in
-    let due : paid_to r.recipients + fee_of r.rate (vsize_of (base_of l)) + fees_of r.rate coins + l.burden + raised_of r.rate l ≤ value_of coins = balance.0 in
+    let due : paid_to r.recipients + fee_of r.rate (vsize_of (base_of l)) + charges_of r.rate coins + l.burden + raised_of r.rate l ≤ value_of coins = balance.0 in
     record {
       inputs = refl;
       sorted = sorted;
@@ -204,13 +227,13 @@ pays_without r w l coins sorted balance weight =
     }
 
 -- coins that balance with this change pay
-pub pays_with : (r : PlainRequest) (w : Watch) (l : Load) (coins : List Candidate) (amount : ℕ) → AreSorted coins → Balances r l coins (Some amount) (value_of coins) (paid_to r.recipients + amount) → change_least_of (rates_of r) l ≤ amount
+pub pays_with : (r : PlainRequest) (w : Watch) (l : PaymentLoad) (coins : List Candidate) (amount : ℕ) → AreSorted coins → Balances r l coins (Some amount) (value_of coins) (paid_to r.recipients + amount) → change_least_of (rates_of r) l ≤ amount
     → payment_weight l coins (Some amount) ≤ 400_000 → Pays r w l coins (Some amount) (payment_from r w coins (Some amount))
 unfolding payment_from
 pays_with r w l coins amount sorted balance worth weight =
     let change : TxOut = record { value = amount; script = w.script } in
     let total = sum_change r.recipients (map recipient_output r.recipients ++ change ∷ []) change refl in
-    let due : value_of coins ≡ paid_to r.recipients + amount + fee_of r.rate (vsize_of (base_of l)) + fees_of r.rate coins + l.burden + raised_of r.rate l + fee_of r.rate l.change_size = balance in
+    let due : value_of coins ≡ paid_to r.recipients + amount + fee_of r.rate (vsize_of (base_of l)) + charges_of r.rate coins + l.burden + raised_of r.rate l + fee_of r.rate l.change_size = balance in
     record {
       inputs = refl;
       sorted = sorted;
@@ -252,9 +275,10 @@ pays_none r w coins d e None t p =
     let cf = change_fee_of (rates_of r) l in
     let cl = change_least_of (rates_of r) l in
     let fee = rw (sum_plain r.recipients t.outputs p.outputs) at p.fee in
-    let back = window_back (paid_to r.recipients) (base_fee r w coins d) d (raised_of r.rate l) (value_of coins) (fees_of r.rate coins) cf cl fee.0 fee.1 in
-    let low = subst (λ (t : ℤ). t ≤ℤ pos 0) (sym (target_here r w coins d)) back.0 in
-    let high = subst (λ (t : ℤ). pos 0 ≤ℤ ((t +ℤ pos cf +ℤ pos cl) -ℤ pos 1)) (sym (target_here r w coins d)) back.1 in
+    let back = window_back (paid_to r.recipients) (base_fee r w coins d) d (raised_of r.rate l) (value_of coins) (charges_of r.rate coins) cf cl fee.0 fee.1 in
+    let target = needed_here r w coins d back.0 in
+    let low = subst (λ (t : ℤ). t ≤ℤ pos 0) (sym target) back.0 in
+    let high = subst (λ (t : ℤ). pos 0 ≤ℤ ((t +ℤ pos cf +ℤ pos cl) -ℤ pos 1)) (sym target) back.1 in
     both_ways _ f.0 (plain_test (target_of (rates_of r) l) (hi_of (rates_of r) l) (base_of l + weight_of coins) low high p.weight)
 pays_none r w coins d e (Some amount) t p =
     let l = load_of r w coins d in
@@ -262,8 +286,9 @@ pays_none r w coins d e (Some amount) t p =
     let fee = rw (sum_change r.recipients t.outputs (record { value = amount; script = w.script }) p.outputs) at p.fee in
     let cf = change_fee_of (rates_of r) l in
     let cl = change_least_of (rates_of r) l in
-    let back = left_back (paid_to r.recipients) (base_fee r w coins d) d (raised_of r.rate l) (value_of coins) (fees_of r.rate coins) cf cl amount fee p.change_worth in
-    let small = subst (λ (t : ℤ). (t +ℤ pos cf +ℤ pos cl) ≤ℤ pos 0) (sym (target_here r w coins d)) back in
+    let back = left_back (paid_to r.recipients) (base_fee r w coins d) d (raised_of r.rate l) (value_of coins) (charges_of r.rate coins) cf cl amount fee p.change_worth in
+    let target = needed_here r w coins d (no_more _ cf cl back) in
+    let small = subst (λ (t : ℤ). (t +ℤ pos cf +ℤ pos cl) ≤ℤ pos 0) (sym target) back in
     both_ways _ f.1 (change_test (small_of (rates_of r) l) (base_of l + weight_of coins + 4 * output_size_of w.script) small p.weight)
 
 -- ---- what pays is a selection
@@ -273,7 +298,7 @@ outputs_sum r w None = sum_plain r.recipients (map recipient_output r.recipients
 outputs_sum r w (Some amount) = sum_change r.recipients (map recipient_output r.recipients ++ record { value = amount; script = w.script } ∷ []) (record { value = amount; script = w.script }) refl
 
 -- the outputs take no more than the coins are worth
-pub pays_within : (r : PlainRequest) (w : Watch) (l : Load) (coins : List Candidate) (amount : Option ℕ) (t : Transaction) → Pays r w l coins amount t → outputs_of r amount ≤ value_of coins
+pub pays_within : (r : PlainRequest) (w : Watch) (l : PaymentLoad) (coins : List Candidate) (amount : Option ℕ) (t : Transaction) → Pays r w l coins amount t → outputs_of r amount ≤ value_of coins
 pays_within r w l coins amount t p = let sum = ap (sum_by (λ (o : TxOut). o.value)) p.outputs ∙ outputs_sum r w amount in omega (arith, sum, p.fee_covers)
 
 -- nothing pays from no coins
@@ -296,7 +321,7 @@ pub amount_most : (r : PlainRequest) (amount : Option ℕ) → outputs_of r amou
 amount_most r None h = tt
 amount_most r (Some n) h = omega (arith, h)
 
-pub selection_is : (r : PlainRequest) (w : Watch) (l : Load) (f : PlainFunded) (t : Transaction) → AreWithin f.coins → 0 < length f.coins → Pays r w l f.coins f.change t → IsSelection r f
+pub selection_is : (r : PlainRequest) (w : Watch) (l : PaymentLoad) (f : PlainFunded) (t : Transaction) → AreWithin f.coins → 0 < length f.coins → Pays r w l f.coins f.change t → IsSelection r f
 selection_is r w l f t h some p =
     let within = pays_within r w l f.coins f.change t p in
     record { coins = h; some = some; change = amount_most r f.change (omega (arith, within, h.value)); within = within }

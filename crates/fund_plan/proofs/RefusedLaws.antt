@@ -4,7 +4,7 @@ use Rattle.std.proofs.Common.{refl, sym, ap, ◌∙◌, arith, inl, inr}
 use Rattle.closing_log.specs.Log.{PlainLog, PlainSection}
 use Rattle.log_checker.specs.declared.fault.LogFault.{LogFault}
 use Rattle.log_checker.specs.declared.fault.LogFault.TheVariants as logs
-use Rattle.search_keep.specs.Resumed.{IsDue}
+use Rattle.search_keep.specs.Resumed.{MayGoOn}
 use Rattle.search_keep.specs.SavedText.{PlainSaved}
 use Rattle.search_keep.specs.declared.fault.SavedFault.{SavedFault}
 use Rattle.search_keep.specs.declared.fault.SavedFault.TheVariants as saved
@@ -31,7 +31,7 @@ use Rattle.fund_plan.specs.declared.fault.PlanSavedFault.TheVariants as planned
 
 -- the job is due, and the run is refused for a cause that isn't out of memory
 record IsOfRun (p : PlainPlan) (now : List ℕ) (s : PlainSaved) (log : PlainLog) (e : PlanSavedFault) : Type 0 where
-  due : IsDue s now
+  due : MayGoOn s now
   cause : RestoreRefused
   some : cause ≢ refused.Memory
   refuses : IsRefusedIn p s log cause

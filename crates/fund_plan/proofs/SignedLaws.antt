@@ -23,7 +23,7 @@ use Rattle.fund_plan.specs.Chosen.{load_for}
 use Rattle.fund_plan.specs.Pays.{change_outputs, payment_from, payment_of, payment_weight, recipient_output}
 use Rattle.fund_steps.specs.Plan.{PlainPlan}
 use Rattle.fund_plan.specs.Selection.{PlainFunded}
-use Rattle.fee_rates.specs.declared.terms.Load.{Load}
+use Rattle.fee_rates.specs.declared.terms.PaymentLoad.{PaymentLoad}
 use Rattle.fund_plan.specs.Weighed.{AreWithinDeclared}
 use Rattle.fund_plan.proofs.FigureLaws.{figures_agree}
 use Rattle.fund_plan.proofs.PaymentLaws.{IsLoadOf, recipients_few}
@@ -100,7 +100,7 @@ signed_most r w coins amount t k size count sized few outputs within =
     let total : sum_by size_of t.outputs ≡ sizes_of r + size = omega (arith, ap (sum_by size_of) outputs, sized, sum_by-append size_of paid (change_outputs w amount), recipients_size r.recipients) in
     omega (arith, weight_most t, bare_len t, ins, outs, total, all_outputs t.outputs, inputs_within t.inputs coins within)
 
-signed_within : (r : PlainRequest) (w : Watch) (l : Load) (coins : List Candidate) (amount : Option ℕ) (t : Transaction) → IsLoadOf r w l → length coins ≤ l.coins → AreWithin coins → payment_weight l coins amount ≤ 400_000
+signed_within : (r : PlainRequest) (w : Watch) (l : PaymentLoad) (coins : List Candidate) (amount : Option ℕ) (t : Transaction) → IsLoadOf r w l → length coins ≤ l.coins → AreWithin coins → payment_weight l coins amount ≤ 400_000
     → t.outputs ≡ map recipient_output r.recipients ++ change_outputs w amount → AreWithinDeclared t.inputs coins → text_weight t ≤ payment_weight l coins amount
 signed_within r w l coins None t is there fit light outputs within =
     let k = length r.recipients in

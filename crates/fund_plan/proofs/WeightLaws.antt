@@ -35,7 +35,7 @@ use Rattle.fund_plan.proofs.PaymentLaws.{IsLoadOf, points_fit, recipients_few}
 use Rattle.fund_plan.proofs.FoundLaws.{sorted_apart}
 use Rattle.fund_plan.proofs.SpendLaws.{AreApart, some_count}
 use Rattle.fund_base.proofs.Lists.{cons_cases}
-use Rattle.fee_rates.specs.declared.terms.Load.{Load}
+use Rattle.fee_rates.specs.declared.terms.PaymentLoad.{PaymentLoad}
 use Rattle.fund_plan.proofs.PaysLaws.{sum_one}
 
 -- ---- inputs and outputs
@@ -129,11 +129,11 @@ payment_len r w coins amount k size count sized few fit =
     omega (arith, bare_len (payment_from r w coins amount), ins, outs, total, all_inputs r.replaceable coins fit, all_outputs outputs)
 
 -- the bytes that a load keeps for the number of inputs
-abbrev pub kept_bytes : Load → ℕ
+abbrev pub kept_bytes : PaymentLoad → ℕ
 kept_bytes l = if nat_le l.coins 252 then 1 else 3
 
 -- the base, where nothing is above what is counted
-pub base_is : (r : PlainRequest) (w : Watch) (l : Load) → IsLoadOf r w l → length r.recipients ≤ 100_000 → sizes_of r ≤ 100_000
+pub base_is : (r : PlainRequest) (w : Watch) (l : PaymentLoad) → IsLoadOf r w l → length r.recipients ≤ 100_000 → sizes_of r ≤ 100_000
     → base_of l ≡ 4 * (8 + kept_bytes l + length (compact (length r.recipients + 1)) + sizes_of r) + 2
 base_is r w l is few small =
     let count : l.count ≡ length r.recipients = omega (arith, few, is.count) in
@@ -141,7 +141,7 @@ base_is r w l is few small =
     let outs : length (compact (l.count + 1)) ≡ length (compact (length r.recipients + 1)) = ap (λ (n : ℕ). length (compact (n + 1))) count in
     omega (arith, outs, outputs)
 
-pub sizes_few : (r : PlainRequest) (w : Watch) (l : Load) → IsLoadOf r w l → base_of l ≤ 400_000 → sizes_of r ≤ 100_000
+pub sizes_few : (r : PlainRequest) (w : Watch) (l : PaymentLoad) → IsLoadOf r w l → base_of l ≤ 400_000 → sizes_of r ≤ 100_000
 sizes_few r w l is h = omega (arith, h, is.outputs)
 
 -- no fewer bytes are kept than are needed
@@ -160,7 +160,7 @@ bare_form : (r : PlainRequest) (w : Watch) (coins : List Candidate) (amount : Op
 unfolding payment_from
 bare_form r w coins amount = refl
 
-pub weighed : (r : PlainRequest) (w : Watch) (l : Load) (coins : List Candidate) (amount : Option ℕ) → IsLoadOf r w l → length coins ≤ l.coins → AreWithin coins → All InputFits (map (unsigned_input r.replaceable) coins) → payment_weight l coins amount ≤ 400_000
+pub weighed : (r : PlainRequest) (w : Watch) (l : PaymentLoad) (coins : List Candidate) (amount : Option ℕ) → IsLoadOf r w l → length coins ≤ l.coins → AreWithin coins → All InputFits (map (unsigned_input r.replaceable) coins) → payment_weight l coins amount ≤ 400_000
     → IsWeighed amount (payment_weight l coins amount) (signed_weight r w coins amount) (room_of l coins)
 weighed r w l coins None is there within fit light =
     let n = length coins in

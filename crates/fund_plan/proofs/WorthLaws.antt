@@ -7,7 +7,7 @@ use Rattle.tx_codec.specs.declared.tx.TxIn.{TxIn}
 use Rattle.fee_rates.specs.Fee.{input_fee_of}
 use Rattle.fee_rates.specs.Output.{dust_of}
 use Rattle.fee_rates.specs.Terms.{change_least_of}
-use Rattle.fee_rates.specs.declared.terms.Load.{Load}
+use Rattle.fee_rates.specs.declared.terms.PaymentLoad.{PaymentLoad}
 use Rattle.output_groups.proofs.Members.{from_map}
 use Rattle.request_text.specs.PlainRequest.{PlainRequest}
 use Rattle.wallet_text.specs.declared.wallet.Watch.{Watch}
@@ -28,7 +28,7 @@ unfolding load_of
 weight_by p true n = refl
 weight_by p false n = refl
 
-worth_at : (p : PlainPlan) (l : Load) (amount : Option ℕ) → l.change_dust ≡ dust_of p.change.script → l.change_weight ≡ p.change.weight → IfSome amount (λ n. change_least_of (rates_of p.request) l ≤ n) → IfSome amount (IsWorthIt p.request p.change)
+worth_at : (p : PlainPlan) (l : PaymentLoad) (amount : Option ℕ) → l.change_dust ≡ dust_of p.change.script → l.change_weight ≡ p.change.weight → IfSome amount (λ n. change_least_of (rates_of p.request) l ≤ n) → IfSome amount (IsWorthIt p.request p.change)
 worth_at p l None dust weight h = tt
 worth_at p l (Some n) dust weight h =
     let spend = ap (input_fee_of p.request.discard) weight in

@@ -6,14 +6,14 @@ use Rattle.closing_log.specs.declared.log.Stage.TheVariants as stage
 use Rattle.closing_log.specs.declared.mark.Mark.{Mark}
 use Rattle.closing_log.specs.declared.mark.Mark.TheVariants as mark
 use Rattle.fee_rates.specs.Terms.{change_fee_of, target_of}
-use Rattle.fee_rates.specs.declared.terms.Load.{Load}
+use Rattle.fee_rates.specs.declared.terms.PaymentLoad.{PaymentLoad}
 use Rattle.fee_rates.specs.declared.terms.Rates.{Rates}
 use Rattle.coin_candidates.specs.declared.candidate.Candidate.{Candidate}
 use Rattle.output_groups.specs.declared.rows.Row.{Row}
 use Rattle.request_text.specs.PlainRequest.{PlainRequest}
 use Rattle.search_run.specs.Found.{PlainFound}
 use Rattle.search_run.specs.Step.{is_drawn}
-use Rattle.fund_steps.specs.Amounts.{fees_of, value_of}
+use Rattle.fund_steps.specs.Amounts.{charges_of, value_of}
 use Rattle.fund_steps.specs.Listed.{burden_in, presets_in}
 use Rattle.fund_steps.specs.Plan.{PlainPlan, ladder_in}
 use Rattle.fund_steps.specs.Selection.{in_order}
@@ -41,19 +41,19 @@ abbrev pub coins_at : PlainPlan → Row → List ℕ → List Candidate
 coins_at p row places = in_order (presets_in p ++ chosen_at p row places)
 
 -- what coins bring beyond the target and the fee of the change output, in satoshi: their value, less the fees of their
--- inputs, less both
-abbrev pub left_with : Rates → Load → List Candidate → ℕ
-left_with x l coins = unsigned_abs (((pos (value_of coins) -ℤ pos (fees_of x.rate coins)) -ℤ target_of x l) -ℤ pos (change_fee_of x l))
+-- inputs and their prices, less both
+abbrev pub left_with : Rates → PaymentLoad → List Candidate → ℕ
+left_with x l coins = unsigned_abs (((pos (value_of coins) -ℤ pos (charges_of x.rate coins)) -ℤ target_of x l) -ℤ pos (change_fee_of x l))
 
-abbrev pub left_of : PlainRequest → Load → List Candidate → ℕ
+abbrev pub left_of : PlainRequest → PaymentLoad → List Candidate → ℕ
 left_of r l coins = left_with (rates_of r) l coins
 
 -- the change: there is none at the stage without change
-abbrev pub change_with : Rates → Load → List Candidate → Stage → Option ℕ
+abbrev pub change_with : Rates → PaymentLoad → List Candidate → Stage → Option ℕ
 change_with x l coins stage.Changeless = None
 change_with x l coins stage = Some (left_with x l coins)
 
-abbrev pub change_by : PlainRequest → Load → List Candidate → Stage → Option ℕ
+abbrev pub change_by : PlainRequest → PaymentLoad → List Candidate → Stage → Option ℕ
 change_by r l coins s = change_with (rates_of r) l coins s
 
 abbrev pub change_at : PlainPlan → Row → Stage → List ℕ → Option ℕ
@@ -84,9 +84,9 @@ abbrev pub funded_at : PlainPlan → Mark → PlainFound → PlainFunded
 funded_at p mark f = funded_in p (row_of p f.row) mark f
 
 -- what the payment of this row is to carry: in row 0 there are the presets alone
-abbrev pub load_by : PlainPlan → Bool → ℕ → Load
+abbrev pub load_by : PlainPlan → Bool → ℕ → PaymentLoad
 load_by p true n = load_of p.request p.change (presets_in p) (burden_in p)
 load_by p false n = load_in p (row_of p n)
 
-abbrev pub load_for : PlainPlan → ℕ → Load
+abbrev pub load_for : PlainPlan → ℕ → PaymentLoad
 load_for p n = load_by p (n == 0) n

@@ -12,7 +12,7 @@ use Rattle.search_run.specs.Answer.{HasNone, IsFirstTaken}
 use Rattle.request_text.specs.PlainRequest.{paid_to}
 use Rattle.request_text.specs.declared.request.Method.TheVariants.{Manual}
 use Rattle.search_run.specs.Found.{IsTaken, PlainFound}
-use Rattle.search_run.specs.Run.{at_hand}
+use Rattle.search_run.specs.Run.{results_in_column}
 use Rattle.search_run.specs.Searched.{AreSectionsOf}
 use Rattle.search_run.specs.Step.{PlainStep}
 use Rattle.fund_steps.specs.Amounts.{value_of}
@@ -86,7 +86,7 @@ pub record IsTakenShort (p : PlainPlan) (n : ℕ) (f : PlainFunded) : Type 0 whe
   pub change : f.change ≡ change_at p (row_of p f.row) f.stage found.places
   pub measure : f.waste ≡ found.waste +ℤ cost_of p.request (presets_in p)
   pub asked : p.request.take ≡ true
-  pub taken : IsTaken (at_hand p.request.seed (stand_after p n) (stand_after p n).left) found
+  pub taken : IsTaken (results_in_column p.request.seed (stand_after p n) (stand_after p n).left) found
   pub used_up : HasTried p n
 
 -- the presets alone pay, and the log has no search
@@ -127,4 +127,4 @@ pub record IsUsedUp (p : PlainPlan) (n : ℕ) : Type 0 where
   pub rest : List PlainStep
   pub left : (stand_after p n).left ≡ step ∷ rest
   pub going : (stand_after p n).walk.done ≡ false
-  pub nothing : (p.request.take ≡ false) ⊎ (at_hand p.request.seed (stand_after p n) (stand_after p n).left ≡ [])
+  pub nothing : (p.request.take ≡ false) ⊎ (results_in_column p.request.seed (stand_after p n) (stand_after p n).left ≡ [])

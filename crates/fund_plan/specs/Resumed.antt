@@ -1,9 +1,11 @@
 -- What is kept of a plan that isn't finished, and going on from it.
-use Rattle.std.specs.Prelude.{ℕ, ◌≡◌, ◌≤◌, List, Option, None, if◌then◌else◌}
+use Rattle.std.specs.Prelude.{ℕ, ◌≡◌, ◌≤◌, List, Option, None, Some, if◌then◌else◌}
+use Rattle.sha2.specs.Sha256.{sha256}
 use Rattle.closing_log.specs.Log.{PlainLog, PlainSection}
+use Rattle.closing_log.specs.LogText.{text_of}
 use Rattle.log_checker.specs.declared.fault.LogFault.{LogFault}
 use Rattle.log_checker.specs.declared.fault.LogFault.TheVariants as logs
-use Rattle.search_keep.specs.Resumed.{IsDue}
+use Rattle.search_keep.specs.Resumed.{MayGoOn}
 use Rattle.search_keep.specs.SavedText.{PlainSaved}
 use Rattle.search_keep.specs.declared.fault.SavedFault.{SavedFault}
 use Rattle.search_keep.specs.declared.fault.SavedFault.TheVariants as saved
@@ -30,10 +32,14 @@ use Rattle.fund_plan.specs.declared.fault.PlanSavedFault.TheVariants as planned
 abbrev pub log_in : PlanState → PlainLog
 log_in s = log_of (is_partial (end_in s)) s.stand
 
--- What is saved of it beside its log, for this job and so many parts of the log: nothing where a result was taken for
--- want of tries, or no step is left.
+-- the digest of its log's text
+abbrev pub log_digest : PlanState → List ℕ
+log_digest s = sha256 (text_of (log_in s))
+
+-- What is saved of it beside its log, for this job and so many parts of the log, with the log's digest: nothing where a
+-- result was taken for want of tries, or no step is left.
 abbrev pub saved_at : List ℕ → ℕ → PlanState → Option PlainSaved
-saved_at job parts s = if is_partial (end_in s) then None else saved_with job parts (saved_of s.stand)
+saved_at job parts s = if is_partial (end_in s) then None else saved_with job parts (Some (log_digest s)) (saved_of s.stand)
 
 -- ---- going on from it
 
@@ -44,7 +50,7 @@ restored_at p s log = record { plan = p; stand = stand_of p.request.seed (steps_
 -- What a plan can go on from: what is saved of this job, which has tries left, and a log whose sections are those of the
 -- plan's searches, with a position and answers that may be there.
 pub record CanRestore (p : PlainPlan) (now : List ℕ) (s : PlainSaved) (log : PlainLog) : Type 0 where
-  pub due : IsDue s now
+  pub due : MayGoOn s now
   pub can : CanGoOn p.request.seed (steps_of p) (saved_in s) log
 
 -- its run stands where one may stand: where it begins, where it goes on from what is kept, and where tries lead from there
@@ -62,18 +68,18 @@ IsRefusedIn p s log e = IsRefusedFor p.request.seed (steps_of p) (saved_in s) lo
 abbrev pub IsSavedFault : PlainPlan → List ℕ → PlainSaved → PlainLog → SavedFault → Type 0
 IsSavedFault p now s log (saved.JobElse kept given) = (kept ≡ s.job) × (given ≡ now) × (s.job ≡ now → ⊥)
 IsSavedFault p now s log saved.Spent = (s.job ≡ now) × (10_000_000 ≤ s.tries)
-IsSavedFault p now s log saved.IllFormed = IsDue s now × IsRefusedIn p s log refused.IllFormed
+IsSavedFault p now s log saved.IllFormed = MayGoOn s now × IsRefusedIn p s log refused.IllFormed
 IsSavedFault p now s log saved.Memory = ⊥
 IsSavedFault p now s log (saved.Form place) = ⊥
 
 -- the job is due, no section is wrong, the position is right, and the answer at this index, the first one, isn't admissible
 abbrev pub IsAnswerFault : PlainPlan → List ℕ → PlainSaved → PlainLog → ℕ → LogFault → Type 0
-IsAnswerFault p now s log i logs.AnswerNotAdmissible = IsDue s now × IsRefusedIn p s log (refused.Answer i)
+IsAnswerFault p now s log i logs.AnswerNotAdmissible = MayGoOn s now × IsRefusedIn p s log (refused.Answer i)
 IsAnswerFault p now s log i _ = ⊥
 
 -- the job is due, and the section at this index is wrong; or such an answer
 abbrev pub IsFalseAt : PlainPlan → List ℕ → PlainSaved → PlainLog → CheckAt → Type 0
-IsFalseAt p now s log (check.Section i) = IsDue s now × IsRefusedIn p s log (refused.Section i)
+IsFalseAt p now s log (check.Section i) = MayGoOn s now × IsRefusedIn p s log (refused.Section i)
 IsFalseAt p now s log (check.Log i f) = IsAnswerFault p now s log i f
 IsFalseAt p now s log check.Memory = ⊥
 

@@ -1,7 +1,7 @@
 -- What a plan searches for: its rows with their pools, and its steps.
 use Rattle.std.specs.Prelude.{Bool, List}
 use Rattle.closing_log.specs.declared.log.Stage.{Stage}
-use Rattle.fee_rates.specs.declared.terms.Load.{Load}
+use Rattle.fee_rates.specs.declared.terms.PaymentLoad.{PaymentLoad}
 use Rattle.fee_rates.specs.declared.terms.Terms.{Terms}
 use Rattle.output_groups.specs.PlainGroups.{PlainGroups}
 use Rattle.output_groups.specs.PlainPool.{PlainPool}
@@ -23,7 +23,7 @@ abbrev pub pool_in : PlainPlan → Row → PlainPool
 pool_in p row = (row_in (basis_of p) row).pool
 
 -- what a payment from the presets and from coins of a row is to carry, and its terms
-abbrev pub load_in : PlainPlan → Row → Load
+abbrev pub load_in : PlainPlan → Row → PaymentLoad
 load_in p row = load_by (basis_of p) (row_in (basis_of p) row)
 
 abbrev pub terms_in : PlainPlan → Row → Terms

@@ -5,7 +5,7 @@ use Rattle.coin_candidates.specs.declared.candidate.Candidate.{Candidate}
 use Rattle.tx_codec.specs.declared.tx.TxIn.{TxIn}
 use Rattle.tx_codec.specs.TransactionText.{input_text, stack_text}
 use Rattle.tx_codec.specs.Weight.{weight_of as text_weight}
-use Rattle.fee_rates.specs.declared.terms.Load.{Load}
+use Rattle.fee_rates.specs.declared.terms.PaymentLoad.{PaymentLoad}
 use Rattle.request_text.specs.PlainRequest.{PlainRequest}
 use Rattle.wallet_text.specs.declared.wallet.Watch.{Watch}
 use Rattle.fund_steps.specs.Amounts.{weight_of}
@@ -18,7 +18,7 @@ signed_weight r change coins amount = text_weight (payment_from r change coins a
 
 -- what is kept for the number of inputs and not needed: 8 weight units where more than 252 coins are at hand, and no more
 -- than 252 are spent
-abbrev pub room_of : Load → List Candidate → ℕ
+abbrev pub room_of : PaymentLoad → List Candidate → ℕ
 room_of l coins = 4 * ((if nat_le l.coins 252 then 1 else 3) - (if nat_le (length coins) 252 then 1 else 3))
 
 -- The weight is that with this room. Without change it may be up to 8 weight units more, for the number of outputs leaves

@@ -21,7 +21,7 @@ pub struct Figures {
     pub vsize: u64,
     /// What its inputs are worth less what its outputs take, in satoshi.
     pub fee: u64,
-    /// What it costs to spend its coins now and not in the long run, and beside it the fee of making and of spending the
+    /// What it costs to spend its coins now and not in the long run, their prices with it, and beside it the fee of making and of spending the
     /// change or, where there is none, what the coins bring beyond what is needed; in satoshi.
     pub waste: i128,
 }

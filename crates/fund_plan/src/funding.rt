@@ -26,9 +26,9 @@ use crate::outcome::{Funded, Outcome, Place};
 use crate::worth::{change, declared_weight, waste};
 use closing_log::{Mark, Stage};
 use coin_candidates::Candidate;
-use fee_rates::{Load, Terms};
+use fee_rates::{PaymentLoad, Terms};
 use fund_base::Memory;
-use fund_steps::{Funds, Presets, presets_alone};
+use fund_steps::{PlanBasis, Presets, presets_alone};
 use output_groups::{Groups, PoolFault, Row, RowItems, ladder};
 use request_text::Request;
 use search_run::{End, Found};
@@ -65,13 +65,13 @@ impl Choice {
 /// What the payments of a plan are made from. It is seen as the plan: the request, the script that its change is paid to,
 /// the candidates, and what it is given where it replaces a payment.
 #[derive(Drop)]
-pub struct Funding {
+pub struct PaymentMaker {
     alloc: Global,
-    funds: Funds,
+    funds: PlanBasis,
     choice: Choice,
 }
 
-impl Model for Funding {
+impl Model for PaymentMaker {
     ghost use Rattle.std.specs.Prelude.{◌≡◌};
     ghost use Rattle.fund_steps.specs.Plan.{PlainPlan};
     ghost use Rattle.fund_plan.specs.Kept.{choice_of};
@@ -83,13 +83,13 @@ impl Model for Funding {
     ghost invariant = { λ f. f.choice ≡ choice_of f.funds.request };
 }
 
-impl Funding {
+impl PaymentMaker {
     /// The payments of these funds, which were made from this request.
-    pub fn new(alloc: Global, request: &Request, funds: Funds) -> Funding
+    pub fn new(alloc: Global, request: &Request, funds: PlanBasis) -> PaymentMaker
         requires { funds.request ≡ request.now }
         ensures { result ≡ funds }
     {
-        Funding {
+        PaymentMaker {
             alloc,
             funds,
             choice: Choice::of(request),
@@ -154,7 +154,7 @@ impl Funding {
 
     /// What a payment from the given coins and from those of a pool is to carry, by how many coins each of its groups has:
     /// all of them count.
-    fn load(&self, sizes: &[u8]) -> Load
+    fn load(&self, sizes: &[u8]) -> PaymentLoad
         requires few { length sizes.now ≤ 10_000 }
         requires each { All (λ n. n ≤ 100) sizes.now }
         ensures value { result ≡ load_with (load_alone (basis_of self.now)) (sum sizes.now) }
@@ -163,14 +163,14 @@ impl Funding {
     {
         let load = self.funds.load();
         let _ = self.funds.presets();
-        Load {
+        PaymentLoad {
             coins: load.coins + at_hand(sizes),
             ..load
         }
     }
 
     /// What a payment from the given coins and from those of a row is to carry, by the groups. The error is out of memory.
-    fn load_by(&self, groups: &Groups, row: &Row) -> Result<Load, Memory>
+    fn load_by(&self, groups: &Groups, row: &Row) -> Result<PaymentLoad, Memory>
         requires groups { groups.now ≡ groups_of self.now }
         requires roomy { IsRoomy self.now row.now }
         ensures value { IfOk result (λ l. l ≡ load_in self.now row.now) }
@@ -182,14 +182,14 @@ impl Funding {
     }
 
     /// What its payments are made from.
-    pub fn funds(&self) -> &Funds
+    pub fn funds(&self) -> &PlanBasis
         ensures { result.now ≡ self.now }
     {
         &self.funds
     }
 
     /// What a payment from the given coins and from those of a row of the ladder is to carry. The error is out of memory.
-    pub fn load_at(&self, row: &Row) -> Result<Load, Memory>
+    pub fn load_at(&self, row: &Row) -> Result<PaymentLoad, Memory>
         requires roomy { IsRoomy self.now row.now }
         ensures value { IfOk result (λ l. l ≡ load_in self.now row.now) }
         ensures fits { IfOk result IsLoad }
@@ -205,7 +205,7 @@ impl Funding {
         &self,
         mark: Mark,
         place: Place,
-        load: &Load,
+        load: &PaymentLoad,
         coins: Vec<Candidate>,
         change: Option<u64>,
     ) -> Funded

@@ -6,7 +6,7 @@ ghost use Rattle.search_keep.specs.SavedText.{CanBeSaved, PlainSaved};
 ghost use Rattle.search_run.specs.Step.{AreSteps};
 ghost use Rattle.fund_steps.specs.Plan.{PlainPlan};
 ghost use Rattle.fund_plan.specs.Outcome.{IsAnswerOf, most_tries, stand_after};
-ghost use Rattle.fund_plan.specs.Resumed.{AreAccepted, CanRestore, IsCheckFault, IsNotRestored, IsStandOf, log_in, restored_at, saved_at};
+ghost use Rattle.fund_plan.specs.Resumed.{AreAccepted, CanRestore, IsCheckFault, IsNotRestored, IsStandOf, log_digest, log_in, restored_at, saved_at};
 ghost use Rattle.fund_plan.specs.State.{PlanState, moved, told};
 ghost use Rattle.fund_plan.specs.Steps.{steps_of};
 ghost use Rattle.fund_plan.specs.declared.fault.CheckAt.{CheckAt};
@@ -19,6 +19,12 @@ ghost use Rattle.fund_plan.specs.declared.outcome.Outcome.{Outcome};
 pub fn unfinished_plans_are_saved()
     ensures { (s : PlanState) (job : List ℕ) (parts : ℕ) →
         (told s ≡ Outcome.Unfinished ↔ ((saved : PlainSaved) × (saved_at job parts s ≡ Some saved))) }
+{}
+
+/// The law of the digest that is saved: it is that of the log's text, and there always is one, so that what is saved is
+/// written as a text of the second version. A call does nothing.
+pub fn saved_plans_have_their_digest()
+    ensures { (s : PlanState) (job : List ℕ) (parts : ℕ) (saved : PlainSaved) → saved_at job parts s ≡ Some saved → saved.log ≡ Some (log_digest s) }
 {}
 
 /// The law of kept plans: what is saved of an unfinished one, with its log, is accepted for the same job while tries are

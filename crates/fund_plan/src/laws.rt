@@ -16,7 +16,7 @@ ghost use Rattle.search_run.specs.Found.{IsResultOf, PlainFound};
 ghost use Rattle.search_run.specs.Kept.{log_of};
 ghost use Rattle.search_run.specs.Step.{AreSteps, PlainStep};
 ghost use Rattle.wallet_text.specs.declared.wallet.Watch.{Watch};
-ghost use Rattle.fund_steps.specs.Amounts.{value_of, weight_of as coins_weight};
+ghost use Rattle.fund_steps.specs.Amounts.{prices_of, value_of, weight_of as coins_weight};
 ghost use Rattle.fund_steps.specs.Listed.{MaySpend, burden_in, presets_in};
 ghost use Rattle.fund_steps.specs.Plan.{IsEligible, IsPlan, PlainBump, PlainPlan};
 ghost use Rattle.fund_steps.specs.Terms.{load_of};
@@ -77,18 +77,20 @@ pub fn payments_spend_eligible_coins()
     ensures plain { (p : PlainPlan) (f : PlainFunded) → p.bump ≡ None → IsPlan p → IsPayment p f → All (IsEligible p) f.coins }
 {}
 
-/// The law of replacements: beside the fee of its declared weight a payment pays its plan's burden. It weighs no less than
+/// The law of replacements: beside the fee of its declared weight a payment pays its plan's burden and the prices of its
+/// coins. It weighs no less than
 /// the base and the inputs of the presets alone. And it spends each coin that the replaced payment spends (BIP 125,
 /// 'Implementation Details', rules 3 and 4). A call does nothing.
 pub fn payments_pay_the_burden()
     ensures fee { (p : PlainPlan) (f : PlainFunded) → IsPayment p f →
-        outputs_of p.request f.change + burden_in p + fee_of p.request.rate (vsize_of f.weight) ≤ value_of f.coins }
+        outputs_of p.request f.change + burden_in p + prices_of f.coins + fee_of p.request.rate (vsize_of f.weight) ≤ value_of f.coins }
     ensures weight { (p : PlainPlan) (f : PlainFunded) → IsPlan p → IsPayment p f →
         base_of (load_of p.request p.change (presets_in p) (burden_in p)) + coins_weight (presets_in p) ≤ f.weight }
     ensures coins { (p : PlainPlan) (b : PlainBump) (f : PlainFunded) → p.bump ≡ Some b → IsPlan p → IsPayment p f → All (Contains f.coins) b.presets }
 {}
 
-/// The law of figures: a payment's money goes to the outputs and the fee, and the fee is no less than that of the rate.
+/// The law of figures: a payment's money goes to the outputs and the fee, and the fee is no less than that of the rate and the
+/// prices of the coins together.
 /// The waste is what the fee is above what the base and, in the long run, the inputs cost, and what the change's
 /// spending costs. A call does nothing.
 pub fn figures_add_up()

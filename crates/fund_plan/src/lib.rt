@@ -16,10 +16,10 @@ mod worth;
 
 pub use fault::{CheckAt, PlanSavedFault};
 pub use figures::Figures;
-pub use funding::Funding;
+pub use funding::PaymentMaker;
 pub use keeping::{
     kept_faults_have_one_cause, kept_plans_are_accepted, restored_plans_go_on,
-    unfinished_plans_are_saved, verified_plans_have_the_answer,
+    saved_plans_have_their_digest, unfinished_plans_are_saved, verified_plans_have_the_answer,
 };
 pub use laws::{
     answers_once, change_is_worth_making, ended_plans_have_the_answer, figures_add_up,

@@ -3,7 +3,7 @@
 ghost use Rattle.std.specs.Prelude.{◌≡◌, ◌-◌, ◌↔◌, ◌≤◌, min, All, Err, IfErr, IfOk, OnErr, OnOk, None};
 ghost use Rattle.coin_candidates.specs.Candidates.{AreCandidates};
 ghost use Rattle.wallet_text.specs.WalletRules.{IsWatch};
-ghost use Rattle.fund_steps.specs.Plan.{HasEligible, IsBumpFor, IsFault, IsPlan, IsRoomy, IsWithin, ladder_in};
+ghost use Rattle.fund_steps.specs.Plan.{HasEligible, IsBumpFor, IsPlanFault, IsPlan, IsRoomy, IsWithin, ladder_in};
 ghost use Rattle.fund_plan.specs.Answer.{ArePayments, HasSelection};
 ghost use Rattle.search_keep.specs.declared.fault.SavedFault.TheVariants as saved_fault;
 ghost use Rattle.search_run.specs.Kept.{log_of};
@@ -18,12 +18,12 @@ ghost use Rattle.fund_plan.specs.declared.fault.CheckAt.TheVariants as check;
 ghost use Rattle.fund_plan.specs.declared.fault.PlanSavedFault.TheVariants as planned;
 
 use crate::fault::{CheckAt, PlanSavedFault};
-use crate::funding::Funding;
+use crate::funding::PaymentMaker;
 use crate::outcome::{Outcome, Place};
-use closing_log::{LogText, Mark};
+use closing_log::{LogText, Mark, text_digest};
 use coin_candidates::Candidate;
-use fund_base::Memory;
-use fund_steps::{BumpInput, Funds, PlanFault, Prepared};
+use fund_base::{MOST_TRIES, Memory};
+use fund_steps::{BumpInput, PlanBasis, PlanFault, Prepared};
 use request_text::Request;
 use search_keep::{Saved, SavedFault};
 use search_run::{End, Found, SearchRun};
@@ -31,14 +31,11 @@ use std::alloc::Global;
 use std::marker::Model;
 use wallet_text::Watch;
 
-/// The greatest number of tries that all runs of a plan make together.
-const MOST_TRIES: u64 = 10_000_000;
-
 /// How a request is funded: what it was made from is a request, the script that its change is paid to, the candidates,
 /// which are the coins that may be spent, and what it is given where it replaces a payment. It keeps the rules that
 /// [`Plan::keeps_rules`] states. It searches row by row, and stands where its tries led.
 pub struct Plan {
-    funding: Funding,
+    funding: PaymentMaker,
     run: SearchRun,
     partial: Option<Found>,
 }
@@ -126,11 +123,11 @@ impl Plan {
         ensures within { IfOk result (λ s. IsWithin s.plan) }
         ensures eligible { IfOk result (λ s. All (HasEligible s.plan) s.plan.request.coins) }
         ensures roomy { IfOk result (λ s. All (IsRoomy s.plan) (ladder_in s.plan)) }
-        ensures fault { IfErr result (IsFault (record { request = request.now; change = change.now; candidates = candidates.items; bump = bump })) }
+        ensures fault { IfErr result (IsPlanFault (record { request = request.now; change = change.now; candidates = candidates.items; bump = bump })) }
     {
-        let Prepared { funds, steps } = Funds::new(alloc, request, change, candidates, bump)?;
+        let Prepared { funds, steps } = PlanBasis::new(alloc, request, change, candidates, bump)?;
         let run = SearchRun::new(alloc, request.seed, steps);
-        let funding = Funding::new(alloc, request, funds);
+        let funding = PaymentMaker::new(alloc, request, funds);
         Ok(Plan {
             funding,
             run,
@@ -226,16 +223,17 @@ impl Plan {
         Ok(log)
     }
 
-    /// What is saved of it beside its log, for this job and so many parts of the log; `None` exactly where it isn't
-    /// unfinished: a result was taken for want of tries, or its run has come to its end. After an Ok of `go` a plan can go
-    /// on from it. The error is out of memory.
+    /// What is saved of it beside its log, for this job and so many parts of the log, with the SHA-256 of the log's text;
+    /// `None` exactly where it isn't unfinished: a result was taken for want of tries, or its run has come to its end. After
+    /// an Ok of `go` a plan can go on from it. The error is out of memory.
     pub fn saved(&self, job: [u8; 32], parts: u32) -> Result<Option<Saved>, Memory>
         ensures { IfOk result (λ saved. saved ≡ saved_at job parts self.now) }
     {
         if self.is_partial()? {
             return Ok(None);
         }
-        let saved = self.run.saved(job, parts)?;
+        let log = self.log()?;
+        let saved = self.run.saved(job, parts, Some(text_digest(&log)))?;
         Ok(saved)
     }
 

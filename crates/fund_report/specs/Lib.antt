@@ -2,4 +2,4 @@ pub mod NextWord
 pub mod PlainFunded
 pub mod Reading
 pub mod ReportText
-pub mod Told
+pub mod Reported

@@ -5,7 +5,7 @@ use Rattle.std.specs.Fmt.{decimal, signed_decimal}
 use Rattle.hex.specs.Hex.{encode_lower}
 use Rattle.closing_log.specs.declared.log.Stage.{Stage}
 use Rattle.closing_log.specs.declared.log.Stage.TheVariants.{Wide}
-use Rattle.closing_log.specs.LogText.{IsBehind, IsDigest, stage_word}
+use Rattle.closing_log.specs.LogText.{AreJoined, IsDigest, stage_word}
 use Rattle.closing_log.specs.MarkWord.{mark_word}
 use Rattle.fund_report.specs.declared.report.InLine.{InLine}
 use Rattle.fund_report.specs.declared.report.Report.{Report}
@@ -136,7 +136,7 @@ pub record IsInLine (text : List ℕ) (l : InLine) : Type 0 where
 -- lines of coins, one after the other
 abbrev pub AreInLines : List InLine → List ℕ → Type 0
 AreInLines [] text = text ≡ []
-AreInLines (l ∷ ls) text = IsBehind (λ front. IsInLine front l) (AreInLines ls) text
+AreInLines (l ∷ ls) text = AreJoined (λ front. IsInLine front l) (AreInLines ls) text
 
 pub record IsFundedText (bytes : List ℕ) (f : PlainFunded) : Type 0 where
   pub coins : List ℕ

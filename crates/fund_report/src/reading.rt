@@ -1,13 +1,14 @@
 //! A report read back from its text.
 
-ghost use Rattle.std.specs.Prelude.{◌≡◌, ◌-◌, length, IfErr, IfOk, MatchResult};
+ghost use Rattle.std.specs.Prelude.{◌≡◌, ◌-◌, length, Err, IfErr, IfOk, IsOk, MatchResult};
+ghost use Rattle.closing_log.specs.declared.fault.LineFault.TheVariants.{Memory as OutOfMemory};
 ghost use Rattle.closing_log.specs.Gives.{Gives, Reads};
 ghost use Rattle.closing_log.specs.Reading.{both_at, made_at};
 ghost use Rattle.fund_report.specs.declared.fault.ReportFault.TheVariants as faults;
 ghost use Rattle.fund_report.specs.declared.report.Report.{Report};
-ghost use Rattle.fund_report.specs.Reading.{coins_line, figures_at, funded_at, lines_at, none_at, others_at, paid_at, report_at, row_line, stage_line, tries_line, unfinished_at, unfinished_of};
+ghost use Rattle.fund_report.specs.Reading.{coins_line, figures_at, funded_at, lines_at, none_at, others_at, paid_at, report_at, row_line, stage_line, start_at, tries_line, unfinished_at, unfinished_of};
 ghost use Rattle.fund_report.specs.ReportText.{IsReportText};
-ghost use Rattle.fund_report.specs.Told.{IsFault, Tells};
+ghost use Rattle.fund_report.specs.Reported.{IsReportFault, Agrees};
 
 use crate::amounts::read_figures_paid;
 use crate::fault::ReportFault;
@@ -34,7 +35,8 @@ fn read_from_coins(
 
 /// The lines of a payment.
 fn read_funded(alloc: Global, bytes: &[u8]) -> Result<(Report, &[u8]), LineFault<'_>>
-    ensures { Gives (λ x. (x.0, x.1.now)) result (funded_at bytes.now) }
+    ensures gives { Gives (λ x. (x.0, x.1.now)) result (funded_at bytes.now) }
+    ensures short { result ≡ Err OutOfMemory → IsOk (start_at bytes.now) }
 {
     let (start, rest) = read_start(bytes)?;
     let ((coins, (figures, (change, text))), rest) = match read_from_coins(alloc, rest) {
@@ -110,7 +112,8 @@ fn read_others(bytes: &[u8]) -> Result<(Report, &[u8]), &[u8]>
 /// The lines of a report.
 #[tactic(auto, unfolding(closing_log::specs::Lines::either_at))]
 fn read_lines(alloc: Global, bytes: &[u8]) -> Result<(Report, &[u8]), LineFault<'_>>
-    ensures { Gives (λ x. (x.0, x.1.now)) result (lines_at bytes.now) }
+    ensures gives { Gives (λ x. (x.0, x.1.now)) result (lines_at bytes.now) }
+    ensures short { result ≡ Err OutOfMemory → IsOk (start_at bytes.now) }
 {
     match bytes {
         [] => Err(LineFault::Form(bytes)),
@@ -132,7 +135,8 @@ fn form(whole: &[u8], stop: &[u8]) -> ReportFault
 /// The report of the bytes, read line by line.
 #[tactic(auto, using(crate::proofs::ToldLaws::tell_lines, crate::proofs::ToldLaws::tell_end))]
 fn read_whole(alloc: Global, bytes: &[u8]) -> Result<Report, ReportFault>
-    ensures { Tells bytes.now result (report_at bytes.now) }
+    ensures agrees { Agrees bytes.now result (report_at bytes.now) }
+    ensures short { result ≡ Err faults.Memory → IsOk (start_at bytes.now) }
 {
     let (report, rest) = match read_lines(alloc, bytes) {
         Ok(read) => read,
@@ -155,7 +159,10 @@ pub fn read_report(alloc: Global, bytes: &[u8]) -> Result<Report, ReportFault>
     ensures only { (report : Report) → IsReportText bytes.now report → MatchResult result (λ read. read ≡ report) (λ e. e ≡ faults.Memory) }
 
     // Where else they leave the texts.
-    ensures fault { IfErr result (IsFault bytes.now) }
+    ensures fault { IfErr result (IsReportFault bytes.now) }
+
+    // It runs out of memory only where the lines of a payment stand up to that of the tries.
+    ensures short { result ≡ Err faults.Memory → IsOk (start_at bytes.now) }
 {
     read_whole(alloc, bytes)
 }

@@ -20,14 +20,14 @@ use Rattle.search_run.proofs.RunLaws.{all_tries}
 use Rattle.search_run.specs.Found.{PlainFound, taken}
 use Rattle.search_run.specs.Judged.{saved_in}
 use Rattle.search_run.specs.Kept.{stand_of}
-use Rattle.search_run.specs.Run.{Stand, at_hand, end_by, or_unfinished}
+use Rattle.search_run.specs.Run.{Stand, results_in_column, end_by, or_unfinished}
 use Rattle.search_run.specs.Step.{AreSteps, PlainStep}
 use Rattle.search_run.specs.declared.ending.End.{End}
 use Rattle.search_run.specs.declared.ending.End.TheVariants as ends
-use Rattle.kept_job.specs.Gone.{IsSettled, IsUsedUpOn}
+use Rattle.kept_job.specs.Continued.{IsSettled, IsUsedUpOn}
 
 -- nothing is taken where it isn't asked for, or nothing is at hand
-untaken : (p : PlainPlan) (s : Stand) → end_at p s ≡ ends.Unfinished → (p.request.take ≡ false) ⊎ (at_hand p.request.seed s s.left ≡ [])
+untaken : (p : PlainPlan) (s : Stand) → end_at p s ≡ ends.Unfinished → (p.request.take ≡ false) ⊎ (results_in_column p.request.seed s s.left ≡ [])
 untaken p s e = by s.left e
   where
     by_asked : (b : Bool) (found : List PlainFound) → cond b (or_unfinished (taken found)) ends.Unfinished ≡ ends.Unfinished → (b ≡ false) ⊎ (taken found ≡ None)
@@ -38,12 +38,12 @@ untaken p s e = by s.left e
         by_found None e = refl
         by_found (Some g) e = absurd (cc)
 
-    by : (left : List PlainStep) → end_by p.request.take p.request.seed s left ≡ ends.Unfinished → (p.request.take ≡ false) ⊎ (at_hand p.request.seed s left ≡ [])
+    by : (left : List PlainStep) → end_by p.request.take p.request.seed s left ≡ ends.Unfinished → (p.request.take ≡ false) ⊎ (results_in_column p.request.seed s left ≡ [])
     by [] e = absurd (cc)
     by (x ∷ rest) e =
-        elim (by_asked p.request.take (at_hand p.request.seed s (x ∷ rest)) e) [
+        elim (by_asked p.request.take (results_in_column p.request.seed s (x ∷ rest)) e) [
           | inl unasked ↦ inl unasked
-          | inr none ↦ inr (none_taken (at_hand p.request.seed s (x ∷ rest)) none)
+          | inr none ↦ inr (none_taken (results_in_column p.request.seed s (x ∷ rest)) none)
         ]
 
 module _ (p : PlainPlan) (now : List ℕ) (saved : PlainSaved) (log : PlainLog) (m : ℕ) where

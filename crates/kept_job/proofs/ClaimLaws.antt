@@ -34,12 +34,12 @@ use Rattle.search_run.specs.Found.{IsResultOf, PlainFound, taken}
 use Rattle.search_run.specs.Judged.{saved_in}
 use Rattle.search_run.specs.Kept.{Along, At, CanGoOn, IsAcceptedAt, IsBestAt, IsOpenAt, answered, at_end, comes_to, first_search, is_over, log_of, stand_of, tail_of, to_search}
 use Rattle.search_run.specs.Kept as run
-use Rattle.search_run.specs.Run.{Stand, at_hand, end_by, or_unfinished}
+use Rattle.search_run.specs.Run.{Stand, results_in_column, end_by, or_unfinished}
 use Rattle.search_run.specs.Stands.{IsEndOf, IsKeptAt, IsMadeAt, IsStand}
 use Rattle.search_run.specs.Step.{AreSteps, PlainStep, is_drawn}
 use Rattle.search_run.specs.declared.ending.End.{End}
 use Rattle.search_run.specs.declared.ending.End.TheVariants as ends
-use Rattle.kept_job.specs.Gone.{ClaimsNoneOn, ClaimsOn, IsSettled, IsTakenOn}
+use Rattle.kept_job.specs.Continued.{ClaimsNoneOn, ClaimsOn, IsSettled, IsTakenOn}
 
 -- ---- the sections of a log that is accepted
 
@@ -174,7 +174,7 @@ record IsShort (p : PlainPlan) (s : Stand) (f : PlainFound) : Type 0 where
   step : PlainStep
   rest : List PlainStep
   left : s.left ≡ step ∷ rest
-  taken_is : taken (at_hand p.request.seed s s.left) ≡ Some f
+  taken_is : taken (results_in_column p.request.seed s s.left) ≡ Some f
 
 record IsAsked (b : Bool) (found : Option PlainFound) (f : PlainFound) : Type 0 where
   asked : b ≡ true
@@ -191,13 +191,13 @@ short_so p s f e = by s.left refl e
     by : (left : List PlainStep) → s.left ≡ left → end_by p.request.take p.request.seed s left ≡ ends.Partial f → IsShort p s f
     by [] is e = absurd (cc)
     by (x ∷ rest) is e =
-        let k = asked_by p.request.take (taken (at_hand p.request.seed s (x ∷ rest))) f e in
+        let k = asked_by p.request.take (taken (results_in_column p.request.seed s (x ∷ rest))) f e in
         record {
           asked = k.asked;
           step = x;
           rest = rest;
           left = is;
-          taken_is = ap (λ (left : List PlainStep). taken (at_hand p.request.seed s left)) is ∙ k.found_is;
+          taken_is = ap (λ (left : List PlainStep). taken (results_in_column p.request.seed s left)) is ∙ k.found_is;
         }
 
 is_given_by : (p : PlainPlan) (f : PlainFunded) (b : Bool) → is_given p ≡ b → cond b (given_of p) answers.NoSelection ≡ answers.Funded f → is_given p ≡ true
@@ -239,7 +239,7 @@ module _ (p : PlainPlan) (now : List ℕ) (saved : PlainSaved) (log : PlainLog) 
         change = refl;
         measure = waste_measured p mark.Partial g rules result;
         asked = k.asked;
-        taken = is_taken (at_hand p.request.seed x x.left) g k.taken_is;
+        taken = is_taken (results_in_column p.request.seed x x.left) g k.taken_is;
         used_up = record { made = tried.tries; step = k.step; rest = k.rest; left = k.left; going = tried.going };
       }
 

@@ -4,6 +4,8 @@ use Rattle.std.proofs.Common.{◌≡◌, ◌∙◌, ℕ, List, length, take, Opt
 use Rattle.std.specs.Prelude.{◌⊎◌, ◌≢◌}
 use Rattle.std.proofs.Common.{take_all}
 use Rattle.std.proofs.lemmas.Option.{same_Some}
+use Rattle.sha2.specs.Sha256.{sha256}
+use Rattle.closing_log.proofs.FirstFaults.{one_place}
 use Rattle.closing_log.proofs.LogLaws.{one_log}
 use Rattle.closing_log.proofs.WrittenLaws as log_laws
 use Rattle.closing_log.specs.Log.{PlainLog}
@@ -23,12 +25,12 @@ use Rattle.fund_plan.specs.declared.outcome.Outcome.{Outcome}
 use Rattle.fund_steps.specs.Plan.{PlainPlan}
 use Rattle.log_checker.specs.declared.fault.LogFault.{LogFault}
 use Rattle.search_keep.proofs.ToldLaws.{one_saved}
-use Rattle.search_keep.proofs.WrittenLaws as saved_laws
 use Rattle.search_keep.specs.SavedText.{IsSavedText, PlainSaved}
 use Rattle.search_keep.specs.declared.fault.SavedFault.TheVariants as saved_faults
+use Rattle.kept_job.proofs.SameLaws.{kept_as}
 use Rattle.kept_job.specs.Faults.{of_check, of_plan}
-use Rattle.kept_job.specs.Gone.{HasGoneOn, IsSettled}
-use Rattle.kept_job.specs.Jobs.{HasDue, HasParts, HasSaved, IsLoaded, joined}
+use Rattle.kept_job.specs.Continued.{HasContinued, IsSettled}
+use Rattle.kept_job.specs.Jobs.{HasDue, HasParts, HasSaved, IsLoaded, IsOfLog, joined}
 use Rattle.kept_job.specs.Refused.{AreTooLong, HasNoForm, IsElse, IsFoundOut, IsNoLog, IsNotGoneOn, IsNotResumed, IsOfJob, IsSpent, LacksPart}
 use Rattle.kept_job.specs.declared.fault.KeptFault.{KeptFault}
 use Rattle.kept_job.specs.declared.fault.KeptFault.TheVariants as faults
@@ -55,15 +57,26 @@ record IsLong (o : Option KeptJob) (count : ℕ) (e : KeptFault) : Type 0 where
   fault : e ≡ faults.LongLog
   long : AreTooLong o count
 
-record IsUnread (o : Option KeptJob) (count : ℕ) (e : KeptFault) : Type 0 where
+record IsChanged (o : Option KeptJob) (saved : PlainSaved) (e : KeptFault) : Type 0 where
+  kept : List ℕ
+  given : List ℕ
+  bytes : List ℕ
+  fault : e ≡ faults.Parts kept given
+  parts : HasParts o saved.parts bytes
+  kept_is : saved.log ≡ Some kept
+  given_is : given ≡ sha256 bytes
+  other : kept ≡ given → ⊥
+
+record IsUnread (o : Option KeptJob) (saved : PlainSaved) (e : KeptFault) : Type 0 where
   bytes : List ℕ
   index : ℕ
   fault : e ≡ faults.Section index
-  parts : HasParts o count bytes
+  parts : HasParts o saved.parts bytes
+  digest : IsOfLog saved (sha256 bytes)
   nothing : IsNoLog bytes index
 
-abbrev IsUnjoined : Option KeptJob → ℕ → KeptFault → Type 0
-IsUnjoined o count e = ((number : ℕ) × IsPartial o count number e) ⊎ (IsLong o count e ⊎ IsUnread o count e)
+abbrev IsUnjoined : Option KeptJob → PlainSaved → KeptFault → Type 0
+IsUnjoined o saved e = ((number : ℕ) × IsPartial o saved.parts number e) ⊎ (IsLong o saved.parts e ⊎ (IsChanged o saved e ⊎ IsUnread o saved e))
 
 -- the plan doesn't go on
 record IsUnrestored (p : PlainPlan) (now : List ℕ) (o : Option KeptJob) (e : KeptFault) : Type 0 where
@@ -85,7 +98,7 @@ data Refusal (p : PlainPlan) (now : List ℕ) (o : Option KeptJob) (m : ℕ) (e 
   AtForm : (place : ℕ) → e ≡ faults.Form place → HasNoForm o place → Refusal p now o m e
   AtJob : (kept given : List ℕ) → e ≡ faults.JobElse kept given → IsElse now o kept given → Refusal p now o m e
   AtTries : e ≡ faults.Spent → IsSpent now o → Refusal p now o m e
-  AtParts : (saved : PlainSaved) → HasDue now o saved → IsUnjoined o saved.parts e → Refusal p now o m e
+  AtParts : (saved : PlainSaved) → HasDue now o saved → IsUnjoined o saved e → Refusal p now o m e
   AtPlan : IsUnrestored p now o e → Refusal p now o m e
   AtEnd : IsFalse p now o m e → Refusal p now o m e
 
@@ -96,7 +109,9 @@ refusal p now o m (faults.JobElse kept given) own h = AtJob kept given refl h
 refusal p now o m faults.Spent own h = AtTries refl h
 refusal p now o m (faults.Part number) own h = AtParts h.0 h.1 (inl (number, record { fault = refl; lacks = h.2 }))
 refusal p now o m faults.LongLog own h = AtParts h.0 h.1 (inr (inl (record { fault = refl; long = h.2 })))
-refusal p now o m (faults.Section i) own (inl h) = AtParts h.0 h.2 (inr (inr (record { bytes = h.1; index = i; fault = refl; parts = h.3; nothing = h.4 })))
+refusal p now o m (faults.Parts kept given) own h =
+    AtParts h.saved h.due (inr (inr (inl (record { kept = kept; given = given; bytes = h.bytes; fault = refl; parts = h.parts; kept_is = h.kept_is; given_is = h.given_is; other = h.other }))))
+refusal p now o m (faults.Section i) own (inl h) = AtParts h.0 h.2 (inr (inr (inr (record { bytes = h.1; index = i; fault = refl; parts = h.3; digest = h.4; nothing = h.5 }))))
 refusal p now o m (faults.Section i) own (inr h) = AtPlan (record { cause = planned.False (check.Section i); some = λ x. absurd cc; fault = refl; is = h })
 refusal p now o m faults.IllFormed own h = AtPlan (record { cause = planned.Saved saved_faults.IllFormed; some = λ x. absurd cc; fault = refl; is = h })
 refusal p now o m (faults.Log i f) own (inl h) = AtPlan (record { cause = planned.False (check.Log i f); some = λ x. absurd cc; fault = refl; is = h })
@@ -133,19 +148,26 @@ module _ (now : List ℕ) (o : Option KeptJob) where
   no_log_not : (count : ℕ) (bytes other : List ℕ) (log : PlainLog) (index : ℕ) → IsNoLog bytes index → HasParts o count bytes → HasParts o count other → IsLogText other log → ⊥
   no_log_not count bytes other log index n a b h = n.first.whole log (subst (λ (x : List ℕ). IsLogText x log) (one_join o count count other bytes refl b a) h)
 
+  -- parts of which the digest is saved aren't others
+  changed_not : (e : KeptFault) (saved : PlainSaved) (bytes : List ℕ) → IsChanged o saved e → HasParts o saved.parts bytes → IsOfLog saved (sha256 bytes) → ⊥
+  changed_not e saved bytes n parts digest =
+      let same : n.bytes ≡ bytes = one_join o saved.parts saved.parts n.bytes bytes refl n.parts parts in
+      n.other (kept_as saved.log n.kept (sha256 bytes) n.kept_is digest ∙ (sym (ap sha256 same) ∙ sym n.given_is))
+
   -- what is loaded passed the parts
-  unjoined_not : (e : KeptFault) (saved other : PlainSaved) (log : PlainLog) (bytes : List ℕ) → HasDue now o saved → IsUnjoined o saved.parts e → IsLoaded now o other log bytes → ⊥
-  unjoined_not e saved other log bytes due n l = by (subst (λ (x : PlainSaved). IsUnjoined o x.parts e) (one_position o saved other due.has l.due.has) n)
+  unjoined_not : (e : KeptFault) (saved other : PlainSaved) (log : PlainLog) (bytes : List ℕ) → HasDue now o saved → IsUnjoined o saved e → IsLoaded now o other log bytes → ⊥
+  unjoined_not e saved other log bytes due n l = by (subst (λ (x : PlainSaved). IsUnjoined o x e) (one_position o saved other due.has l.due.has) n)
     where
-      by : IsUnjoined o other.parts e → ⊥
+      by : IsUnjoined o other e → ⊥
       by (inl h) = lacks_not other.parts h.0 bytes h.1.lacks l.parts
       by (inr (inl h)) = long_not other.parts bytes h.long l.parts
-      by (inr (inr h)) = no_log_not other.parts h.bytes bytes log h.index h.nothing h.parts l.parts l.text
+      by (inr (inr (inl h))) = changed_not e other bytes h l.parts l.digest
+      by (inr (inr (inr h))) = no_log_not other.parts h.bytes bytes log h.index h.nothing h.parts l.parts l.text
 
   -- ---- one fault at a stage
 
   one_form : (a b : ℕ) → HasNoForm o a → HasNoForm o b → a ≡ b
-  one_form a b h g = saved_laws.one_place g.job.saved a b (subst (λ (j : KeptJob). IsFirstFault IsSavedText j.saved a) (own_job o h.job g.job h.is g.is) h.first) g.first
+  one_form a b h g = one_place IsSavedText g.job.saved a b (subst (λ (j : KeptJob). IsFirstFault IsSavedText j.saved a) (own_job o h.job g.job h.is g.is) h.first) g.first
 
   one_else : (a b c d : List ℕ) → IsElse now o a b → IsElse now o c d → faults.JobElse a b ≡ faults.JobElse c d
   one_else a b c d h g =
@@ -155,7 +177,7 @@ module _ (now : List ℕ) (o : Option KeptJob) where
   one_section : (count : ℕ) (a b : List ℕ) (i j : ℕ) → HasParts o count a → HasParts o count b → IsNoLog a i → IsNoLog b j → i ≡ j
   one_section count a b i j pa pb h g =
       let n : IsNoLog b i = subst (λ (x : List ℕ). IsNoLog x i) (one_join o count count a b refl pa pb) h in
-      let same : n.place ≡ g.place = log_laws.one_place b n.place g.place n.first g.first in
+      let same : n.place ≡ g.place = one_place IsLogText b n.place g.place n.first g.first in
       log_laws.one_count b g.place i j (subst (λ (x : ℕ). IsCount b x i) same n.count) g.count
 
   -- the parts that are missing are within the limit, and then none are too long
@@ -165,17 +187,31 @@ module _ (now : List ℕ) (o : Option KeptJob) where
       let e : length (joined (take count (parts_in o))) ≡ length (joined (parts_in o)) = ap (λ (ps : List (List ℕ)). length (joined ps)) all in
       omega (arith, e, long, n.fits)
 
-  one_unjoined : (count : ℕ) (e f : KeptFault) → IsUnjoined o count e → IsUnjoined o count f → e ≡ f
-  one_unjoined count e f (inl a) (inl b) = a.1.fault ∙ (ap (λ (n : ℕ). faults.Part n) (a.1.lacks.all ∙ sym b.1.lacks.all) ∙ sym b.1.fault)
-  one_unjoined count e f (inl a) (inr (inl b)) = absurd (lacks_short count a.0 a.1.lacks b.long)
-  one_unjoined count e f (inl a) (inr (inr b)) = absurd (lacks_not count a.0 b.bytes a.1.lacks b.parts)
-  one_unjoined count e f (inr (inl a)) (inl b) = absurd (lacks_short count b.0 b.1.lacks a.long)
-  one_unjoined count e f (inr (inl a)) (inr (inl b)) = a.fault ∙ sym b.fault
-  one_unjoined count e f (inr (inl a)) (inr (inr b)) = absurd (long_not count b.bytes a.long b.parts)
-  one_unjoined count e f (inr (inr a)) (inl b) = absurd (lacks_not count b.0 a.bytes b.1.lacks a.parts)
-  one_unjoined count e f (inr (inr a)) (inr (inl b)) = absurd (long_not count a.bytes b.long a.parts)
-  one_unjoined count e f (inr (inr a)) (inr (inr b)) =
-      a.fault ∙ (ap (λ (n : ℕ). faults.Section n) (one_section count a.bytes b.bytes a.index b.index a.parts b.parts a.nothing b.nothing) ∙ sym b.fault)
+  one_changed : (saved : PlainSaved) (e f : KeptFault) → IsChanged o saved e → IsChanged o saved f → e ≡ f
+  one_changed saved e f a b =
+      a.fault
+      ∙ (ap (λ (x : List ℕ). faults.Parts x a.given) (same_Some a.kept b.kept (sym a.kept_is ∙ b.kept_is))
+      ∙ (ap (λ (x : List ℕ). faults.Parts b.kept x) (a.given_is ∙ (ap sha256 (one_join o saved.parts saved.parts a.bytes b.bytes refl a.parts b.parts) ∙ sym b.given_is))
+      ∙ sym b.fault))
+
+  one_unjoined : (saved : PlainSaved) (e f : KeptFault) → IsUnjoined o saved e → IsUnjoined o saved f → e ≡ f
+  one_unjoined saved e f (inl a) (inl b) = a.1.fault ∙ (ap (λ (n : ℕ). faults.Part n) (a.1.lacks.all ∙ sym b.1.lacks.all) ∙ sym b.1.fault)
+  one_unjoined saved e f (inl a) (inr (inl b)) = absurd (lacks_short saved.parts a.0 a.1.lacks b.long)
+  one_unjoined saved e f (inl a) (inr (inr (inl b))) = absurd (lacks_not saved.parts a.0 b.bytes a.1.lacks b.parts)
+  one_unjoined saved e f (inl a) (inr (inr (inr b))) = absurd (lacks_not saved.parts a.0 b.bytes a.1.lacks b.parts)
+  one_unjoined saved e f (inr (inl a)) (inl b) = absurd (lacks_short saved.parts b.0 b.1.lacks a.long)
+  one_unjoined saved e f (inr (inl a)) (inr (inl b)) = a.fault ∙ sym b.fault
+  one_unjoined saved e f (inr (inl a)) (inr (inr (inl b))) = absurd (long_not saved.parts b.bytes a.long b.parts)
+  one_unjoined saved e f (inr (inl a)) (inr (inr (inr b))) = absurd (long_not saved.parts b.bytes a.long b.parts)
+  one_unjoined saved e f (inr (inr (inl a))) (inl b) = absurd (lacks_not saved.parts b.0 a.bytes b.1.lacks a.parts)
+  one_unjoined saved e f (inr (inr (inl a))) (inr (inl b)) = absurd (long_not saved.parts a.bytes b.long a.parts)
+  one_unjoined saved e f (inr (inr (inl a))) (inr (inr (inl b))) = one_changed saved e f a b
+  one_unjoined saved e f (inr (inr (inl a))) (inr (inr (inr b))) = absurd (changed_not e saved b.bytes a b.parts b.digest)
+  one_unjoined saved e f (inr (inr (inr a))) (inl b) = absurd (lacks_not saved.parts b.0 a.bytes b.1.lacks a.parts)
+  one_unjoined saved e f (inr (inr (inr a))) (inr (inl b)) = absurd (long_not saved.parts a.bytes b.long a.parts)
+  one_unjoined saved e f (inr (inr (inr a))) (inr (inr (inl b))) = absurd (changed_not f saved a.bytes b a.parts a.digest)
+  one_unjoined saved e f (inr (inr (inr a))) (inr (inr (inr b))) =
+      a.fault ∙ (ap (λ (n : ℕ). faults.Section n) (one_section saved.parts a.bytes b.bytes a.index b.index a.parts b.parts a.nothing b.nothing) ∙ sym b.fault)
 
 -- what is loaded is one position and one log
 one_loaded : (now : List ℕ) (o : Option KeptJob) (a b : PlainSaved) (la lb : PlainLog) (ba bb : List ℕ) → IsLoaded now o a la ba → IsLoaded now o b lb bb → (a ≡ b) × (la ≡ lb)
@@ -185,7 +221,7 @@ one_loaded now o a b la lb ba bb h g =
     (saved, one_log bb la lb (subst (λ (x : List ℕ). IsLogText x la) bytes h.text) g.text)
 
 -- a plan goes on from a job to one place, and comes to one outcome there
-pub one_gone : (p : PlainPlan) (now : List ℕ) (o : Option KeptJob) (m : ℕ) (s t : PlanState) (a b : Outcome) → HasGoneOn (Unit {0}) p now o m s a → HasGoneOn (Unit {0}) p now o m t b → (s ≡ t) × (a ≡ b)
+pub one_gone : (p : PlainPlan) (now : List ℕ) (o : Option KeptJob) (m : ℕ) (s t : PlanState) (a b : Outcome) → HasContinued (Unit {0}) p now o m s a → HasContinued (Unit {0}) p now o m t b → (s ≡ t) × (a ≡ b)
 one_gone p now o m s t a b g h =
     let same = one_loaded now o g.saved h.saved g.log h.log g.bytes h.bytes (g.loaded tt) (h.loaded tt) in
     let state : s ≡ t =
@@ -257,7 +293,7 @@ module _ (p : PlainPlan) (now : List ℕ) (o : Option KeptJob) (m : ℕ) where
   by_refusal e f (AtParts saved due a) (AtJob kept given be b) = absurd (else_not now o kept given saved b due.has due.due.job)
   by_refusal e f (AtParts saved due a) (AtTries be b) = absurd (spent_not now o saved b due)
   by_refusal e f (AtParts saved due a) (AtParts other due_too b) =
-      one_unjoined now o other.parts e f (subst (λ (x : PlainSaved). IsUnjoined o x.parts e) (one_position o saved other due.has due_too.has) a) b
+      one_unjoined now o other e f (subst (λ (x : PlainSaved). IsUnjoined o x e) (one_position o saved other due.has due_too.has) a) b
   by_refusal e f (AtParts saved due a) (AtPlan b) = absurd (unjoined_not now o e saved b.is.saved b.is.log b.is.bytes due a b.is.loaded)
   by_refusal e f (AtParts saved due a) (AtEnd b) = absurd (unjoined_not now o e saved b.is.saved b.is.log b.is.bytes due a b.is.loaded)
   by_refusal e f (AtPlan a) (AtName be b) = absurd (there_not now o a.is.loaded.due.has.job b a.is.loaded.due.has.is)
@@ -279,7 +315,7 @@ module _ (p : PlainPlan) (now : List ℕ) (o : Option KeptJob) (m : ℕ) where
   one_job_fault e f oe of h g = by_refusal e f (refusal p now o m e oe h) (refusal p now o m f of g)
 
   -- a plan that went on to an answer has a log that is accepted
-  end_not : (s : PlanState) (a : Outcome) (e : KeptFault) → HasGoneOn (Unit {0}) p now o m s a → IsFalse p now o m e → ⊥
+  end_not : (s : PlanState) (a : Outcome) (e : KeptFault) → HasContinued (Unit {0}) p now o m s a → IsFalse p now o m e → ⊥
   end_not s a e g b =
       let same = one_loaded now o b.is.saved g.saved b.is.log g.log b.is.bytes g.bytes b.is.loaded (g.loaded tt) in
       let state : moved (restored_at p b.is.saved b.is.log) m ≡ s =
@@ -290,7 +326,7 @@ module _ (p : PlainPlan) (now : List ℕ) (o : Option KeptJob) (m : ℕ) where
       absurd (cc)
 
   -- where a plan went on nothing is refused
-  gone_by : (s : PlanState) (a : Outcome) (e : KeptFault) → HasGoneOn (Unit {0}) p now o m s a → Refusal p now o m e → ⊥
+  gone_by : (s : PlanState) (a : Outcome) (e : KeptFault) → HasContinued (Unit {0}) p now o m s a → Refusal p now o m e → ⊥
   gone_by s a e g (AtName be b) = let l = g.loaded tt in there_not now o l.due.has.job b l.due.has.is
   gone_by s a e g (AtForm place be b) = let l = g.loaded tt in formed_not now o place g.saved b l.due.has
   gone_by s a e g (AtJob kept given be b) = let l = g.loaded tt in else_not now o kept given g.saved b l.due.has l.due.due.job
@@ -299,5 +335,5 @@ module _ (p : PlainPlan) (now : List ℕ) (o : Option KeptJob) (m : ℕ) where
   gone_by s a e g (AtPlan b) = let l = g.loaded tt in unrestored_not e g.saved g.log g.bytes b l g.can
   gone_by s a e g (AtEnd b) = end_not s a e g b
 
-  pub gone_not_refused : (s : PlanState) (a : Outcome) (e : KeptFault) → IsOfJob e → HasGoneOn (Unit {0}) p now o m s a → IsNotResumed p now o m e → ⊥
+  pub gone_not_refused : (s : PlanState) (a : Outcome) (e : KeptFault) → IsOfJob e → HasContinued (Unit {0}) p now o m s a → IsNotResumed p now o m e → ⊥
   gone_not_refused s a e own g h = gone_by s a e g (refusal p now o m e own h)

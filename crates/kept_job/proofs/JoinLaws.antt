@@ -8,7 +8,7 @@ use Rattle.kept_job.specs.Jobs.{HasParts, joined, most_bytes}
 use Rattle.kept_job.specs.Loading.{IsPut}
 use Rattle.kept_job.specs.Refused.{AreTooLong, IsPartFault, LacksPart}
 use Rattle.kept_job.specs.declared.fault.KeptFault.{KeptFault}
-use Rattle.kept_job.specs.declared.fault.KeptFault.TheVariants.{NoJob, Form, JobElse, Spent, Part, LongLog, Section, IllFormed, Log, Failed, Memory}
+use Rattle.kept_job.specs.declared.fault.KeptFault.TheVariants.{NoJob, Form, JobElse, Spent, Part, LongLog, Parts, Section, IllFormed, Log, Failed, Memory}
 
 -- one part more
 joined_suc : (ps : List (List ℕ)) (n : ℕ) (p : List ℕ) → slice_get ps n ≡ Some p → joined (take (suc n) ps) ≡ joined (take n ps) ++ p
@@ -79,6 +79,7 @@ module _ (o : Option KeptJob) (n : ℕ) (bytes : List ℕ) (h : IsJoined o n byt
   put_not (Some part) next Spent count e lt fits is = absurd is
   put_not (Some part) next (Part number) count e lt fits is = absurd is
   put_not (Some part) next LongLog count e lt fits is = too_long part count e lt is
+  put_not (Some part) next (Parts kept given) count e lt fits is = absurd is
   put_not (Some part) next (Section i) count e lt fits is = absurd is
   put_not (Some part) next IllFormed count e lt fits is = absurd is
   put_not (Some part) next (Log i l) count e lt fits is = absurd is

@@ -18,12 +18,12 @@ use Rattle.search_run.specs.Stands.{IsStand}
 use Rattle.search_run.specs.Step.{AreSteps, IsStep, PlainStep}
 use Rattle.kept_job.proofs.ResumedLaws.{claims_open}
 use Rattle.kept_job.proofs.SavingLaws.{can_keep}
-use Rattle.kept_job.specs.Gone.{HasGoneOn, IsUsedUpOn}
+use Rattle.kept_job.specs.Continued.{HasContinued, IsUsedUpOn}
 use Rattle.kept_job.specs.SavingRules.{CanBeKept}
 
 module _ (told_jobs : Type 0) (p : PlainPlan) (now : List ℕ) (o : Option KeptJob) (m : ℕ) (s : PlanState) (are : AreSteps (steps_of p)) where
   -- behind a try at least it can be kept in one part more
-  pub can_keep_on : (g : HasGoneOn told_jobs p now o m s answers.Unfinished) → 1 ≤ m → CanBeSaved g.saved → CanBeKept s (g.saved.parts + 1)
+  pub can_keep_on : (g : HasContinued told_jobs p now o m s answers.Unfinished) → 1 ≤ m → CanBeSaved g.saved → CanBeKept s (g.saved.parts + 1)
   can_keep_on g some can =
       let u : IsUsedUpOn p g.saved.tries m s = claims_open told_jobs p now o m s g in
       let begins : IsStandOf (restored_at p g.saved g.log) = kept_stands p.request.seed (steps_of p) are (saved_in g.saved) g.log g.can.can in
@@ -41,7 +41,7 @@ module _ (told_jobs : Type 0) (p : PlainPlan) (now : List ℕ) (o : Option KeptJ
   step_behind P (y ∷ ys) x rest h = step_behind P ys x rest h.1
 
   -- what is left begins with one of its steps
-  pub step_on : (a : Outcome) (g : HasGoneOn told_jobs p now o m s a) (x : PlainStep) (rest : List PlainStep) → s.stand.left ≡ x ∷ rest → IsStep x
+  pub step_on : (a : Outcome) (g : HasContinued told_jobs p now o m s a) (x : PlainStep) (rest : List PlainStep) → s.stand.left ≡ x ∷ rest → IsStep x
   step_on a g x rest left =
       let stands : IsStand p.request.seed (steps_of p) s.stand =
       subst (λ (y : PlanState). IsStand p.request.seed (steps_of p) y.stand) (sym g.stands)

@@ -1,13 +1,14 @@
 -- Why nothing is loaded of a job, and why it isn't gone on with: each cause of a piece is one of the whole.
-use Rattle.std.proofs.Common.{◌≡◌, ◌∙◌, ℕ, List, length, take, Option, Some, None, Result, inl, inr, refl, sym, ap, subst}
+use Rattle.std.proofs.Common.{◌≡◌, ◌∙◌, ℕ, List, Option, Some, None, Result, inl, inr, refl, sym, ap, subst}
 use Rattle.std.specs.Prelude.{IfErr, IfOk, MatchResult}
 use Rattle.std.proofs.lemmas.Result.{MatchResult-weaker}
+use Rattle.sha2.specs.Sha256.{sha256}
 use Rattle.closing_log.specs.Log.{PlainLog, PlainSection}
 use Rattle.closing_log.specs.Gives as texts
 use Rattle.closing_log.specs.LogText.{IsLogText}
 use Rattle.closing_log.specs.declared.fault.LogTextFault.{LogTextFault}
 use Rattle.closing_log.specs.declared.fault.LogTextFault.TheVariants as text
-use Rattle.fund_outside.specs.Kept.{KeptJob, parts_in, saved_in}
+use Rattle.fund_outside.specs.Kept.{KeptJob, saved_in}
 use Rattle.fund_plan.specs.Resumed.{AreAccepted, CanRestore, IsCheckFault, IsNotRestored, restored_at}
 use Rattle.fund_plan.specs.State.{PlanState, moved, told}
 use Rattle.fund_plan.specs.declared.outcome.Outcome.{Outcome}
@@ -20,13 +21,13 @@ use Rattle.search_keep.specs.SavedText.{CanBeSaved, PlainSaved}
 use Rattle.search_keep.specs.declared.fault.SavedFault.{SavedFault}
 use Rattle.search_keep.specs.declared.fault.SavedFault.TheVariants as saved_faults
 use Rattle.kept_job.specs.Faults.{of_check, of_plan, of_text}
-use Rattle.kept_job.specs.Gone.{IsSettled}
-use Rattle.kept_job.specs.Jobs.{HasDue, HasParts, HasSaved, IsLoaded, joined}
-use Rattle.kept_job.specs.Loading.{IsLoadedAs, IsNoText, IsNotDue, IsNotSaved, IsPositionOf}
+use Rattle.kept_job.specs.Continued.{IsSettled}
+use Rattle.kept_job.specs.Jobs.{HasDue, HasParts, HasSaved, IsLoaded, IsOfLog}
+use Rattle.kept_job.specs.Loading.{IsNoText, IsNotDue, IsNotSaved, IsOfOther, IsPositionOf}
 use Rattle.kept_job.specs.Refused.{IsNotLoaded, IsNotResumed, IsPartFault}
 use Rattle.kept_job.specs.Resuming.{HasResumed, IsLeftAs}
 use Rattle.kept_job.specs.declared.fault.KeptFault.{KeptFault}
-use Rattle.kept_job.specs.declared.fault.KeptFault.TheVariants.{NoJob, Form, JobElse, Spent, Part, LongLog, Section, IllFormed, Log, Failed, Memory}
+use Rattle.kept_job.specs.declared.fault.KeptFault.TheVariants.{NoJob, Form, JobElse, Spent, Part, LongLog, Parts, Section, IllFormed, Log, Failed, Memory}
 use Rattle.kept_job.specs.declared.loading.Loaded.{Loaded}
 
 -- ---- a saved text
@@ -39,6 +40,7 @@ no_text job (JobElse kept given) h = absurd h
 no_text job Spent h = absurd h
 no_text job (Part number) h = absurd h
 no_text job LongLog h = absurd h
+no_text job (Parts kept given) h = absurd h
 no_text job (Section i) h = absurd h
 no_text job IllFormed h = absurd h
 no_text job (Log i f) h = absurd h
@@ -76,6 +78,7 @@ module _ (now : List ℕ) (o : Option KeptJob) where
   not_saved Spent h = absurd h
   not_saved (Part number) h = absurd h
   not_saved LongLog h = absurd h
+  not_saved (Parts kept given) h = absurd h
   not_saved (Section i) h = absurd h
   not_saved IllFormed h = absurd h
   not_saved (Log i f) h = absurd h
@@ -89,6 +92,7 @@ module _ (now : List ℕ) (o : Option KeptJob) where
   not_due s Spent has h = record { saved = s; has = has; own = h.0; tries = h.1 }
   not_due s (Part number) has h = absurd h
   not_due s LongLog has h = absurd h
+  not_due s (Parts kept given) has h = absurd h
   not_due s (Section i) has h = absurd h
   not_due s IllFormed has h = absurd h
   not_due s (Log i f) has h = absurd h
@@ -102,22 +106,30 @@ module _ (now : List ℕ) (o : Option KeptJob) where
   not_joined s Spent due h = absurd h
   not_joined s (Part number) due h = (s, due, h)
   not_joined s LongLog due h = (s, due, h)
+  not_joined s (Parts kept given) due h = absurd h
   not_joined s (Section i) due h = absurd h
   not_joined s IllFormed due h = absurd h
   not_joined s (Log i f) due h = absurd h
   not_joined s Failed due h = tt
   not_joined s Memory due h = tt
 
-  pub not_read : (s : PlainSaved) (bytes : List ℕ) (f : LogTextFault) → HasDue now o s → HasParts o s.parts bytes → texts.IsFault bytes f → IsNotLoaded now o (of_text f)
-  not_read s bytes (text.Form place sections) due parts h = (s, bytes, due, parts, record { place = place; first = h.0; count = h.1 })
-  not_read s bytes text.Memory due parts h = tt
+  pub not_same : (s : PlainSaved) (bytes : List ℕ) (e : KeptFault) → HasDue now o s → HasParts o s.parts bytes → IsOfOther s (sha256 bytes) e → IsNotLoaded now o e
+  not_same s bytes NoJob due parts h = absurd h
+  not_same s bytes (Form place) due parts h = absurd h
+  not_same s bytes (JobElse kept given) due parts h = absurd h
+  not_same s bytes Spent due parts h = absurd h
+  not_same s bytes (Part number) due parts h = absurd h
+  not_same s bytes LongLog due parts h = absurd h
+  not_same s bytes (Parts kept given) due parts h = record { saved = s; bytes = bytes; due = due; parts = parts; kept_is = h.0; given_is = h.1; other = h.2 }
+  not_same s bytes (Section i) due parts h = absurd h
+  not_same s bytes IllFormed due parts h = absurd h
+  not_same s bytes (Log i f) due parts h = absurd h
+  not_same s bytes Failed due parts h = absurd h
+  not_same s bytes Memory due parts h = absurd h
 
-  -- what is loaded, with the joined parts for its bytes
-  pub loaded_joined : (l : Loaded) → IsLoadedAs now o l → IsLoaded now o l.saved l.log (joined (take l.saved.parts (parts_in o)))
-  loaded_joined l h = subst (λ (bytes : List ℕ). IsLoaded now o l.saved l.log bytes) h.loaded.parts.are h.loaded
-
-  pub long_joined : (l : Loaded) → IsLoadedAs now o l → l.length ≡ length (joined (take l.saved.parts (parts_in o)))
-  long_joined l h = h.long ∙ ap length h.loaded.parts.are
+  pub not_read : (s : PlainSaved) (bytes : List ℕ) (f : LogTextFault) → HasDue now o s → HasParts o s.parts bytes → IsOfLog s (sha256 bytes) → texts.IsLogTextFault bytes f → IsNotLoaded now o (of_text f)
+  not_read s bytes (text.Form place sections) due parts same h = (s, bytes, due, parts, same, record { place = place; first = h.0; count = h.1 })
+  not_read s bytes text.Memory due parts same h = tt
 
 -- ---- going on
 
@@ -129,6 +141,7 @@ module _ (p : PlainPlan) (now : List ℕ) (o : Option KeptJob) (m : ℕ) where
   unloaded Spent h = h
   unloaded (Part number) h = h
   unloaded LongLog h = h
+  unloaded (Parts kept given) h = h
   unloaded (Section i) h = inl h
   unloaded IllFormed h = absurd h
   unloaded (Log i f) h = absurd h
@@ -168,16 +181,16 @@ module _ (p : PlainPlan) (now : List ℕ) (o : Option KeptJob) (m : ℕ) where
 -- ---- gone on
 
 -- what a plan came to that went on from what was loaded
-pub has_resumed : (told_jobs : Type 0) (p : PlainPlan) (now : List ℕ) (o : Option KeptJob) (m : ℕ) (l : Loaded) (s : PlanState) (outcome : Outcome) (parts : ℕ)
-    → (told_jobs → IsLoadedAs now o l) → CanBeSaved l.saved → CanRestore p now l.saved l.log → s ≡ moved (restored_at p l.saved l.log) m → outcome ≡ told s
-    → (IsSettled outcome → AreAccepted s.plan s.stand.past.closed) → parts ≡ l.saved.parts → ((bytes : List ℕ) × IsLogText bytes l.log)
-    → HasResumed told_jobs p now o m s (record { outcome = outcome; parts = parts; length = l.length })
-has_resumed told_jobs p now o m l s outcome parts loaded saves can stands is accepted counted read = record {
+pub has_resumed : (told_jobs : Type 0) (p : PlainPlan) (now : List ℕ) (o : Option KeptJob) (m : ℕ) (l : Loaded) (s : PlanState) (outcome : Outcome)
+    → (told_jobs → IsLoaded now o l.saved l.log l.behind.bytes) → l.behind.parts ≡ l.saved.parts → CanBeSaved l.saved → CanRestore p now l.saved l.log → s ≡ moved (restored_at p l.saved l.log) m → outcome ≡ told s
+    → (IsSettled outcome → AreAccepted s.plan s.stand.past.closed) → ((bytes : List ℕ) × IsLogText bytes l.log)
+    → HasResumed told_jobs p now o m s (record { outcome = outcome; behind = l.behind })
+has_resumed told_jobs p now o m l s outcome loaded counted saves can stands is accepted read = record {
   gone = record {
     saved = l.saved;
     log = l.log;
-    bytes = joined (take l.saved.parts (parts_in o));
-    loaded = λ x. loaded_joined now o l (loaded x);
+    bytes = l.behind.bytes;
+    loaded = loaded;
     can = can;
     stands = stands;
     comes_to = is;
@@ -185,7 +198,7 @@ has_resumed told_jobs p now o m l s outcome parts loaded saves can stands is acc
   };
   can = saves;
   parts_are = counted;
-  length_is = λ x. long_joined now o l (loaded x);
+  bytes_are = refl;
   read = read;
 }
 
@@ -198,6 +211,7 @@ left_alike old new (JobElse kept given) h = h
 left_alike old new Spent h = h
 left_alike old new (Part number) h = h
 left_alike old new LongLog h = h
+left_alike old new (Parts kept given) h = h
 left_alike old new (Section i) h = h
 left_alike old new IllFormed h = h
 left_alike old new (Log i f) h = tt

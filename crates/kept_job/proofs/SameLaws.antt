@@ -1,6 +1,7 @@
 -- What is loaded of a kept job is what was kept, and what goes on from it comes to what a run without a stop comes to.
 use Rattle.std.proofs.Common.{◌≡◌, ◌∙◌, ℕ, ◌≤◌, ◌<◌, ◌+◌, Bool, true, false, List, [], ◌∷◌, length, take, Option, Some, None, inl, inr, refl, sym, ap, subst, arith}
-use Rattle.std.specs.Prelude.{if◌then◌else◌}
+use Rattle.std.specs.Prelude.{if◌then◌else◌, IfSome}
+use Rattle.sha2.specs.Sha256.{sha256}
 use Rattle.std.proofs.lemmas.Option.{same_Some}
 use Rattle.closing_log.proofs.LogLaws.{one_log}
 use Rattle.closing_log.specs.Log.{PlainLog, PlainSection}
@@ -11,7 +12,7 @@ use Rattle.fund_plan.proofs.GoingLaws.{new_log, new_tries}
 use Rattle.fund_plan.proofs.KeepLaws.{accepted_on, log_on, told_on, tries_on}
 use Rattle.fund_plan.proofs.RefusedLaws.{kept_no_cause, new_accepted}
 use Rattle.fund_plan.specs.Outcome.{log_at, most_tries, stand_after, tries_at}
-use Rattle.fund_plan.specs.Resumed.{AreAccepted, CanRestore, IsCheckFault, IsStandOf, log_in, restored_at, saved_at}
+use Rattle.fund_plan.specs.Resumed.{AreAccepted, CanRestore, IsCheckFault, IsStandOf, log_digest, log_in, restored_at, saved_at}
 use Rattle.fund_plan.specs.State.{PlanState, end_in, moved, told}
 use Rattle.fund_plan.specs.Outcome.{end_at, is_partial}
 use Rattle.fund_plan.specs.Steps.{steps_of}
@@ -34,9 +35,9 @@ use Rattle.search_run.specs.Runs.{saved_with}
 use Rattle.search_run.specs.Step.{AreSteps, PlainStep}
 use Rattle.search_run.specs.declared.fault.VerifyFault.TheVariants as verified
 use Rattle.kept_job.proofs.SizeLaws.{log_short}
-use Rattle.kept_job.specs.Gone.{HasGoneOn}
-use Rattle.kept_job.specs.Jobs.{HasParts, HasSaved, IsLoaded, joined, most_bytes}
-use Rattle.kept_job.specs.Kept.{IsAsAfter, IsKept, IsKeptAt, new_of}
+use Rattle.kept_job.specs.Continued.{HasContinued}
+use Rattle.kept_job.specs.Jobs.{HasParts, HasSaved, IsLoaded, IsOfLog, joined, most_bytes, with_log}
+use Rattle.kept_job.specs.Kept.{IsAsAfter, IsKeptJob, IsKeptAt, new_of}
 use Rattle.kept_job.specs.Refused.{IsNotGoneOn, IsNotResumed, IsOfJob}
 use Rattle.kept_job.specs.declared.fault.KeptFault.{KeptFault}
 use Rattle.kept_job.specs.declared.fault.KeptFault.TheVariants as faults
@@ -44,10 +45,10 @@ use Rattle.kept_job.specs.declared.fault.KeptFault.TheVariants as faults
 -- ---- what is loaded
 
 -- the job that is there
-own_job : (o : Option KeptJob) (a b : KeptJob) → o ≡ Some a → o ≡ Some b → a ≡ b
+pub own_job : (o : Option KeptJob) (a b : KeptJob) → o ≡ Some a → o ≡ Some b → a ≡ b
 own_job o a b e f = same_Some a b (sym e ∙ f)
 
-module _ (digest : List ℕ) (s : PlanState) (o : Option KeptJob) (k : IsKept digest s o) where
+module _ (digest : List ℕ) (s : PlanState) (o : Option KeptJob) (k : IsKeptJob digest s o) where
   pub same_saved : (saved : PlainSaved) → HasSaved o saved → saved ≡ k.saved
   same_saved saved h =
       one_saved k.job.saved saved k.saved (subst (λ (j : KeptJob). IsSavedText j.saved saved) (own_job o h.job k.job h.is k.is) h.text) k.reads
@@ -64,15 +65,20 @@ module _ (digest : List ℕ) (s : PlanState) (o : Option KeptJob) (k : IsKept di
       let b : bytes ≡ joined (take k.saved.parts k.job.parts) = same_bytes saved.parts bytes (ap (λ (x : PlainSaved). x.parts) e) h.parts in
       one_log bytes log (log_in s) h.text (subst (λ (x : List ℕ). IsLogText x (log_in s)) (sym b) k.log_reads)
 
+-- the digest that is kept, if it is this one
+pub kept_as : (o : Option (List ℕ)) (kept digest : List ℕ) → o ≡ Some kept → IfSome o (λ own. own ≡ digest) → kept ≡ digest
+kept_as None kept digest e h = absurd (cc)
+kept_as (Some own) kept digest e h = sym (same_Some own kept e) ∙ h
+
 -- ---- what is saved of a plan
 
-module _ (job : List ℕ) (parts : ℕ) (saved : PlainSaved) where
-  made_of : (k : run.PlainSaved) → saved_with job parts (Some k) ≡ Some saved → (saved.job ≡ job) × (saved.tries ≡ k.tries) × (saved.parts ≡ parts)
+module _ (job : List ℕ) (parts : ℕ) (log : Option (List ℕ)) (saved : PlainSaved) where
+  made_of : (k : run.PlainSaved) → saved_with job parts log (Some k) ≡ Some saved → (saved.job ≡ job) × (saved.tries ≡ k.tries) × (saved.parts ≡ parts) × (saved.log ≡ log)
   made_of k e =
-      let same : record { job = job; tries = k.tries; row = k.row; stage = k.stage; chosen = k.chosen; next = k.next; best = k.best; parts = parts } ≡ saved = cc in
-      (sym (ap (λ (x : PlainSaved). x.job) same), sym (ap (λ (x : PlainSaved). x.tries) same), sym (ap (λ (x : PlainSaved). x.parts) same))
+      let same : record { job = job; tries = k.tries; row = k.row; stage = k.stage; chosen = k.chosen; next = k.next; best = k.best; parts = parts; log = log } ≡ saved = cc in
+      (sym (ap (λ (x : PlainSaved). x.job) same), sym (ap (λ (x : PlainSaved). x.tries) same), sym (ap (λ (x : PlainSaved). x.parts) same), sym (ap (λ (x : PlainSaved). x.log) same))
 
-  made_by : (s : Stand) (left : List PlainStep) → saved_with job parts (saved_by s left) ≡ Some saved → (saved.job ≡ job) × (saved.tries ≡ s.past.tries) × (saved.parts ≡ parts)
+  made_by : (s : Stand) (left : List PlainStep) → saved_with job parts log (saved_by s left) ≡ Some saved → (saved.job ≡ job) × (saved.tries ≡ s.past.tries) × (saved.parts ≡ parts) × (saved.log ≡ log)
   made_by s [] e = absurd (cc)
   made_by s (x ∷ rest) e = made_of (record { tries = s.past.tries; row = x.row; stage = x.stage; chosen = upward s.walk.stack; next = s.walk.next; best = s.walk.best }) e
 
@@ -93,21 +99,21 @@ module _ (p : PlainPlan) (are : AreSteps (steps_of p)) where
     pub log_there : (saved : PlainSaved) (log : PlainLog) (bytes : List ℕ) → IsLoaded digest job saved log bytes → log_in (moved (restored_at p saved log) m) ≡ log_at p (n + m)
     log_there saved log bytes h =
         ap log_in (there saved log bytes h)
-        ∙ (log_on (new_of p) n digest k.saved.parts k.saved are begins k.saves m
+        ∙ (log_on (new_of p) n digest k.saved.parts (with_log k.saved (log_digest (moved (new_of p) n))) are begins k.saves m
         ∙ new_log (new_of p) (n + m) refl refl)
 
-    pub goes_alike : (s : PlanState) (o : Outcome) → HasGoneOn (Unit {0}) p digest job m s o → IsAsAfter p (n + m) s o
+    pub goes_alike : (s : PlanState) (o : Outcome) → HasContinued (Unit {0}) p digest job m s o → IsAsAfter p (n + m) s o
     goes_alike s o g =
         let here : s ≡ moved (restored_at p k.saved (log_in (moved (new_of p) n))) m = g.stands ∙ there g.saved g.log g.bytes (g.loaded tt) in
         record {
           outcome =
               g.comes_to
               ∙ (ap told here
-              ∙ (told_on (new_of p) n digest k.saved.parts k.saved are begins k.saves m
+              ∙ (told_on (new_of p) n digest k.saved.parts (with_log k.saved (log_digest (moved (new_of p) n))) are begins k.saves m
               ∙ new_told (new_of p) (n + m) refl refl));
           tries =
               ap (λ (x : PlanState). x.stand.past.tries) here
-              ∙ (tries_on (new_of p) n digest k.saved.parts k.saved are begins k.saves m
+              ∙ (tries_on (new_of p) n digest k.saved.parts (with_log k.saved (log_digest (moved (new_of p) n))) are begins k.saves m
               ∙ new_tries (new_of p) (n + m) refl refl);
           log = ap log_in g.stands ∙ log_there g.saved g.log g.bytes (g.loaded tt);
         }
@@ -123,17 +129,23 @@ unfolding log_at
 closed_at p n = closed_in (is_partial (end_at p (stand_after p n))) (stand_after p n)
 
 -- what is saved of a plan names the job and tells the tries
-made_in : (digest : List ℕ) (parts : ℕ) (saved : PlainSaved) (s : PlanState) (b : Bool) → (if b then None else saved_with digest parts (saved_of s.stand)) ≡ Some saved → (saved.job ≡ digest) × (saved.tries ≡ s.stand.past.tries) × (saved.parts ≡ parts)
-made_in digest parts saved s true e = absurd (cc)
-made_in digest parts saved s false e = made_by digest parts saved s.stand s.stand.left e
+made_in : (digest : List ℕ) (parts : ℕ) (log : Option (List ℕ)) (saved : PlainSaved) (s : PlanState) (b : Bool) → (if b then None else saved_with digest parts log (saved_of s.stand)) ≡ Some saved
+    → (saved.job ≡ digest) × (saved.tries ≡ s.stand.past.tries) × (saved.parts ≡ parts) × (saved.log ≡ log)
+made_in digest parts log saved s true e = absurd (cc)
+made_in digest parts log saved s false e = made_by digest parts log saved s.stand s.stand.left e
 
-pub made_there : (digest : List ℕ) (parts : ℕ) (saved : PlainSaved) (s : PlanState) → saved_at digest parts s ≡ Some saved → (saved.job ≡ digest) × (saved.tries ≡ s.stand.past.tries) × (saved.parts ≡ parts)
-made_there digest parts saved s e = made_in digest parts saved s (is_partial (end_in s)) e
+pub made_there : (digest : List ℕ) (parts : ℕ) (saved : PlainSaved) (s : PlanState) → saved_at digest parts s ≡ Some saved
+    → (saved.job ≡ digest) × (saved.tries ≡ s.stand.past.tries) × (saved.parts ≡ parts) × (saved.log ≡ Some (log_digest s))
+made_there digest parts saved s e = made_in digest parts (Some (log_digest s)) saved s (is_partial (end_in s)) e
+
+-- what is saved has the digest of its own log
+pub logged : (digest : List ℕ) (parts : ℕ) (saved : PlainSaved) (s : PlanState) → saved_at digest parts s ≡ Some saved → saved ≡ with_log saved (log_digest s)
+logged digest parts saved s e = ap (λ (l : Option (List ℕ)). record saved { log = l }) (made_there digest parts saved s e).3
 
 module _ (p : PlainPlan) (are : AreSteps (steps_of p)) (n m : ℕ) (digest : List ℕ) (job : Option KeptJob) (k : IsKeptAt p digest n job) where
   own : (k.saved.job ≡ digest) × (k.saved.tries ≡ tries_at p n)
   own =
-      let made = made_there digest k.saved.parts k.saved (moved (new_of p) n) k.saves in
+      let made = made_there digest k.saved.parts (with_log k.saved (log_digest (moved (new_of p) n))) (moved (new_of p) n) k.saves in
       (made.0, made.1 ∙ new_tries (new_of p) n refl refl)
 
   can : (saved : PlainSaved) (log : PlainLog) (bytes : List ℕ) → IsLoaded digest job saved log bytes → CanRestore p digest saved log
@@ -143,7 +155,9 @@ module _ (p : PlainPlan) (are : AreSteps (steps_of p)) (n m : ℕ) (digest : Lis
       let due = h.due.due.tries in
       let tried : saved.tries ≡ tries_at p n = ap (λ (x : PlainSaved). x.tries) es ∙ own.1 in
       let few : (moved (new_of p) n).stand.past.tries < most_tries = subst (λ (t : ℕ). t < most_tries) (tried ∙ sym (new_tries (new_of p) n refl refl)) due in
-      let kept : CanRestore p digest k.saved (log_in (moved (new_of p) n)) = accepted_on (new_of p) n digest k.saved.parts k.saved are (kept_begins p.request.seed (steps_of p) are) k.saves few in
+      let whole : CanRestore p digest (with_log k.saved (log_digest (moved (new_of p) n))) (log_in (moved (new_of p) n)) =
+      accepted_on (new_of p) n digest k.saved.parts (with_log k.saved (log_digest (moved (new_of p) n))) are (kept_begins p.request.seed (steps_of p) are) k.saves few in
+      let kept : CanRestore p digest k.saved (log_in (moved (new_of p) n)) = record { due = record { job = whole.due.job; tries = whole.due.tries }; can = whole.can } in
       subst (λ (x : PlainSaved). CanRestore p digest x log) (sym es) (subst (λ (x : PlainLog). CanRestore p digest k.saved x) (sym el) kept)
 
   not_gone_on : (e : PlanSavedFault) → IsNotGoneOn p digest job e → e ≡ planned.Memory
@@ -186,10 +200,16 @@ module _ (p : PlainPlan) (are : AreSteps (steps_of p)) (n m : ℕ) (digest : Lis
       ∙ ap (λ (x : Option KeptJob). joined (take k.saved.parts (parts_in x))) k.is in
       let long : most_bytes < length (joined (take k.saved.parts k.job.parts)) = subst (λ (bytes : List ℕ). most_bytes < length bytes) e h.2 in
       absurd (omega (arith, long, parts_short))
+  kept_not_refused (faults.Parts kept given) h own_fault =
+      let es : h.saved ≡ k.saved = same_saved digest (moved (new_of p) n) job k h.saved h.due.has in
+      let eb : h.bytes ≡ text_of (log_in (moved (new_of p) n)) =
+      same_bytes digest (moved (new_of p) n) job k h.saved.parts h.bytes (ap (λ (x : PlainSaved). x.parts) es) h.parts ∙ k.log in
+      let there : kept ≡ log_digest (moved (new_of p) n) = kept_as k.saved.log kept (log_digest (moved (new_of p) n)) (sym (ap (λ (x : PlainSaved). x.log) es) ∙ h.kept_is) k.digest_is in
+      absurd (h.other (there ∙ (sym (ap sha256 eb) ∙ sym h.given_is)))
   kept_not_refused (faults.Section i) (inl h) own_fault =
       let e : h.1 ≡ joined (take k.saved.parts k.job.parts) =
       same_bytes digest (moved (new_of p) n) job k h.0.parts h.1 (ap (λ (x : PlainSaved). x.parts) (same_saved digest (moved (new_of p) n) job k h.0 h.2.has)) h.3 in
-      absurd (h.4.first.whole (log_in (moved (new_of p) n)) (subst (λ (bytes : List ℕ). IsLogText bytes (log_in (moved (new_of p) n))) (sym e) k.log_reads))
+      absurd (h.5.first.whole (log_in (moved (new_of p) n)) (subst (λ (bytes : List ℕ). IsLogText bytes (log_in (moved (new_of p) n))) (sym e) k.log_reads))
   kept_not_refused (faults.Section i) (inr h) own_fault = let e = not_gone_on (planned.False (check.Section i)) h in absurd (cc)
   kept_not_refused faults.IllFormed h own_fault = let e = not_gone_on (planned.Saved saved_faults.IllFormed) h in absurd (cc)
   kept_not_refused (faults.Log i f) (inl h) own_fault = let e = not_gone_on (planned.False (check.Log i f)) h in absurd (cc)
@@ -207,11 +227,12 @@ module _ (p : PlainPlan) (are : AreSteps (steps_of p)) (n m : ℕ) (digest : Lis
       are = ap (λ (o : Option KeptJob). joined (take k.saved.parts (parts_in o))) (sym k.is);
       fits = parts_short;
     };
+    digest = subst (λ (bytes : List ℕ). IsOfLog k.saved (sha256 bytes)) (sym k.log) k.digest_is;
     text = k.log_reads;
   }
 
   -- with tries left a plan goes on from it
-  pub kept_goes : tries_at p n < most_tries → (s : PlanState) × (o : Outcome) × HasGoneOn (Unit {0}) p digest job m s o
+  pub kept_goes : tries_at p n < most_tries → (s : PlanState) × (o : Outcome) × HasContinued (Unit {0}) p digest job m s o
   kept_goes few =
       let l = loads few in
       let x : PlanState = moved (restored_at p k.saved (log_in (moved (new_of p) n))) m in

@@ -4,21 +4,22 @@ use Rattle.closing_log.specs.LogText as logs
 use Rattle.closing_log.specs.LogText.{IsLogText}
 use Rattle.fund_outside.specs.Kept.{KeptJob, parts_in}
 use Rattle.fund_plan.specs.Outcome.{beginning_of, log_at, outcome_at, tries_at}
-use Rattle.fund_plan.specs.Resumed.{log_in, saved_at}
+use Rattle.fund_plan.specs.Resumed.{log_digest, log_in, saved_at}
 use Rattle.fund_plan.specs.State.{PlanState, moved}
 use Rattle.fund_plan.specs.declared.outcome.Outcome.{Outcome}
 use Rattle.fund_steps.specs.Plan.{PlainPlan}
 use Rattle.search_keep.specs.SavedText.{IsSavedText, PlainSaved, text_of}
-use Rattle.kept_job.specs.Jobs.{joined}
+use Rattle.kept_job.specs.Jobs.{IsOfLog, joined, with_log}
 
 -- The job is kept as a plan was left that is unfinished: its saved text is what is saved of the plan for this digest, with
--- the number of its parts; these parts are there, and joined they are the text of the plan's log. Both texts read as what
--- they were written from. Parts behind the counted ones don't matter.
-pub record IsKept (digest : List ℕ) (s : PlanState) (o : Option KeptJob) : Type 0 where
+-- the number of its parts, or the same position without a digest of the log; these parts are there, and joined they are the
+-- text of the plan's log. Both texts read as what they were written from. Parts behind the counted ones don't matter.
+pub record IsKeptJob (digest : List ℕ) (s : PlanState) (o : Option KeptJob) : Type 0 where
   pub job : KeptJob
   pub is : o ≡ Some job
   pub saved : PlainSaved
-  pub saves : saved_at digest saved.parts s ≡ Some saved
+  pub saves : saved_at digest saved.parts s ≡ Some (with_log saved (log_digest s))
+  pub digest_is : IsOfLog saved (log_digest s)
   pub text : job.saved ≡ text_of saved
   pub reads : IsSavedText job.saved saved
   pub there : saved.parts ≤ length job.parts
@@ -31,7 +32,7 @@ new_of p = record { plan = p; stand = beginning_of p; partial = None }
 
 -- The job is kept as the run of a plan is left after so many tries from its start, in however many pieces they were made.
 abbrev pub IsKeptAt : PlainPlan → (digest : List ℕ) → (tries : ℕ) → Option KeptJob → Type 0
-IsKeptAt p digest n o = IsKept digest (moved (new_of p) n) o
+IsKeptAt p digest n o = IsKeptJob digest (moved (new_of p) n) o
 
 -- the parts of a job that were counted are as they were, and one stands behind them
 pub record IsLonger (count : ℕ) (old new : Option KeptJob) : Type 0 where

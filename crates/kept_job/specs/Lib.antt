@@ -1,6 +1,6 @@
+pub mod Continued
 pub mod Digest
 pub mod Faults
-pub mod Gone
 pub mod Jobs
 pub mod Kept
 pub mod Loading

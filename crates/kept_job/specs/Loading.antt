@@ -3,11 +3,10 @@ use Rattle.std.specs.Prelude.{ℕ, ◌≡◌, ◌<◌, ◌≤◌, ◌+◌, ◌++
 use Rattle.closing_log.specs.Exact.{IsFirstFault}
 use Rattle.fund_outside.specs.Kept.{KeptJob}
 use Rattle.search_keep.specs.SavedText.{IsSavedText, PlainSaved}
-use Rattle.kept_job.specs.Jobs.{IsLoaded, most_bytes}
+use Rattle.kept_job.specs.Jobs.{most_bytes}
 use Rattle.kept_job.specs.Refused.{HasNoForm}
 use Rattle.kept_job.specs.declared.fault.KeptFault.{KeptFault}
-use Rattle.kept_job.specs.declared.fault.KeptFault.TheVariants.{NoJob, Form, JobElse, Spent, Part, LongLog, Failed, Memory}
-use Rattle.kept_job.specs.declared.loading.Loaded.{Loaded}
+use Rattle.kept_job.specs.declared.fault.KeptFault.TheVariants.{NoJob, Form, JobElse, Spent, Part, LongLog, Parts, Failed, Memory}
 
 -- ---- pieces
 
@@ -49,8 +48,7 @@ IsNotDue s now (JobElse kept given) = (kept ≡ s.job) × (given ≡ now) × (s.
 IsNotDue s now Spent = (s.job ≡ now) × (10_000_000 ≤ s.tries)
 IsNotDue s now _ = ⊥
 
--- what is loaded, with the bytes of its parts
-pub record IsLoadedAs (now : List ℕ) (o : Option KeptJob) (l : Loaded) : Type 0 where
-  pub bytes : List ℕ
-  pub loaded : IsLoaded now o l.saved l.log bytes
-  pub long : l.length ≡ length bytes
+-- why a position isn't saved with a log of this digest
+abbrev pub IsOfOther : PlainSaved → List ℕ → KeptFault → Type 0
+IsOfOther s digest (Parts kept given) = (s.log ≡ Some kept) × (given ≡ digest) × (kept ≡ given → ⊥)
+IsOfOther s digest _ = ⊥

@@ -1,5 +1,6 @@
 -- Why a kept job isn't gone on with: the first of its faults, in the order in which they are told.
 use Rattle.std.specs.Prelude.{ℕ, ◌≡◌, ◌<◌, ◌≤◌, ◌⊎◌, List, length, take, Option, Some, None}
+use Rattle.sha2.specs.Sha256.{sha256}
 use Rattle.closing_log.specs.Exact.{IsFirstFault}
 use Rattle.closing_log.specs.Log.{PlainLog}
 use Rattle.closing_log.specs.LogText.{IsCount, IsLogText}
@@ -13,10 +14,10 @@ use Rattle.fund_steps.specs.Plan.{PlainPlan}
 use Rattle.log_checker.specs.declared.fault.LogFault.{LogFault}
 use Rattle.search_keep.specs.SavedText.{IsSavedText, PlainSaved}
 use Rattle.search_keep.specs.declared.fault.SavedFault.TheVariants as saved_faults
-use Rattle.kept_job.specs.Gone.{IsSettled}
-use Rattle.kept_job.specs.Jobs.{HasDue, HasParts, HasSaved, IsLoaded, joined, most_bytes}
+use Rattle.kept_job.specs.Continued.{IsSettled}
+use Rattle.kept_job.specs.Jobs.{HasDue, HasParts, HasSaved, IsLoaded, IsOfLog, joined, most_bytes}
 use Rattle.kept_job.specs.declared.fault.KeptFault.{KeptFault}
-use Rattle.kept_job.specs.declared.fault.KeptFault.TheVariants.{NoJob, Form, JobElse, Spent, Part, LongLog, Section, IllFormed, Log, Failed, Memory}
+use Rattle.kept_job.specs.declared.fault.KeptFault.TheVariants.{NoJob, Form, JobElse, Spent, Part, LongLog, Parts, Section, IllFormed, Log, Failed, Memory}
 
 -- ---- what is loaded
 
@@ -52,6 +53,16 @@ pub record LacksPart (o : Option KeptJob) (count number : ℕ) : Type 0 where
 abbrev pub AreTooLong : Option KeptJob → ℕ → Type 0
 AreTooLong o count = most_bytes < length (joined (take count (parts_in o)))
 
+-- the parts are there and within the limit, and the saved digest of the log isn't that of them; both are told
+pub record AreElse (now : List ℕ) (o : Option KeptJob) (kept given : List ℕ) : Type 0 where
+  pub saved : PlainSaved
+  pub bytes : List ℕ
+  pub due : HasDue now o saved
+  pub parts : HasParts o saved.parts bytes
+  pub kept_is : saved.log ≡ Some kept
+  pub given_is : given ≡ sha256 bytes
+  pub other : kept ≡ given → ⊥
+
 -- the joined parts are no text of a log, and so many sections stand before the place where they leave it
 pub record IsNoLog (bytes : List ℕ) (sections : ℕ) : Type 0 where
   pub place : ℕ
@@ -74,7 +85,8 @@ IsNotLoaded now o (JobElse kept given) = IsElse now o kept given
 IsNotLoaded now o Spent = IsSpent now o
 IsNotLoaded now o (Part number) = (saved : PlainSaved) × HasDue now o saved × LacksPart o saved.parts number
 IsNotLoaded now o LongLog = (saved : PlainSaved) × HasDue now o saved × AreTooLong o saved.parts
-IsNotLoaded now o (Section i) = (saved : PlainSaved) × (bytes : List ℕ) × HasDue now o saved × HasParts o saved.parts bytes × IsNoLog bytes i
+IsNotLoaded now o (Parts kept given) = AreElse now o kept given
+IsNotLoaded now o (Section i) = (saved : PlainSaved) × (bytes : List ℕ) × HasDue now o saved × HasParts o saved.parts bytes × IsOfLog saved (sha256 bytes) × IsNoLog bytes i
 IsNotLoaded now o IllFormed = ⊥
 IsNotLoaded now o (Log i f) = ⊥
 IsNotLoaded now o Failed = Unit {0}

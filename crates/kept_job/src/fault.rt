@@ -29,6 +29,8 @@ pub enum KeptFault {
     Part(u32),
     /// The parts are together longer than 67,108,864 bytes.
     LongLog,
+    /// The digest that is kept of the log isn't that of its joined parts; both are told, the kept one first.
+    Parts([u8; 32], [u8; 32]),
     /// The section at this index isn't that of the search to which the run comes there, or no section is open; or the
     /// joined parts are no text of a log, and so many sections stand before the place where they leave it.
     Section(u64),

@@ -3,6 +3,7 @@
 //! all that there is to find, whatever was kept.
 #![tactic(auto)]
 
+mod behind;
 mod digest;
 mod fault;
 mod laws;
@@ -11,11 +12,12 @@ mod resuming;
 mod saving;
 mod sizes;
 
+pub use behind::Behind;
 pub use digest::job_digest;
 pub use fault::KeptFault;
 pub use laws::{
-    jobs_go_on, kept_jobs_are_gone_on_with, refused_jobs_have_one_fault, resumed_plans_claim,
-    saved_jobs_are_kept,
+    changed_parts_are_refused, jobs_go_on, kept_jobs_are_gone_on_with, refused_jobs_have_one_fault,
+    resumed_plans_claim, saved_jobs_are_kept, saved_jobs_have_their_digest,
 };
 pub use resuming::{Resumed, resume};
-pub use saving::{Behind, keep};
+pub use saving::keep;

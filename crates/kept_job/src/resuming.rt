@@ -6,6 +6,7 @@ ghost use Rattle.fund_plan.specs.Answer.{ArePayments, HasSelection};
 ghost use Rattle.kept_job.specs.Refused.{IsNotResumed};
 ghost use Rattle.kept_job.specs.Resuming.{HasResumed, IfTrueSettled, IsLeftAs};
 
+use crate::behind::Behind;
 use crate::fault::KeptFault;
 use crate::loading::{Loaded, load};
 use closing_log::Mark;
@@ -18,10 +19,8 @@ use std::alloc::Global;
 pub struct Resumed {
     /// What the plan comes to.
     pub outcome: Outcome,
-    /// In how many parts its log was kept.
-    pub parts: u32,
-    /// How many bytes these have together.
-    pub length: u64,
+    /// What was kept of its log, behind which it can be kept.
+    pub behind: Behind,
 }
 
 /// Whether an outcome is an answer: a payment that wasn't taken for want of tries, or that there is none.
@@ -70,16 +69,12 @@ pub fn resume<K: Keeper>(
     ensures cause { IsErrOf result KeptFault.Failed → Rose (K.view keeper.old).faults (K.view keeper.new).faults }
     ensures unfailed { result ≢ Err KeptFault.Failed → (K.view keeper.new).faults ≡ (K.view keeper.old).faults }
 {
-    let Loaded { saved, log, length } = load(alloc, keeper, job, now)?;
+    let Loaded { saved, log, behind } = load(alloc, keeper, job, now)?;
     let digest = *now;
     plan.restore(digest, &saved, &log)?;
     let outcome = plan.go(budget)?;
     if is_settled(&outcome) {
         plan.verify()?;
     }
-    Ok(Resumed {
-        outcome,
-        parts: saved.parts,
-        length,
-    })
+    Ok(Resumed { outcome, behind })
 }

@@ -6,6 +6,7 @@ ghost use Rattle.fund_outside.specs.Kept.{SameForOthers};
 ghost use Rattle.kept_job.specs.Saving.{IsSavedBehind, IsSavedOf, log_behind};
 ghost use Rattle.kept_job.specs.SavingRules.{CanBeKept};
 
+use crate::behind::Behind;
 use crate::sizes::saved_fits;
 use closing_log::write_tail;
 use fund_base::Memory;
@@ -14,22 +15,22 @@ use fund_plan::Plan;
 use search_keep::write_saved;
 use std::alloc::Global;
 
-/// What is kept of a log already: its first bytes, in so many parts. None is kept of a plan that is saved for the first time.
-#[derive(Clone, Copy)]
-pub struct Behind {
-    /// How many parts are kept.
-    pub parts: u32,
-    /// How many bytes these have together.
-    pub length: u64,
-}
-
-/// The saved text of an unfinished plan. The error is out of memory.
-fn saved_text(alloc: Global, plan: &Plan, digest: [u8; 32], parts: u32) -> Result<Vec<u8>, Memory>
+/// The saved text of an unfinished plan, whose log is kept in so many parts, which have this digest joined. The error is out of
+/// memory.
+fn saved_text(
+    alloc: Global,
+    plan: &Plan,
+    digest: [u8; 32],
+    parts: u32,
+    log: [u8; 32],
+) -> Result<Vec<u8>, Memory>
     requires { CanBeKept plan.now parts }
-    ensures { IfOk result (λ text. IsSavedOf digest parts plan.now text.items) }
+    ensures { IfOk result (λ text. IsSavedOf digest parts log plan.now text.items) }
 {
     match plan.saved(digest, parts)? {
-        Some(saved) => {
+        Some(mut saved) => {
+            // parts that were kept may spell the same log otherwise
+            saved.log = Some(log);
             saved_fits(&saved);
             let text = write_saved(alloc, &saved)?;
             Ok(text)
@@ -48,30 +49,33 @@ fn log_part(alloc: Global, plan: &Plan, length: u64) -> Result<Vec<u8>, Memory>
 }
 
 /// Keeps an unfinished plan as the job of this digest, behind what is kept of its log already: those parts stay, the part
-/// behind them has the bytes that are new, and what stood behind them is dropped. The fault is the keeper's, or out of
-/// memory; the jobs are then as before.
+/// behind them has the bytes that are new, and what stood behind them is dropped. The saved text has the digest of all these
+/// parts joined. The fault is the keeper's, or out of memory; the jobs are then as before.
 pub fn keep<K: Keeper>(
     alloc: Global,
     keeper: &mut K,
     job: &str,
     digest: [u8; 32],
     plan: &Plan,
-    behind: Behind,
+    behind: &Behind,
 ) -> Result<(), KeepFault>
-    requires room { behind.parts < 4294967295 }
-    requires kept { CanBeKept plan.now (behind.parts + 1) }
-    ensures kept { K.tells → OnOk result (IsSavedBehind digest plan.now behind.parts behind.length ((K.view keeper.old).jobs job.now) ((K.view keeper.new).jobs job.now)) }
+    requires room { behind.now.parts < 4294967295 }
+    requires kept { CanBeKept plan.now (behind.now.parts + 1) }
+    ensures kept { K.tells → OnOk result (IsSavedBehind digest plan.now behind.now.parts behind.now.bytes ((K.view keeper.old).jobs job.now) ((K.view keeper.new).jobs job.now)) }
     ensures others { K.tells → SameForOthers job.now (K.view keeper.old).jobs (K.view keeper.new).jobs }
     ensures same { K.tells → OnErr result ((K.view keeper.new).jobs ≡ (K.view keeper.old).jobs) }
     ensures faults { (K.view keeper.old).faults ≤ (K.view keeper.new).faults }
     ensures cause { IsErrOf result KeepFault.Failed → Rose (K.view keeper.old).faults (K.view keeper.new).faults }
     ensures unfailed { result ≢ Err KeepFault.Failed → (K.view keeper.new).faults ≡ (K.view keeper.old).faults }
 {
-    let Ok(part) = log_part(alloc, plan, behind.length) else {
+    let Ok(part) = log_part(alloc, plan, behind.byte_count()) else {
         return Err(KeepFault::Memory);
     };
-    let Ok(saved) = saved_text(alloc, plan, digest, behind.parts + 1) else {
+    let Ok(log) = behind.digest_with(&part) else {
         return Err(KeepFault::Memory);
     };
-    keeper.save(job, behind.parts, &part, &saved)
+    let Ok(saved) = saved_text(alloc, plan, digest, behind.parts() + 1, log) else {
+        return Err(KeepFault::Memory);
+    };
+    keeper.save(job, behind.parts(), &part, &saved)
 }

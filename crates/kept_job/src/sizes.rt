@@ -1,9 +1,9 @@
 //! That what is saved fits its fields, as every value of its type does.
 
-ghost use Rattle.std.specs.Prelude.{◌≡◌, ◌<◌, ◌≤◌, All, length};
+ghost use Rattle.std.specs.Prelude.{◌≡◌, ◌<◌, ◌≤◌, All, IfSome, length};
 ghost use Rattle.std.specs.List.{AllByRecursion};
 ghost use Rattle.closing_log.specs.LogText.{HasSmallPlaces};
-ghost use Rattle.search_keep.specs.SavedText.{IsSized};
+ghost use Rattle.search_keep.specs.SavedText.{IsDigestOf, IsSized};
 
 use fund_base::Places;
 use search_keep::Saved;
@@ -43,6 +43,16 @@ fn digest_fits(digest: &[u8; 32])
     bytes_fit(digest);
 }
 
+/// The same of a digest of the log, if one is saved. A call does nothing.
+fn log_fits(log: &Option<[u8; 32]>)
+    ensures { IfSome log.now IsDigestOf }
+{
+    match log {
+        Some(digest) => digest_fits(digest),
+        None => {}
+    }
+}
+
 /// That numbers fit their types. A call does nothing.
 fn counts_fit(tries: u64, row: u8, next: u32, parts: u32)
     ensures tries { tries ≤ 18_446_744_073_709_551_615 }
@@ -56,6 +66,7 @@ pub(crate) fn saved_fits(saved: &Saved)
     ensures { IsSized saved.now }
 {
     digest_fits(&saved.job);
+    log_fits(&saved.log);
     counts_fit(saved.tries, saved.row, saved.next, saved.parts);
     places_fit(&saved.chosen);
     best_fits(&saved.best);

@@ -14,7 +14,7 @@ use Rattle.pick_problem.proofs.TryStepLaws.{after_done}
 use Rattle.random_draw.specs.Draw.{draw_of}
 use Rattle.search_run.specs.Answer.{AreResults, AreWhole, HasNone, IsColumn, IsResult}
 use Rattle.search_run.specs.Found.{PlainFound, found_of}
-use Rattle.search_run.specs.Run.{Past, Stand, at_hand, beginning, begun, begun_first, draws_behind, drawn_here, ends, is_some_found, later_draws, made, onward, passed, run}
+use Rattle.search_run.specs.Run.{Past, Stand, results_in_column, beginning, begun, begun_first, draws_behind, drawn_here, ends, is_some_found, later_draws, made, onward, passed, run}
 use Rattle.search_run.specs.Stands.{IsMadeWalk, IsWalkAt, IsWalkBy}
 use Rattle.search_run.specs.Step.{AreSteps, IsStep, PlainStep, is_drawn}
 use Rattle.search_run.proofs.ComeLaws.{result_is}
@@ -177,7 +177,7 @@ cut_column seed x (y ∷ ys) whole =
           ∙ sym (flat_map-cons (drawn_here seed) y c.behind);
     })
 
-pub is_at_hand : (seed : List ℕ) (steps : List PlainStep) (n : ℕ) (x : PlainStep) (rest : List PlainStep) → AreSteps steps → AreWhole steps → (run seed steps n).left ≡ x ∷ rest → IsAtHand seed steps (run seed steps n) (at_hand seed (run seed steps n) (x ∷ rest))
+pub is_at_hand : (seed : List ℕ) (steps : List PlainStep) (n : ℕ) (x : PlainStep) (rest : List PlainStep) → AreSteps steps → AreWhole steps → (run seed steps n).left ≡ x ∷ rest → IsAtHand seed steps (run seed steps n) (results_in_column seed (run seed steps n) (x ∷ rest))
 is_at_hand seed steps n x rest are whole e =
     let s = run seed steps n in
     let first : Here seed steps steps [] = record { front = []; before = []; parts = refl; whole = tt; none = tt; going = tt; results = refl } in

@@ -6,7 +6,7 @@ ghost use Rattle.closing_log.specs.Log.{PlainSection};
 ghost use Rattle.request_text.specs.declared.request.Method.TheVariants.{Manual};
 ghost use Rattle.search_run.specs.Kept.{Along, IsDueAt, comes_to, first_search};
 ghost use Rattle.search_run.specs.Answer.{AreWhole};
-ghost use Rattle.search_run.specs.Run.{at_hand, run};
+ghost use Rattle.search_run.specs.Run.{results_in_column, run};
 ghost use Rattle.search_run.specs.Searched.{searches};
 ghost use Rattle.search_run.specs.Stands.{IsFromStart};
 ghost use Rattle.search_run.specs.Step.{AreSteps, PlainStep};
@@ -48,5 +48,5 @@ pub fn kept_sections_stand_in_order()
 /// a result.
 pub fn at_hand_is_of_the_column()
     ensures { (seed : List ℕ) (steps : List PlainStep) (n : ℕ) (x : PlainStep) (rest : List PlainStep) → AreSteps steps → AreWhole steps →
-        (run seed steps n).left ≡ x ∷ rest → IsAtHand seed steps (run seed steps n) (at_hand seed (run seed steps n) (x ∷ rest)) }
+        (run seed steps n).left ≡ x ∷ rest → IsAtHand seed steps (run seed steps n) (results_in_column seed (run seed steps n) (x ∷ rest)) }
 {}

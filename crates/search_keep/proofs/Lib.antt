@@ -1,6 +1,5 @@
 pub mod MarkLaws
 pub mod ResumedLaws
-pub mod StartLaws
 pub mod StepLaws
 pub mod TextLaws
 pub mod ToldLaws

@@ -1,60 +1,32 @@
 -- What reading a saved text tells is what the bytes are.
-use Rattle.std.proofs.Common.{◌≡◌, ℕ, ◌+◌, ◌-◌, ◌≤◌, ◌<◌, List, [], ◌∷◌, ◌++◌, length, take, Result, Ok, Err, refl, sym, ap, subst, ◌∙◌, arith}
+use Rattle.std.proofs.Common.{◌≡◌, ℕ, ◌+◌, ◌-◌, ◌<◌, List, [], ◌∷◌, length, Result, Ok, Err, refl, sym, ap, subst, ◌∙◌, arith}
 use Rattle.std.specs.Prelude.{IfOk, IfErr, MatchResult}
-use Rattle.std.proofs.lemmas.List.{length-append, take_at}
 use Rattle.fund_base.specs.Parsing.{◌>>=◌}
-use Rattle.closing_log.specs.Exact.{Begins, IsFirstFault, NoneGoesOn}
-use Rattle.closing_log.proofs.Exactness.{not_both, ok_is, one_on}
+use Rattle.closing_log.specs.Exact.{IsFirstFault}
+use Rattle.closing_log.proofs.FirstFaults.{first_fault, one_meaning, read_means, read_stops, stop_within}
 use Rattle.search_keep.specs.declared.fault.SavedFault.{SavedFault}
 use Rattle.search_keep.specs.declared.fault.SavedFault.TheVariants as faults
 use Rattle.search_keep.specs.declared.lines.Start.{Start}
 use Rattle.search_keep.specs.Reading.{end_of, position_at, position_end, saved_at, start_at}
 use Rattle.search_keep.specs.SavedText.{IsSavedText, PlainSaved}
-use Rattle.search_keep.specs.Told.{IsFault, IsPlaceOf, Tells}
+use Rattle.search_keep.specs.Reported.{IsSavedTextFault, IsPlaceOf, Agrees}
 use Rattle.search_keep.proofs.TextLaws.{text_law}
-
-saved_takes : (bytes : List ℕ) (s : PlainSaved) → saved_at bytes ≡ Ok s → IsSavedText bytes s
-saved_takes bytes s e = (text_law (length bytes)).takes bytes s (omega arith) e
-
-saved_again : (bytes : List ℕ) (s : PlainSaved) → IsSavedText bytes s → saved_at bytes ≡ Ok s
-saved_again bytes s i = (text_law (length bytes)).again bytes s (omega arith) i
 
 -- a text has one position
 pub one_saved : (bytes : List ℕ) (a b : PlainSaved) → IsSavedText bytes a → IsSavedText bytes b → a ≡ b
-one_saved bytes a b first second = ok_is a b (saved_at bytes) (saved_again bytes a first) (saved_again bytes b second)
+one_saved bytes a b first second = one_meaning saved_at IsSavedText text_law bytes a b first second
 
--- ---- the place of a fault
-
--- at the end there is no byte behind it
-never_at : (bytes front stop : List ℕ) (place : ℕ) → bytes ≡ front ++ stop → length front ≡ place → NoneGoesOn IsSavedText front stop → place < length bytes → Begins IsSavedText (take (place + 1) bytes) → ⊥
-never_at bytes front [] place parts at never lt begins = omega (arith, lt, at, ap length parts, length-append front [])
-never_at bytes front (b ∷ r) place parts at never lt begins =
-    let cut : take (place + 1) bytes ≡ front ++ b ∷ [] = ap (take (place + 1)) (parts ∙ sym (one_on front b r)) ∙ take_at (front ++ b ∷ []) r (place + 1) (omega (arith, at, length-append front (b ∷ []))) in
-    never (subst (Begins IsSavedText) cut begins)
-
-first_fault : (bytes stop : List ℕ) (place : ℕ) → saved_at bytes ≡ Err stop → place + length stop ≡ length bytes → IsFirstFault IsSavedText bytes place
-first_fault bytes stop place e place-is =
-    let s = (text_law (length bytes)).stops bytes stop (omega arith) e in
-    let at : length s.front ≡ place = omega (arith, place-is, ap length s.parts, length-append s.front stop) in
-    let cut : take place bytes ≡ s.front = ap (take place) s.parts ∙ take_at s.front stop place at in
-    record {
-      within = omega arith;
-      begins = subst (Begins IsSavedText) (sym cut) s.begins;
-      never = never_at bytes s.front stop place s.parts at s.never;
-      whole = λ saved i. not_both saved stop (saved_at bytes) (saved_again bytes saved i) e;
-    }
-
-stop_within : (bytes stop : List ℕ) → saved_at bytes ≡ Err stop → length stop ≤ length bytes
-stop_within bytes stop e = let s = (text_law (length bytes)).stops bytes stop (omega arith) e in omega (arith, ap length s.parts, length-append s.front stop)
+fault_at : (bytes stop : List ℕ) (place : ℕ) → saved_at bytes ≡ Err stop → place + length stop ≡ length bytes → IsFirstFault IsSavedText bytes place
+fault_at bytes stop place e place-is = first_fault saved_at IsSavedText text_law bytes stop place e place-is
 
 -- ---- what the reader tells
 
-tell_fault : (bytes stop : List ℕ) (f : SavedFault) → f ≡ faults.Form (length bytes - length stop) → saved_at bytes ≡ Err stop → Tells bytes (Err f) (saved_at bytes)
+tell_fault : (bytes stop : List ℕ) (f : SavedFault) → f ≡ faults.Form (length bytes - length stop) → saved_at bytes ≡ Err stop → Agrees bytes (Err f) (saved_at bytes)
 tell_fault bytes stop f is e =
-    let place : IsPlaceOf bytes (saved_at bytes) (length bytes - length stop) = record { stop = stop; is = e; place_is = omega (arith, stop_within bytes stop e) } in
-    subst (λ (g : SavedFault). Tells bytes (Err g) (saved_at bytes)) (sym is) place
+    let place : IsPlaceOf bytes (saved_at bytes) (length bytes - length stop) = record { stop = stop; is = e; place_is = omega (arith, stop_within IsSavedText bytes stop (read_stops saved_at IsSavedText text_law bytes stop e)) } in
+    subst (λ (g : SavedFault). Agrees bytes (Err g) (saved_at bytes)) (sym is) place
 
-pub tell_start : (bytes stop : List ℕ) (f : SavedFault) → f ≡ faults.Form (length bytes - length stop) → start_at bytes ≡ Err stop → Tells bytes (Err f) (saved_at bytes)
+pub tell_start : (bytes stop : List ℕ) (f : SavedFault) → f ≡ faults.Form (length bytes - length stop) → start_at bytes ≡ Err stop → Agrees bytes (Err f) (saved_at bytes)
 unfolding saved_at
 tell_start bytes stop f is e = tell_fault bytes stop f is (ap (λ (r : Result (Start × List ℕ) (List ℕ)). r >>= λ x. position_end x.0 x.1) e)
 
@@ -65,14 +37,14 @@ behind_start bytes x r e is = ap (λ (r : Result (Start × List ℕ) (List ℕ))
 abbrev ends : Result (PlainSaved × List ℕ) (List ℕ) → Result PlainSaved (List ℕ)
 ends r = r >>= λ y. end_of y.0 y.1
 
-pub tell_position : (bytes rest stop : List ℕ) (start : Start) (f : SavedFault) → f ≡ faults.Form (length bytes - length stop) → start_at bytes ≡ Ok (start, rest) → position_at start rest ≡ Err stop → Tells bytes (Err f) (saved_at bytes)
+pub tell_position : (bytes rest stop : List ℕ) (start : Start) (f : SavedFault) → f ≡ faults.Form (length bytes - length stop) → start_at bytes ≡ Ok (start, rest) → position_at start rest ≡ Err stop → Agrees bytes (Err f) (saved_at bytes)
 tell_position bytes rest stop start f is e p = tell_fault bytes stop f is (behind_start bytes (start, rest) (Err stop) e (ap ends p))
 
 end_fails : (s : PlainSaved) (after : List ℕ) → 0 < length after → end_of s after ≡ Err after
 end_fails s [] some = absurd (omega arith)
 end_fails s (b ∷ after) some = refl
 
-pub tell_end : (bytes rest after : List ℕ) (start : Start) (s : PlainSaved) (f : SavedFault) → f ≡ faults.Form (length bytes - length after) → start_at bytes ≡ Ok (start, rest) → position_at start rest ≡ Ok (s, after) → 0 < length after → Tells bytes (Err f) (saved_at bytes)
+pub tell_end : (bytes rest after : List ℕ) (start : Start) (s : PlainSaved) (f : SavedFault) → f ≡ faults.Form (length bytes - length after) → start_at bytes ≡ Ok (start, rest) → position_at start rest ≡ Ok (s, after) → 0 < length after → Agrees bytes (Err f) (saved_at bytes)
 tell_end bytes rest after start s f is e p some = tell_fault bytes after f is (behind_start bytes (start, rest) (Err after) e (ap ends p ∙ end_fails s after some))
 
 pub tell_saved : (bytes rest after : List ℕ) (start : Start) (s : PlainSaved) → start_at bytes ≡ Ok (start, rest) → position_at start rest ≡ Ok (s, after) → after ≡ [] → saved_at bytes ≡ Ok s
@@ -80,22 +52,22 @@ tell_saved bytes rest after start s e p nothing = behind_start bytes (start, res
 
 -- ---- the clauses
 
-pub tells_found : (bytes : List ℕ) (r : Result PlainSaved SavedFault) → Tells bytes r (saved_at bytes) → IfOk r (λ s. IsSavedText bytes s)
-tells_found bytes (Ok s) e = saved_takes bytes s e
+pub tells_found : (bytes : List ℕ) (r : Result PlainSaved SavedFault) → Agrees bytes r (saved_at bytes) → IfOk r (λ s. IsSavedText bytes s)
+tells_found bytes (Ok s) e = read_means saved_at IsSavedText text_law bytes s e
 tells_found bytes (Err f) e = tt
 
-pub tells_only : (bytes : List ℕ) (r : Result PlainSaved SavedFault) → Tells bytes r (saved_at bytes) → (s : PlainSaved) → IsSavedText bytes s → MatchResult r (λ read. read ≡ s) (λ e. e ≡ faults.Memory)
-tells_only bytes (Ok read) e s i = one_saved bytes read s (saved_takes bytes read e) i
+pub tells_only : (bytes : List ℕ) (r : Result PlainSaved SavedFault) → Agrees bytes r (saved_at bytes) → (s : PlainSaved) → IsSavedText bytes s → MatchResult r (λ read. read ≡ s) (λ e. e ≡ faults.Memory)
+tells_only bytes (Ok read) e s i = one_saved bytes read s (read_means saved_at IsSavedText text_law bytes read e) i
 tells_only bytes (Err faults.Memory) e s i = refl
-tells_only bytes (Err (faults.Form place)) e s i = absurd ((first_fault bytes e.stop place e.is e.place_is).whole s i)
+tells_only bytes (Err (faults.Form place)) e s i = absurd ((fault_at bytes e.stop place e.is e.place_is).whole s i)
 tells_only bytes (Err (faults.JobElse a b)) e s i = absurd e
 tells_only bytes (Err faults.Spent) e s i = absurd e
 tells_only bytes (Err faults.IllFormed) e s i = absurd e
 
-pub tells_fault : (bytes : List ℕ) (r : Result PlainSaved SavedFault) → Tells bytes r (saved_at bytes) → IfErr r (IsFault bytes)
+pub tells_fault : (bytes : List ℕ) (r : Result PlainSaved SavedFault) → Agrees bytes r (saved_at bytes) → IfErr r (IsSavedTextFault bytes)
 tells_fault bytes (Ok s) e = tt
 tells_fault bytes (Err faults.Memory) e = tt
-tells_fault bytes (Err (faults.Form place)) e = first_fault bytes e.stop place e.is e.place_is
+tells_fault bytes (Err (faults.Form place)) e = fault_at bytes e.stop place e.is e.place_is
 tells_fault bytes (Err (faults.JobElse a b)) e = absurd e
 tells_fault bytes (Err faults.Spent) e = absurd e
 tells_fault bytes (Err faults.IllFormed) e = absurd e

@@ -1,5 +1,4 @@
 pub mod Reading
+pub mod Reported
 pub mod Resumed
 pub mod SavedText
-pub mod Told
-pub mod Walks

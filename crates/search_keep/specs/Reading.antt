@@ -3,10 +3,12 @@
 use Rattle.std.specs.Prelude.{ℕ, ◌==◌, ◌+◌, min, List, [], ◌∷◌, codes, Option, Some, None, Result, Ok, Err, if◌then◌else◌, ⊤}
 use Rattle.closing_log.specs.declared.log.Stage.{Stage}
 use Rattle.closing_log.specs.Lines.{behind_at, ended_at, number_line, positive_line}
-use Rattle.closing_log.specs.Reading.{both_at, digest_at, made_at, places_at, stage_at, word_at}
+use Rattle.closing_log.specs.Reading.{both_at, choice_at, digest_at, made_at, places_at, stage_at, word_at}
 use Rattle.fund_base.specs.Parsing.{◌>>=◌}
 use Rattle.search_keep.specs.declared.lines.Start.{Start}
-use Rattle.search_keep.specs.SavedText.{PlainSaved}
+use Rattle.search_keep.specs.declared.saved.Version.{Version}
+use Rattle.search_keep.specs.declared.saved.Version.TheVariants.{First, Second}
+use Rattle.search_keep.specs.SavedText.{PlainSaved, version_word}
 
 -- ---- parts of lines
 
@@ -28,10 +30,19 @@ best_line = marked_line 110 (codes "none\n")
 
 -- ---- the lines
 
-abbrev pub start_of : List ℕ × (ℕ × (ℕ × Stage)) → Start
-start_of v = record { job = v.0; tries = v.1.0; row = v.1.1.0; stage = v.1.1.1 }
+abbrev pub start_of : Version × (List ℕ × (ℕ × (ℕ × Stage))) → Start
+start_of v = record { version = v.0; job = v.1.0; tries = v.1.1.0; row = v.1.1.1.0; stage = v.1.1.1.1 }
 
 -- the lines up to the stage
+abbrev pub versions : List Version
+versions = First ∷ Second ∷ []
+
+abbrev pub version_at : List ℕ → Result (Version × List ℕ) (List ℕ)
+version_at bytes = choice_at version_word versions bytes bytes
+
+abbrev pub version_line : List ℕ → Result (Version × List ℕ) (List ℕ)
+version_line = behind_at (codes "fund-saved ") (ended_at version_at)
+
 abbrev pub job_at : List ℕ → Result (List ℕ × List ℕ) (List ℕ)
 job_at = behind_at (codes "job ") (ended_at digest_at)
 
@@ -45,14 +56,14 @@ abbrev pub stage_line : List ℕ → Result (Stage × List ℕ) (List ℕ)
 stage_line = behind_at (codes "stage ") (ended_at stage_at)
 
 abbrev pub start_at : List ℕ → Result (Start × List ℕ) (List ℕ)
-start_at = behind_at (codes "fund-saved 1\n") (made_at start_of (both_at job_at (λ j. both_at tries_at (λ n. both_at row_at (λ r. stage_line)))))
+start_at = made_at start_of (both_at version_line (λ v. both_at job_at (λ j. both_at tries_at (λ n. both_at row_at (λ r. stage_line)))))
 
 -- there is at most one part more than there are tries
 abbrev pub most_parts : ℕ → ℕ
 most_parts tries = min tries 4_294_967_294 + 1
 
-abbrev pub saved_of : Start → List ℕ × (ℕ × (Option (List ℕ) × ℕ)) → PlainSaved
-saved_of h v = record { job = h.job; tries = h.tries; row = h.row; stage = h.stage; chosen = v.0; next = v.1.0; best = v.1.1.0; parts = v.1.1.1 }
+abbrev pub saved_of : Start → List ℕ × (ℕ × (Option (List ℕ) × (ℕ × Option (List ℕ)))) → PlainSaved
+saved_of h v = record { job = h.job; tries = h.tries; row = h.row; stage = h.stage; chosen = v.0; next = v.1.0; best = v.1.1.0; parts = v.1.1.1.0; log = v.1.1.1.1 }
 
 -- the lines behind the stage
 abbrev pub chosen_at : List ℕ → Result (List ℕ × List ℕ) (List ℕ)
@@ -67,8 +78,17 @@ best_at = behind_at (codes "best ") best_line
 abbrev pub parts_at : ℕ → List ℕ → Result (ℕ × List ℕ) (List ℕ)
 parts_at tries = behind_at (codes "parts ") (positive_line (most_parts tries))
 
+-- the line of the log's digest, which the second version has
+abbrev pub log_at : Version → List ℕ → Result (Option (List ℕ) × List ℕ) (List ℕ)
+log_at First = made_at (λ (u : ⊤). None) (word_at [])
+log_at Second = made_at (λ (digest : List ℕ). Some digest) (behind_at (codes "log ") (ended_at digest_at))
+
+-- the last lines
+abbrev pub last_at : Version → ℕ → List ℕ → Result ((ℕ × Option (List ℕ)) × List ℕ) (List ℕ)
+last_at version tries = both_at (parts_at tries) (λ p. log_at version)
+
 abbrev pub position_at : Start → List ℕ → Result (PlainSaved × List ℕ) (List ℕ)
-position_at h = made_at (saved_of h) (both_at chosen_at (λ c. both_at next_at (λ n. both_at best_at (λ b. parts_at h.tries))))
+position_at h = made_at (saved_of h) (both_at chosen_at (λ c. both_at next_at (λ n. both_at best_at (λ b. last_at h.version h.tries))))
 
 -- ---- the whole
 

@@ -29,7 +29,7 @@ pub record IsSavedWalk (s : PlainSaved) (letters : List ℕ) (w : Walk) : Type 0
   pub letters_are : letters ≡ letters_of w.tokens
 
 -- it was saved of this job, which has tries left: a job has 10,000,000
-pub record IsDue (s : PlainSaved) (now : List ℕ) : Type 0 where
+pub record MayGoOn (s : PlainSaved) (now : List ℕ) : Type 0 where
   pub job : s.job ≡ now
   pub tries : s.tries < 10_000_000
 
@@ -41,6 +41,6 @@ CanStand s p letters = IsWellFormed p (open_position s letters) letters
 abbrev pub IsRefusal : PlainSaved → List ℕ → PlainProblem → List ℕ → SavedFault → Type 0
 IsRefusal s now p letters (faults.JobElse kept given) = (kept ≡ s.job) × (given ≡ now) × (s.job ≡ now → ⊥)
 IsRefusal s now p letters faults.Spent = (s.job ≡ now) × (10_000_000 ≤ s.tries)
-IsRefusal s now p letters faults.IllFormed = IsDue s now × (CanStand s p letters → ⊥)
-IsRefusal s now p letters faults.Memory = IsDue s now × CanStand s p letters
+IsRefusal s now p letters faults.IllFormed = MayGoOn s now × (CanStand s p letters → ⊥)
+IsRefusal s now p letters faults.Memory = MayGoOn s now × CanStand s p letters
 IsRefusal s now p letters (faults.Form place) = ⊥

@@ -1,13 +1,13 @@
 //! Readers of the lines of a saved text. Each answers what it read and the bytes behind it, or the bytes that are left
 //! where no text goes on as they do.
 
-ghost use Rattle.std.specs.Prelude.{◌≡◌, ◌≤◌, codes, IfOk};
+ghost use Rattle.std.specs.Prelude.{◌≤◌, IfOk};
 ghost use Rattle.closing_log.specs.Gives.{Gives, Reads};
-ghost use Rattle.closing_log.specs.Reading.{both_at, made_at};
+ghost use Rattle.closing_log.specs.Reading.{both_at};
 ghost use Rattle.closing_log.specs.Lines.{behind_at, number_line};
-ghost use Rattle.search_keep.specs.Reading.{best_at, chosen_at, chosen_line, best_line, job_at, parts_at, position_at, row_at, stage_line, start_at, start_of, tries_at};
+ghost use Rattle.search_keep.specs.Reading.{best_at, chosen_at, chosen_line, best_line, job_at, last_at, log_at, parts_at, position_at, row_at, stage_line, start_at, tries_at, version_line};
 
-use crate::saved::Saved;
+use crate::saved::{Saved, Version};
 use closing_log::{
     LineFault, Stage, read_choice, read_digest, read_number, read_places, read_word,
 };
@@ -17,10 +17,21 @@ use std::alloc::Global;
 /// What the lines up to the stage say.
 #[derive(Clone, Copy)]
 pub(crate) struct Start {
+    pub(crate) version: Version,
     pub(crate) job: [u8; 32],
     pub(crate) tries: u64,
     pub(crate) row: u8,
     pub(crate) stage: Stage,
+}
+
+/// The line that names the format, and its version.
+fn read_version(bytes: &[u8]) -> Result<(Version, &[u8]), &[u8]>
+    ensures { Reads (λ x. (x.0, x.1.now)) result (version_line bytes.now) }
+{
+    let rest = read_word(bytes, b"fund-saved ")?;
+    let (version, rest) = read_choice(rest, &[Version::First, Version::Second])?;
+    let rest = read_word(rest, b"\n")?;
+    Ok((version, rest))
 }
 
 /// The line of the job.
@@ -84,29 +95,28 @@ fn read_fields(bytes: &[u8]) -> Result<(([u8; 32], (u64, (u8, Stage))), &[u8]), 
     Ok(((job, counts), rest))
 }
 
-/// What the lines from the job to the stage say.
-fn read_told(bytes: &[u8]) -> Result<(Start, &[u8]), &[u8]>
-    ensures { Reads (λ x. (x.0, x.1.now)) result (made_at start_of (both_at job_at (λ j. both_at tries_at (λ n. both_at row_at (λ r. stage_line)))) bytes.now) }
+/// The lines up to the stage, each by itself.
+fn read_head(bytes: &[u8]) -> Result<((Version, ([u8; 32], (u64, (u8, Stage)))), &[u8]), &[u8]>
+    ensures { Reads (λ x. (x.0, x.1.now)) result (both_at version_line (λ v. both_at job_at (λ j. both_at tries_at (λ n. both_at row_at (λ r. stage_line)))) bytes.now) }
 {
-    let ((job, (tries, (row, stage))), rest) = read_fields(bytes)?;
+    let (version, rest) = read_version(bytes)?;
+    let (fields, rest) = read_fields(rest)?;
+    Ok(((version, fields), rest))
+}
+
+/// What the lines up to the stage say.
+pub(crate) fn read_start(bytes: &[u8]) -> Result<(Start, &[u8]), &[u8]>
+    ensures { Reads (λ x. (x.0, x.1.now)) result (start_at bytes.now) }
+{
+    let ((version, (job, (tries, (row, stage)))), rest) = read_head(bytes)?;
     let start = Start {
+        version,
         job,
         tries,
         row,
         stage,
     };
     Ok((start, rest))
-}
-
-/// The lines up to the stage.
-pub(crate) fn read_start(bytes: &[u8]) -> Result<(Start, &[u8]), &[u8]>
-    ensures { Reads (λ x. (x.0, x.1.now)) result (start_at bytes.now) }
-{
-    let rest = match read_word(bytes, b"fund-saved 1\n") {
-        Ok(rest) => rest,
-        Err(stop) => return Err(stop),
-    };
-    read_told(rest)
 }
 
 /// Places up to a line feed, or `-` for none.
@@ -159,6 +169,37 @@ fn read_parts(bytes: &[u8], tries: u64) -> Result<(u64, &[u8]), &[u8]>
     Ok((parts, rest))
 }
 
+/// The line of the log's digest, which the second version has.
+fn read_log(bytes: &[u8], version: Version) -> Result<(Option<[u8; 32]>, &[u8]), &[u8]>
+    ensures { Reads (λ x. (x.0, x.1.now)) result (log_at version bytes.now) }
+{
+    match version {
+        Version::First => {
+            let rest = read_word(bytes, b"")?;
+            Ok((None, rest))
+        }
+        Version::Second => {
+            let rest = read_word(bytes, b"log ")?;
+            let (digest, rest) = read_digest(rest)?;
+            let rest = read_word(rest, b"\n")?;
+            Ok((Some(digest), rest))
+        }
+    }
+}
+
+/// The last lines: that of the parts, and that of the log's digest where there is one.
+fn read_last(
+    bytes: &[u8],
+    version: Version,
+    tries: u64,
+) -> Result<((u32, Option<[u8; 32]>), &[u8]), &[u8]>
+    ensures { Reads (λ x. (x.0, x.1.now)) result (last_at version tries bytes.now) }
+{
+    let (parts, rest) = read_parts(bytes, tries)?;
+    let (log, rest) = read_log(rest, version)?;
+    Ok(((parts as u32, log), rest))
+}
+
 /// The line of the chosen places.
 fn read_chosen_line(alloc: Global, bytes: &[u8]) -> Result<(Places, &[u8]), LineFault<'_>>
     ensures { Gives (λ x. (x.0, x.1.now)) result (chosen_at bytes.now) }
@@ -176,7 +217,7 @@ fn read_best_line(alloc: Global, bytes: &[u8]) -> Result<(Option<Places>, &[u8])
 }
 
 /// The lines behind the stage.
-#[tactic(auto, using(crate::proofs::StepLaws::position_best_fails, crate::proofs::StepLaws::position_parts_fails, crate::proofs::StepLaws::position_read))]
+#[tactic(auto, using(crate::proofs::StepLaws::position_best_fails, crate::proofs::StepLaws::position_last_fails, crate::proofs::StepLaws::position_read))]
 pub(crate) fn read_position(
     alloc: Global,
     start: Start,
@@ -187,8 +228,9 @@ pub(crate) fn read_position(
     let (chosen, rest) = read_chosen_line(alloc, bytes)?;
     let (next, rest) = read_number_line(rest, b"next ", 4_294_967_295)?;
     let (best, rest) = read_best_line(alloc, rest)?;
-    let (parts, rest) = read_parts(rest, start.tries)?;
+    let ((parts, log), rest) = read_last(rest, start.version, start.tries)?;
     let Start {
+        version: _,
         job,
         tries,
         row,
@@ -202,7 +244,8 @@ pub(crate) fn read_position(
         chosen,
         next: next as u32,
         best,
-        parts: parts as u32,
+        parts,
+        log,
     };
     Ok((saved, rest))
 }

@@ -1,16 +1,44 @@
 //! A saved position written as its text: one walk, over a writer that counts bytes or keeps them.
 
-ghost use Rattle.std.specs.Prelude.{◌≡◌, ◌++◌, codes, IfOk, OnOk};
+ghost use Rattle.std.specs.Prelude.{◌≡◌, codes, IfOk, OnOk};
 ghost use Rattle.std.specs.Fmt.{decimal};
 ghost use Rattle.closing_log.specs.LogText.{answer_text, stage_word};
 ghost use Rattle.fund_base.specs.Writer.{Feeds};
 ghost use Rattle.hex.specs.Hex.{encode_lower};
-ghost use Rattle.search_keep.specs.SavedText.{CanBeSaved, IsSavedText, IsSized, chosen_text, line, position_text, text_of};
+ghost use Rattle.search_keep.specs.SavedText.{CanBeSaved, IsSavedText, IsSized, chosen_text, line, log_digits, log_text, position_text, text_of, version_of, version_word};
 
 use crate::saved::Saved;
 use closing_log::{Stage, Worded, write_decimal, write_digest, write_places};
 use fund_base::{Length, Memory, Places, Writer};
 use std::alloc::Global;
+
+/// Writes the line that names the format: its second version where a digest of the log is kept.
+fn write_version<W: Writer>(out: &mut W, log: &Option<[u8; 32]>) -> Result<(), W::Error>
+    ensures { OnOk result (Feeds W.holds out.old out.new (line (codes "fund-saved ") (version_word (version_of log.now)))) }
+{
+    match log {
+        None => out.write_bytes(b"fund-saved 1\n"),
+        Some(_) => out.write_bytes(b"fund-saved 2\n"),
+    }
+}
+
+/// Writes the line of the log's digest, where one is kept.
+fn write_log<W: Writer>(out: &mut W, log: &Option<[u8; 32]>) -> Result<(), W::Error>
+    ensures { OnOk result (Feeds W.holds out.old out.new (log_text (log_digits log.now) log.now)) }
+{
+    match log {
+        None => out.write_bytes(b""),
+        Some(digest) => write_log_line(out, digest),
+    }
+}
+
+fn write_log_line<W: Writer>(out: &mut W, digest: &[u8; 32]) -> Result<(), W::Error>
+    ensures { OnOk result (Feeds W.holds out.old out.new (line (codes "log ") (encode_lower digest.now))) }
+{
+    out.write_bytes(b"log ")?;
+    write_digest(out, digest)?;
+    out.write_bytes(b"\n")
+}
 
 fn write_job<W: Writer>(out: &mut W, job: &[u8; 32]) -> Result<(), W::Error>
     ensures { OnOk result (Feeds W.holds out.old out.new (line (codes "job ") (encode_lower job.now))) }
@@ -85,12 +113,13 @@ fn write_position<W: Writer>(out: &mut W, saved: &Saved) -> Result<(), W::Error>
 fn write_text<W: Writer>(out: &mut W, saved: &Saved) -> Result<(), W::Error>
     ensures { OnOk result (Feeds W.holds out.old out.new (text_of saved.now)) }
 {
-    out.write_bytes(b"fund-saved 1\n")?;
+    write_version(out, &saved.log)?;
     write_job(out, &saved.job)?;
     write_number(out, b"tries ", saved.tries)?;
     write_number(out, b"row ", saved.row as u64)?;
     write_stage(out, saved.stage)?;
     write_position(out, saved)?;
+    write_log(out, &saved.log)?;
     Ok(())
 }
 
@@ -103,7 +132,7 @@ fn text_len(saved: &Saved) -> u64 {
     }
 }
 
-/// The text of a saved position, its digest in lower case. It takes as much memory as the text has bytes.
+/// The text of a saved position, its digests in lower case: of the second version where a digest of the log is kept. It takes as much memory as the text has bytes.
 pub fn write_saved(alloc: Global, saved: &Saved) -> Result<Vec<u8>, Memory>
     ensures text { IfOk result (λ text. text.items ≡ text_of saved.now) }
 

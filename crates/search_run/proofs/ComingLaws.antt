@@ -8,7 +8,7 @@ use Rattle.search_run.specs.Found.{PlainFound, found_of}
 use Rattle.search_run.specs.Kept.{At, answered, answered_by, at_end, to_search}
 use Rattle.search_run.specs.Run.{ends, is_some_found}
 use Rattle.search_run.specs.Step.{PlainStep, is_drawn}
-use Rattle.search_run.specs.declared.coming.Coming.{Coming}
+use Rattle.search_run.specs.declared.next_search.NextSearch.{NextSearch}
 use Rattle.search_run.proofs.ComeLaws.{behind_step, draw_first, search_first}
 
 -- a result more is a result
@@ -22,7 +22,7 @@ pub by_ends : (seed : List ℕ) (b : Bool) (rest : List PlainStep) (found : List
 by_ends seed true rest found = refl
 by_ends seed false rest found = refl
 
-pub comes_after : (seed : List ℕ) (steps : List PlainStep) (from c : Coming) (some : Bool) (x : PlainStep) (rest : List PlainStep) (found : List PlainFound) (r : Option (List ℕ)) →
+pub comes_after : (seed : List ℕ) (steps : List PlainStep) (from c : NextSearch) (some : Bool) (x : PlainStep) (rest : List PlainStep) (found : List PlainFound) (r : Option (List ℕ)) →
     drop from.at steps ≡ x ∷ rest → IsAfterStep steps from some c → is_some_found found ≡ from.some → is_some r ≡ some →
     (is_some_found (found ++ found_of x r) ≡ c.some) × (behind_step seed x rest (found ++ found_of x r) ≡ to_search seed (drop c.at steps) (found ++ found_of x r))
 comes_after seed steps from c some x rest found r here h so is =
@@ -33,15 +33,15 @@ comes_after seed steps from c some x rest found r here h so is =
 -- ---- past draws
 
 -- from one place to another, past draws alone
-pub record IsOnWay (seed : List ℕ) (steps : List PlainStep) (from now : Coming) : Type 0 where
+pub record IsOnWay (seed : List ℕ) (steps : List PlainStep) (from now : NextSearch) : Type 0 where
   pub within : now.at ≤ length steps
   pub on : (found : List PlainFound) → is_some_found found ≡ from.some →
       (f : List PlainFound) × (is_some_found f ≡ now.some) × (to_search seed (drop from.at steps) found ≡ to_search seed (drop now.at steps) f)
 
-pub way_begins : (seed : List ℕ) (steps : List PlainStep) (from : Coming) → from.at ≤ length steps → IsOnWay seed steps from from
+pub way_begins : (seed : List ℕ) (steps : List PlainStep) (from : NextSearch) → from.at ≤ length steps → IsOnWay seed steps from from
 way_begins seed steps from within = record { within = within; on = λ found e. (found, e, refl) }
 
-pub way_on : (seed : List ℕ) (steps : List PlainStep) (from now c : Coming) (x : PlainStep) (some : Bool) → now.at < length steps → x ≡ get_or steps now.at x → is_drawn x.stage ≡ true → some ≡ is_some (draw_of x.problem seed) →
+pub way_on : (seed : List ℕ) (steps : List PlainStep) (from now c : NextSearch) (x : PlainStep) (some : Bool) → now.at < length steps → x ≡ get_or steps now.at x → is_drawn x.stage ≡ true → some ≡ is_some (draw_of x.problem seed) →
     IsAfterStep steps now some c → IsOnWay seed steps from now → IsOnWay seed steps from c
 way_on seed steps from now c x some below at d is h way =
     let rest : List PlainStep = drop (now.at + 1) steps in
@@ -55,7 +55,7 @@ way_on seed steps from now c x some below at d is h way =
     }
 
 -- at a search, or after the last step
-pub way_at_search : (seed : List ℕ) (steps : List PlainStep) (from now : Coming) (x : PlainStep) → now.at < length steps → x ≡ get_or steps now.at x → is_drawn x.stage ≡ false → IsOnWay seed steps from now →
+pub way_at_search : (seed : List ℕ) (steps : List PlainStep) (from now : NextSearch) (x : PlainStep) → now.at < length steps → x ≡ get_or steps now.at x → is_drawn x.stage ≡ false → IsOnWay seed steps from now →
     (found : List PlainFound) → is_some_found found ≡ from.some → ComesTo steps now (to_search seed (drop from.at steps) found)
 way_at_search seed steps from now x below at d way found e =
     let rest : List PlainStep = drop (now.at + 1) steps in
@@ -64,7 +64,7 @@ way_at_search seed steps from now x below at d way found e =
     let there : to_search seed (drop from.at steps) found ≡ record { left = x ∷ rest; found = w.0 } = w.2 ∙ (ap (λ (l : List PlainStep). to_search seed l w.0) here ∙ search_first seed x rest w.0 d) in
     subst (ComesTo steps now) (sym there) (record { within = way.within; left = sym here; some = w.1 })
 
-pub way_at_end : (seed : List ℕ) (steps : List PlainStep) (from now : Coming) → length steps ≤ now.at → IsOnWay seed steps from now →
+pub way_at_end : (seed : List ℕ) (steps : List PlainStep) (from now : NextSearch) → length steps ≤ now.at → IsOnWay seed steps from now →
     (found : List PlainFound) → is_some_found found ≡ from.some → ComesTo steps now (to_search seed (drop from.at steps) found)
 way_at_end seed steps from now over way found e =
     let none : drop now.at steps ≡ [] = drop_all now.at steps over in
@@ -74,7 +74,7 @@ way_at_end seed steps from now over way found e =
 
 -- ---- after a search
 
-pub comes_answered : (seed : List ℕ) (steps : List PlainStep) (from c d : Coming) (some : Bool) (at : At) (a : Option (List ℕ)) → from.at < length steps → IsAfterStep steps from some c → ComesTo steps from at → is_some a ≡ some →
+pub comes_answered : (seed : List ℕ) (steps : List PlainStep) (from c d : NextSearch) (some : Bool) (at : At) (a : Option (List ℕ)) → from.at < length steps → IsAfterStep steps from some c → ComesTo steps from at → is_some a ≡ some →
     ((found : List PlainFound) → is_some_found found ≡ c.some → ComesTo steps d (to_search seed (drop c.at steps) found)) → ComesTo steps d (answered seed at a)
 comes_answered seed steps from c d some at a below h comes is goes = by (drop from.at steps) refl
   where
@@ -85,7 +85,7 @@ comes_answered seed steps from c d some at a below h comes is goes = by (drop fr
         let there : answered_by seed at.left at.found a ≡ to_search seed (drop c.at steps) (at.found ++ found_of x a) = ap (λ (l : List PlainStep). answered_by seed l at.found a) (comes.left ∙ e) ∙ b.1 in
         subst (ComesTo steps d) (sym there) (goes (at.found ++ found_of x a) b.0)
 
-pub answered_ok : {X : Type 0} (seed : List ℕ) (steps : List PlainStep) (from c : Coming) (some : Bool) (at : At) (a : Option (List ℕ)) → from.at < length steps → IsAfterStep steps from some c → ComesTo steps from at → is_some a ≡ some → (r : Result Coming X) →
+pub answered_ok : {X : Type 0} (seed : List ℕ) (steps : List PlainStep) (from c : NextSearch) (some : Bool) (at : At) (a : Option (List ℕ)) → from.at < length steps → IsAfterStep steps from some c → ComesTo steps from at → is_some a ≡ some → (r : Result NextSearch X) →
     ((found : List PlainFound) → is_some_found found ≡ c.some → IfOk r (λ d. ComesTo steps d (to_search seed (drop c.at steps) found))) → IfOk r (λ d. ComesTo steps d (answered seed at a))
 answered_ok seed steps from c some at a below h comes is (Ok d) goes = comes_answered seed steps from c d some at a below h comes is goes
 answered_ok seed steps from c some at a below h comes is (Err x) goes = tt

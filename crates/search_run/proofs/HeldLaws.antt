@@ -19,8 +19,6 @@ use Rattle.search_run.specs.Runs.{PlainRun, RunLeads}
 use Rattle.search_run.specs.Stands.{IsStand}
 use Rattle.search_run.specs.Step.{AreSteps, PlainStep, is_drawn}
 use Rattle.search_run.specs.Turns.{IsPassed, IsTurn, IsWalkedOn, walked_by}
-use Rattle.search_keep.specs.Walks.{search_of}
-use Rattle.search_keep.specs.declared.walk.Walk.{Walk}
 use Rattle.search_run.specs.declared.walking.Turn.{Turn}
 use Rattle.search_run.proofs.LeadLaws.{goes_behind, leads_more, leads_none, walked}
 use Rattle.search_run.proofs.RunLaws.{stays_over}
@@ -28,25 +26,25 @@ use Rattle.search_run.proofs.MadeLaws.{kept_begins, kept_passes_on, kept_walks_o
 
 -- ---- the walk of a step
 
-pub walk_first : (seed : List ℕ) (x : PlainStep) (rest : List PlainStep) (walk : Option Walk) → walk_in seed (x ∷ rest) walk ≡ walk_of seed x walk
+pub walk_first : (seed : List ℕ) (x : PlainStep) (rest : List PlainStep) (walk : Option PlainSearch) → walk_in seed (x ∷ rest) walk ≡ walk_of seed x walk
 walk_first seed x rest None = refl
 walk_first seed x rest (Some w) = refl
 
-pub of_one : (x : PlainStep) (rest : List PlainStep) (walk : Option Walk) → IsOf (x ∷ rest) walk → IsOf (x ∷ []) walk
+pub of_one : (x : PlainStep) (rest : List PlainStep) (walk : Option PlainSearch) → IsOf (x ∷ rest) walk → IsOf (x ∷ []) walk
 of_one x rest None h = tt
 of_one x rest (Some w) h = h
 
-pub of_more : (x : PlainStep) (rest : List PlainStep) (walk : Option Walk) → IsOf (x ∷ []) walk → IsOf (x ∷ rest) walk
+pub of_more : (x : PlainStep) (rest : List PlainStep) (walk : Option PlainSearch) → IsOf (x ∷ []) walk → IsOf (x ∷ rest) walk
 of_more x rest None h = tt
 of_more x rest (Some w) h = h
 
 -- a draw has no walk that has begun
-pub of_draw : (x : PlainStep) (walk : Option Walk) → IsOf (x ∷ []) walk → is_drawn x.stage ≡ true → walk ≡ None
+pub of_draw : (x : PlainStep) (walk : Option PlainSearch) → IsOf (x ∷ []) walk → is_drawn x.stage ≡ true → walk ≡ None
 of_draw x None h d = refl
 of_draw x (Some w) h d = absurd (let e : true ≡ false = sym d ∙ h.1 in cc)
 
 -- nothing has begun where nothing is left
-pub of_none : (walk : Option Walk) → IsOf [] walk → walk ≡ None
+pub of_none : (walk : Option PlainSearch) → IsOf [] walk → walk ≡ None
 of_none None h = refl
 of_none (Some w) h = absurd h
 
@@ -54,15 +52,15 @@ pub draw_begins : (seed : List ℕ) (x : PlainStep) → is_drawn x.stage ≡ tru
 draw_begins seed x d = if_true (is_drawn x.stage) _ _ d
 
 -- the walk of a search is that of its search
-pub search_walk : (seed : List ℕ) (x : PlainStep) (walk : Option Walk) → is_drawn x.stage ≡ false → walk_of seed x walk ≡ (search_in x walk).walk
+pub search_walk : (seed : List ℕ) (x : PlainStep) (walk : Option PlainSearch) → is_drawn x.stage ≡ false → walk_of seed x walk ≡ (search_in x walk).walk
 search_walk seed x None d = if_false (is_drawn x.stage) _ _ d
 search_walk seed x (Some w) d = refl
 
-pub search_before : (x : PlainStep) (walk : Option Walk) → before_in walk ≡ (search_in x walk).before
+pub search_before : (x : PlainStep) (walk : Option PlainSearch) → before_in walk ≡ (search_in x walk).before
 search_before x None = refl
 search_before x (Some w) = refl
 
-pub search_problem : (x : PlainStep) (walk : Option Walk) → IsOf (x ∷ []) walk → (search_in x walk).problem ≡ x.problem
+pub search_problem : (x : PlainStep) (walk : Option PlainSearch) → IsOf (x ∷ []) walk → (search_in x walk).problem ≡ x.problem
 search_problem x None h = refl
 search_problem x (Some w) h = h.0
 
@@ -73,10 +71,10 @@ pub tried_more : (s : PlainSearch) (n : ℕ) → s.walk.tries ≤ (after s n).wa
 tried_more s n = (tries_within s.problem s.walk n).0
 
 -- a draw makes none
-pub draw_walked : (x : PlainStep) (walk : Option Walk) (n : ℕ) (t : Turn) → IsOf (x ∷ []) walk → is_drawn x.stage ≡ true → t.made ≡ 0 → t.done ≡ true → HasWalked x walk walk n t
+pub draw_walked : (x : PlainStep) (walk : Option PlainSearch) (n : ℕ) (t : Turn) → IsOf (x ∷ []) walk → is_drawn x.stage ≡ true → t.made ≡ 0 → t.done ≡ true → HasWalked x walk walk n t
 draw_walked x walk n t h d made_none over =
     let none : walk ≡ None = of_draw x walk h d in
-    let done : (seed : List ℕ) → (walk_of seed x walk).done ≡ true = λ seed. ap (λ (o : Option Walk). (walk_of seed x o).done) none ∙ ap (λ (w : plain.Walk). w.done) (draw_begins seed x d) in
+    let done : (seed : List ℕ) → (walk_of seed x walk).done ≡ true = λ seed. ap (λ (o : Option PlainSearch). (walk_of seed x o).done) none ∙ ap (λ (w : plain.Walk). w.done) (draw_begins seed x d) in
     record {
       before = refl;
       walk = λ seed. sym (after_done x.problem (walk_of seed x walk) n (done seed));
@@ -84,21 +82,21 @@ draw_walked x walk n t h d made_none over =
       over = λ seed. over ∙ sym (done seed);
     }
 
-pub search_walked : (x : PlainStep) (old : Option Walk) (now : Walk) (n : ℕ) (t : Turn) (s : PlainSearch) → IsOf (x ∷ []) old → is_drawn x.stage ≡ false → s ≡ search_in x old → Tries s (search_of now) n t → HasWalked x old (Some now) n t
+pub search_walked : (x : PlainStep) (old : Option PlainSearch) (now : PlainSearch) (n : ℕ) (t : Turn) (s : PlainSearch) → IsOf (x ∷ []) old → is_drawn x.stage ≡ false → s ≡ search_in x old → Tries s now n t → HasWalked x old (Some now) n t
 search_walked x old now n t s h d same tries =
     let was : (seed : List ℕ) → walk_of seed x old ≡ s.walk = λ seed. search_walk seed x old d ∙ ap (λ (q : PlainSearch). q.walk) (sym same) in
     let problem : s.problem ≡ x.problem = ap (λ (q : PlainSearch). q.problem) same ∙ search_problem x old h in
     record {
       before = tries.before ∙ (ap (λ (q : PlainSearch). q.before) same ∙ sym (search_before x old));
       walk = λ seed. tries.walk ∙ (ap (λ p. after_tries p s.walk n) problem ∙ ap (λ (w : plain.Walk). after_tries x.problem w n) (sym (was seed)));
-      count = λ seed. tries.count ∙ ap (λ (w : plain.Walk). made w (search_of now).walk) (sym (was seed));
+      count = λ seed. tries.count ∙ ap (λ (w : plain.Walk). made w now.walk) (sym (was seed));
       over = λ seed. tries.over;
     }
 
-pub search_of_still : (x : PlainStep) (old : Option Walk) (now : Walk) (n : ℕ) (t : Turn) (s : PlainSearch) → IsOf (x ∷ []) old → is_drawn x.stage ≡ false → s ≡ search_in x old → (search_of now).problem ≡ s.problem → IsOf (x ∷ []) (Some now)
+pub search_of_still : (x : PlainStep) (old : Option PlainSearch) (now : PlainSearch) (n : ℕ) (t : Turn) (s : PlainSearch) → IsOf (x ∷ []) old → is_drawn x.stage ≡ false → s ≡ search_in x old → now.problem ≡ s.problem → IsOf (x ∷ []) (Some now)
 search_of_still x old now n t s h d same tries = (tries ∙ (ap (λ (q : PlainSearch). q.problem) same ∙ search_problem x old h), d)
 
-pub search_same : (x : PlainStep) (old : Option Walk) (now : Walk) (s : PlainSearch) → is_drawn x.stage ≡ false → s ≡ search_in x old → (search_of now).before ≡ s.before → (search_of now).walk ≡ s.walk → IsSame x old (Some now)
+pub search_same : (x : PlainStep) (old : Option PlainSearch) (now : PlainSearch) (s : PlainSearch) → is_drawn x.stage ≡ false → s ≡ search_in x old → now.before ≡ s.before → now.walk ≡ s.walk → IsSame x old (Some now)
 search_same x old now s d same before walk =
     record {
       before = before ∙ (ap (λ (q : PlainSearch). q.before) same ∙ sym (search_before x old));
@@ -108,15 +106,15 @@ search_same x old now s d same before walk =
 -- ---- the run
 
 -- where tries lead a run that is at a step
-pub at_first : (seed : List ℕ) (x : PlainStep) (rest : List PlainStep) (walk : Option Walk) (past : Past) → stand_in seed (x ∷ rest) walk past ≡ at_walk x rest (walk_of seed x walk) (before_in walk) past
+pub at_first : (seed : List ℕ) (x : PlainStep) (rest : List PlainStep) (walk : Option PlainSearch) (past : Past) → stand_in seed (x ∷ rest) walk past ≡ at_walk x rest (walk_of seed x walk) (before_in walk) past
 at_first seed x rest walk past = ap (λ (w : plain.Walk). at_walk x rest w (before_in walk) past) (walk_first seed x rest walk)
 
-pub at_same : (seed : List ℕ) (x : PlainStep) (rest : List PlainStep) (old new : Option Walk) (past : Past) → IsSame x old new → stand_in seed (x ∷ rest) new past ≡ stand_in seed (x ∷ rest) old past
+pub at_same : (seed : List ℕ) (x : PlainStep) (rest : List PlainStep) (old new : Option PlainSearch) (past : Past) → IsSame x old new → stand_in seed (x ∷ rest) new past ≡ stand_in seed (x ∷ rest) old past
 at_same seed x rest old new past h =
     at_first seed x rest new past
     ∙ (ap (λ (w : plain.Walk). at_walk x rest w (before_in new) past) (h.walk seed) ∙ (ap (λ (b : List ℕ). at_walk x rest (walk_of seed x old) b past) h.before ∙ sym (at_first seed x rest old past)))
 
-pub at_walked : (seed : List ℕ) (x : PlainStep) (rest : List PlainStep) (old new : Option Walk) (past : Past) (n : ℕ) (t : Turn) → HasWalked x old new n t →
+pub at_walked : (seed : List ℕ) (x : PlainStep) (rest : List PlainStep) (old new : Option PlainSearch) (past : Past) (n : ℕ) (t : Turn) → HasWalked x old new n t →
     stand_in seed (x ∷ rest) new (tried past t.made) ≡ at_walk x rest (after_tries x.problem (walk_of seed x old) n) (before_in old) (tried past (made (walk_of seed x old) (after_tries x.problem (walk_of seed x old) n)))
 at_walked seed x rest old new past n t h =
     at_first seed x rest new (tried past t.made)
@@ -144,7 +142,7 @@ none_left steps at within e =
     (λ f. omega (arith, lt_no at (length steps) f, within))
 
 -- where nothing is left, the run is at its end
-pub rests : (seed : List ℕ) (left : List PlainStep) (walk : Option Walk) (past : Past) → left ≡ [] → IsOf left walk → stand_in seed left walk past ≡ over past
+pub rests : (seed : List ℕ) (left : List PlainStep) (walk : Option PlainSearch) (past : Past) → left ≡ [] → IsOf left walk → stand_in seed left walk past ≡ over past
 rests seed [] None past e h = refl
 rests seed [] (Some w) past e h = absurd h
 rests seed (x ∷ rest) walk past e h = absurd (cc)
@@ -161,16 +159,16 @@ begins seed steps are = record { within = omega arith; of = of_nothing steps; st
 
 module _ (seed : List ℕ) (steps : List PlainStep) (at : ℕ) (x : PlainStep) (rest : List PlainStep) (here : drop at steps ≡ x ∷ rest) where
   -- where it stands, at this step
-  stands_here : (walk : Option Walk) (past : Past) → stand_in seed (drop at steps) walk past ≡ at_walk x rest (walk_of seed x walk) (before_in walk) past
+  stands_here : (walk : Option PlainSearch) (past : Past) → stand_in seed (drop at steps) walk past ≡ at_walk x rest (walk_of seed x walk) (before_in walk) past
   stands_here walk past = ap (λ (left : List PlainStep). stand_in seed left walk past) here ∙ at_first seed x rest walk past
 
-  pub is_here : (walk : Option Walk) → IsOf (drop at steps) walk → IsOf (x ∷ []) walk
+  pub is_here : (walk : Option PlainSearch) → IsOf (drop at steps) walk → IsOf (x ∷ []) walk
   is_here walk h = of_one x rest walk (subst (λ (left : List PlainStep). IsOf left walk) here h)
 
-  is_there : (walk : Option Walk) → IsOf (x ∷ []) walk → IsOf (drop at steps) walk
+  is_there : (walk : Option PlainSearch) → IsOf (x ∷ []) walk → IsOf (drop at steps) walk
   is_there walk h = subst (λ (left : List PlainStep). IsOf left walk) (sym here) (of_more x rest walk h)
 
-  walked_here : (old new : Option Walk) (past : Past) (n : ℕ) (t : Turn) → HasWalked x old new n t →
+  walked_here : (old new : Option PlainSearch) (past : Past) (n : ℕ) (t : Turn) → HasWalked x old new n t →
       stand_in seed (drop at steps) new (tried past t.made) ≡ walked_by (stand_in seed (drop at steps) old past) (drop at steps) n
   walked_here old new past n t h =
       let w : plain.Walk = walk_of seed x old in
@@ -178,7 +176,7 @@ module _ (seed : List ℕ) (steps : List PlainStep) (at : ℕ) (x : PlainStep) (
       ∙ (at_walked seed x rest old new past n t h
       ∙ (sym (ap (λ (s : Stand). walked_by s (x ∷ rest) n) (stands_here old past)) ∙ sym (ap (λ (left : List PlainStep). walked_by (stand_in seed (drop at steps) old past) left n) here)))
 
-  pub walked_keeps : (old new : Option Walk) (past : Past) (n : ℕ) (t : Turn) → IsRun seed steps at old past → IsOf (x ∷ []) new → HasWalked x old new n t → IsRun seed steps at new (tried past t.made)
+  pub walked_keeps : (old new : Option PlainSearch) (past : Past) (n : ℕ) (t : Turn) → IsRun seed steps at old past → IsOf (x ∷ []) new → HasWalked x old new n t → IsRun seed steps at new (tried past t.made)
   walked_keeps old new past n t run of h =
       let w : plain.Walk = walk_of seed x old in
       let was : IsStand seed steps (at_walk x rest w (before_in old) past) = subst (IsStand seed steps) (stands_here old past) run.stands in
@@ -191,11 +189,11 @@ module _ (seed : List ℕ) (steps : List PlainStep) (at : ℕ) (x : PlainStep) (
             (kept_walks_on seed steps run.steps_are x rest w (before_in old) past n (made w (after_tries x.problem w n)) was);
       }
 
-  pub same_here : (old new : Option Walk) (past : Past) → IsSame x old new → stand_in seed (drop at steps) new past ≡ stand_in seed (drop at steps) old past
+  pub same_here : (old new : Option PlainSearch) (past : Past) → IsSame x old new → stand_in seed (drop at steps) new past ≡ stand_in seed (drop at steps) old past
   same_here old new past h =
       ap (λ (left : List PlainStep). stand_in seed left new past) here ∙ (at_same seed x rest old new past h ∙ sym (ap (λ (left : List PlainStep). stand_in seed left old past) here))
 
-  pub same_keeps : (old new : Option Walk) (past : Past) → IsRun seed steps at old past → IsOf (x ∷ []) new → IsSame x old new → IsRun seed steps at new past
+  pub same_keeps : (old new : Option PlainSearch) (past : Past) → IsRun seed steps at old past → IsOf (x ∷ []) new → IsSame x old new → IsRun seed steps at new past
   same_keeps old new past run of h =
       record {
         within = run.within;
@@ -204,7 +202,7 @@ module _ (seed : List ℕ) (steps : List PlainStep) (at : ℕ) (x : PlainStep) (
         stands = subst (IsStand seed steps) (sym (same_here old new past h)) run.stands;
       }
 
-  pub walked_is : (old new : Option Walk) (past : Past) (n : ℕ) (t : Turn) → HasWalked x old new n t → IsWalkedOn (run_in seed steps at old past) n t (run_in seed steps at new (tried past t.made))
+  pub walked_is : (old new : Option PlainSearch) (past : Past) (n : ℕ) (t : Turn) → HasWalked x old new n t → IsWalkedOn (run_in seed steps at old past) n t (run_in seed steps at new (tried past t.made))
   walked_is old new past n t h =
       let w : plain.Walk = walk_of seed x old in
       let v : plain.Walk = after_tries x.problem w n in
@@ -231,7 +229,7 @@ module _ (seed : List ℕ) (steps : List PlainStep) (at : ℕ) (x : PlainStep) (
 
   -- ---- a step that is passed
 
-  behind_here : (next : ℕ) (walk : Option Walk) (past new : Past) → drop next steps ≡ (if ends x (past.found ++ found_of x (walk_of seed x walk).best) then [] else rest) →
+  behind_here : (next : ℕ) (walk : Option PlainSearch) (past new : Past) → drop next steps ≡ (if ends x (past.found ++ found_of x (walk_of seed x walk).best) then [] else rest) →
       new ≡ passed x (before_in walk) (walk_of seed x walk) (walk_of seed x walk) past →
       stand_in seed (drop next steps) None new ≡ behind seed x rest (walk_of seed x walk) (before_in walk) past
   behind_here next walk past new left is =
@@ -244,7 +242,7 @@ module _ (seed : List ℕ) (steps : List PlainStep) (at : ℕ) (x : PlainStep) (
       by true p = refl
       by false p = refl
 
-  pub passed_keeps : (next : ℕ) (walk : Option Walk) (past new : Past) → IsRun seed steps at walk past → next ≤ length steps → drop next steps ≡ (if ends x (past.found ++ found_of x (walk_of seed x walk).best) then [] else rest) →
+  pub passed_keeps : (next : ℕ) (walk : Option PlainSearch) (past new : Past) → IsRun seed steps at walk past → next ≤ length steps → drop next steps ≡ (if ends x (past.found ++ found_of x (walk_of seed x walk).best) then [] else rest) →
       new ≡ passed x (before_in walk) (walk_of seed x walk) (walk_of seed x walk) past → (walk_of seed x walk).done ≡ true → IsRun seed steps next None new
   passed_keeps next walk past new run within left is done =
       record {
@@ -256,7 +254,7 @@ module _ (seed : List ℕ) (steps : List PlainStep) (at : ℕ) (x : PlainStep) (
             (kept_passes_on seed steps run.steps_are x rest (walk_of seed x walk) (before_in walk) past done (subst (IsStand seed steps) (stands_here walk past) run.stands));
       }
 
-  pub passed_is : (next : ℕ) (walk : Option Walk) (past new : Past) → drop next steps ≡ (if ends x (past.found ++ found_of x (walk_of seed x walk).best) then [] else rest) →
+  pub passed_is : (next : ℕ) (walk : Option PlainSearch) (past new : Past) → drop next steps ≡ (if ends x (past.found ++ found_of x (walk_of seed x walk).best) then [] else rest) →
       new ≡ passed x (before_in walk) (walk_of seed x walk) (walk_of seed x walk) past → (walk_of seed x walk).done ≡ true → IsPassed (run_in seed steps at walk past) (run_in seed steps next None new)
   passed_is next walk past new left is done =
       record {
@@ -275,7 +273,7 @@ module _ (seed : List ℕ) (steps : List PlainStep) (at : ℕ) (x : PlainStep) (
       fewer false e = omega (arith, ap length e, ap length here)
 
   -- what is put behind the run is what the step leaves there
-  pub put_is : (walk : Option Walk) (past : Past) (found : Option PlainFound) (section : Option PlainSection) → option_to_list found ≡ found_of x (walk_of seed x walk).best → option_to_list section ≡ sections_of x (before_in walk) (walk_of seed x walk) →
+  pub put_is : (walk : Option PlainSearch) (past : Past) (found : Option PlainFound) (section : Option PlainSection) → option_to_list found ≡ found_of x (walk_of seed x walk).best → option_to_list section ≡ sections_of x (before_in walk) (walk_of seed x walk) →
       record { found = past.found ++ option_to_list found; closed = past.closed ++ option_to_list section; tries = past.tries } ≡ passed x (before_in walk) (walk_of seed x walk) (walk_of seed x walk) past
   put_is walk past found section f s =
       let w : plain.Walk = walk_of seed x walk in
@@ -290,7 +288,7 @@ pub on_err : {X Y : Type 0} {P : Type 0} (r : Result X Y) → P → OnErr r P
 on_err (Ok x) p = tt
 on_err (Err y) p = p
 
-module _ (now : PlainRun) (seed : List ℕ) (steps : List PlainStep) (at : ℕ) (old taken : Option Walk) (past : Past) (is_now : run_in seed steps at old past ≡ now) (some : now.stand.left ≢ []) (value : taken ≡ old) where
+module _ (now : PlainRun) (seed : List ℕ) (steps : List PlainStep) (at : ℕ) (old taken : Option PlainSearch) (past : Past) (is_now : run_in seed steps at old past ≡ now) (some : now.stand.left ≢ []) (value : taken ≡ old) where
   some_here : drop at steps ≢ []
   some_here e = some (sym (ap (λ (r : PlainRun). r.stand.left) is_now) ∙ e)
 
@@ -303,21 +301,21 @@ module _ (now : PlainRun) (seed : List ℕ) (steps : List PlainStep) (at : ℕ) 
   pub of_here : (x : PlainStep) → x ≡ get_or steps at x → IsRun seed steps at old past → IsOf (x ∷ []) taken
   of_here x is run = subst (IsOf (x ∷ [])) (sym value) (is_here seed steps at x (drop (at + 1) steps) (here_is x is) old run.of)
 
-  pub walked_on : (x : PlainStep) (new : Option Walk) (n : ℕ) (t : Turn) → x ≡ get_or steps at x → HasWalked x taken new n t → IsWalkedOn now n t (run_in seed steps at new (tried past t.made))
+  pub walked_on : (x : PlainStep) (new : Option PlainSearch) (n : ℕ) (t : Turn) → x ≡ get_or steps at x → HasWalked x taken new n t → IsWalkedOn now n t (run_in seed steps at new (tried past t.made))
   walked_on x new n t is h =
       subst (λ (r : PlainRun). IsWalkedOn r n t (run_in seed steps at new (tried past t.made))) is_now
-      (walked_is seed steps at x (drop (at + 1) steps) (here_is x is) old new past n t (subst (λ (w : Option Walk). HasWalked x w new n t) value h))
+      (walked_is seed steps at x (drop (at + 1) steps) (here_is x is) old new past n t (subst (λ (w : Option PlainSearch). HasWalked x w new n t) value h))
 
-  pub walked_kept : (x : PlainStep) (new : Option Walk) (n : ℕ) (t : Turn) → x ≡ get_or steps at x → IsRun seed steps at old past → IsOf (x ∷ []) new → HasWalked x taken new n t → IsRun seed steps at new (tried past t.made)
+  pub walked_kept : (x : PlainStep) (new : Option PlainSearch) (n : ℕ) (t : Turn) → x ≡ get_or steps at x → IsRun seed steps at old past → IsOf (x ∷ []) new → HasWalked x taken new n t → IsRun seed steps at new (tried past t.made)
   walked_kept x new n t is run of h =
-      walked_keeps seed steps at x (drop (at + 1) steps) (here_is x is) old new past n t run of (subst (λ (w : Option Walk). HasWalked x w new n t) value h)
+      walked_keeps seed steps at x (drop (at + 1) steps) (here_is x is) old new past n t run of (subst (λ (w : Option PlainSearch). HasWalked x w new n t) value h)
 
-  pub same_kept : (x : PlainStep) (new : Option Walk) → x ≡ get_or steps at x → IsRun seed steps at old past → IsOf (x ∷ []) new → IsSame x taken new → IsRun seed steps at new past
-  same_kept x new is run of h = same_keeps seed steps at x (drop (at + 1) steps) (here_is x is) old new past run of (subst (λ (w : Option Walk). IsSame x w new) value h)
+  pub same_kept : (x : PlainStep) (new : Option PlainSearch) → x ≡ get_or steps at x → IsRun seed steps at old past → IsOf (x ∷ []) new → IsSame x taken new → IsRun seed steps at new past
+  same_kept x new is run of h = same_keeps seed steps at x (drop (at + 1) steps) (here_is x is) old new past run of (subst (λ (w : Option PlainSearch). IsSame x w new) value h)
 
-  pub same_is : (x : PlainStep) (new : Option Walk) → x ≡ get_or steps at x → IsSame x taken new → run_in seed steps at new past ≡ now
+  pub same_is : (x : PlainStep) (new : Option PlainSearch) → x ≡ get_or steps at x → IsSame x taken new → run_in seed steps at new past ≡ now
   same_is x new is h =
-      ap (λ (s : Stand). record { seed = seed; steps = steps; stand = s }) (same_here seed steps at x (drop (at + 1) steps) (here_is x is) old new past (subst (λ (w : Option Walk). IsSame x w new) value h)) ∙ is_now
+      ap (λ (s : Stand). record { seed = seed; steps = steps; stand = s }) (same_here seed steps at x (drop (at + 1) steps) (here_is x is) old new past (subst (λ (w : Option PlainSearch). IsSame x w new) value h)) ∙ is_now
 
   -- the first of the steps that are left, whichever it is
   by_first : (P : Type 0) → ((x : PlainStep) (rest : List PlainStep) → drop at steps ≡ x ∷ rest → P) → P
@@ -341,7 +339,7 @@ module _ (now : PlainRun) (seed : List ℕ) (steps : List PlainStep) (at : ℕ) 
       (by_first (IsPassed (run_in seed steps at old past) (run_in seed steps next None new)) (λ x rest e. passed_is seed steps at x rest e next old past new (h.left x rest e) (h.is x rest e) (done_here x rest e done)))
 
 -- the section of the step at which it stands
-pub tail_is : (now : PlainRun) (seed : List ℕ) (steps : List PlainStep) (at : ℕ) (walk : Option Walk) (past : Past) (x : PlainStep) (o : PlainOpen) → run_in seed steps at walk past ≡ now → (rest : List PlainStep) × (now.stand.left ≡ x ∷ rest) →
+pub tail_is : (now : PlainRun) (seed : List ℕ) (steps : List PlainStep) (at : ℕ) (walk : Option PlainSearch) (past : Past) (x : PlainStep) (o : PlainOpen) → run_in seed steps at walk past ≡ now → (rest : List PlainStep) × (now.stand.left ≡ x ∷ rest) →
     ((any : List ℕ) → o ≡ record { row = x.row; stage = x.stage; digest = digest_of x.problem; letters = all_letters (before_in walk) (walk_of any x walk) }) → Some o ≡ tail_of now.stand now.stand.left
 tail_is now seed steps at walk past x o e left h =
     let rest : List PlainStep = left.0 in

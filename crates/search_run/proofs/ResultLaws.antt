@@ -10,7 +10,7 @@ use Rattle.pick_problem.proofs.Deciding.{by_test, if_cases}
 use Rattle.random_draw.specs.Draw.{draw_of}
 use Rattle.search_run.specs.Found.{PlainFound, IsResultOf, IsTaken, found_of, taken}
 use Rattle.search_run.specs.Kept.{Along, At, CanGoOn, IsDueAt, IsFitAt, IsFitFor, IsPositionFor, PlainSaved, answered, answered_by, at_end, comes_to, first_search, is_over, kept_walk, log_of, refreshed, saved_by, saved_of, stand_of, tail_letters, tail_of, to_search}
-use Rattle.search_run.specs.Run.{Stand, at_hand, draws_behind, end_by, end_of, ends, go_on, later_draws, or_unfinished}
+use Rattle.search_run.specs.Run.{Stand, results_in_column, draws_behind, end_by, end_of, ends, go_on, later_draws, or_unfinished}
 use Rattle.search_run.specs.Stands.{IsEndOf, IsKeptWalk, IsStand, IsWalkAt, IsWalkBy}
 use Rattle.search_run.specs.Step.{AreSteps, IsStep, PlainStep, is_drawn}
 use Rattle.search_run.specs.declared.ending.End.{End}
@@ -104,7 +104,7 @@ module _ (seed : List ℕ) (steps : List PlainStep) (are : AreSteps steps) where
       (λ d. subst (λ (v : Walk). IsFit x.problem v.best) (sym (walk_was IsKeptWalk true seed x before w d h)) (draw_fits seed x is d))
       (λ d. (walk_was IsKeptWalk false seed x before w d h).fit)
 
-  hand_of : (s : Stand) (left : List PlainStep) → IsWalkAt IsKeptWalk seed left s.before s.walk → (front : List PlainStep) → steps ≡ front ++ left → AllByRecursion (IsResultOf steps) s.past.found → AllByRecursion (IsResultOf steps) (at_hand seed s left)
+  hand_of : (s : Stand) (left : List PlainStep) → IsWalkAt IsKeptWalk seed left s.before s.walk → (front : List PlainStep) → steps ≡ front ++ left → AllByRecursion (IsResultOf steps) s.past.found → AllByRecursion (IsResultOf steps) (results_in_column seed s left)
   hand_of s [] walk front parts found = tt
   hand_of s (x ∷ rest) walk front parts found =
       let is : IsStep x = step_here front rest x (subst AreSteps parts are) in
@@ -129,7 +129,7 @@ module _ (seed : List ℕ) (steps : List PlainStep) (are : AreSteps steps) where
 
   end_is : (take : Bool) (s : Stand) (left : List PlainStep) → IsWalkAt IsKeptWalk seed left s.before s.walk → (front : List PlainStep) → steps ≡ front ++ left → AllByRecursion (IsResultOf steps) s.past.found → IsEndOf steps (end_by take seed s left)
   end_is take s [] walk front parts found = ended_is s.past.found (taken s.past.found) refl found
-  end_is true s (x ∷ rest) walk front parts found = partial_is (at_hand seed s (x ∷ rest)) (taken (at_hand seed s (x ∷ rest))) refl (hand_of s (x ∷ rest) walk front parts found)
+  end_is true s (x ∷ rest) walk front parts found = partial_is (results_in_column seed s (x ∷ rest)) (taken (results_in_column seed s (x ∷ rest))) refl (hand_of s (x ∷ rest) walk front parts found)
   end_is false s (x ∷ rest) walk front parts found = tt
 
   pub ends_of : (take : Bool) (s : Stand) → IsStand seed steps s → IsEndOf steps (end_of take seed s)

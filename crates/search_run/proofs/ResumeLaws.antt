@@ -1,4 +1,5 @@
 -- What is kept is gone on from, or refused.
+use Rattle.walk_engine.specs.Search.{PlainSearch}
 use Rattle.std.specs.Prelude.{ℕ, ◌≡◌, ◌≤◌, ◌<◌, Bool, true, false, List, [], ◌∷◌, length, drop, get_or, ◌+◌, Option, Some, None, IfSome, IsSome, IsSomeAnd, Result, Ok, Err, IfErr}
 use Rattle.std.proofs.Common.{rules, refl, sym, ap, subst, ◌∙◌, inl, inr}
 use Rattle.closing_log.specs.Log.{PlainLog, PlainOpen}
@@ -11,12 +12,10 @@ use Rattle.search_run.specs.Run.{Past, Stand}
 use Rattle.search_run.specs.Runs.{PlainRun}
 use Rattle.search_run.specs.Stands.{IsStand}
 use Rattle.search_run.specs.Step.{AreSteps, PlainStep}
-use Rattle.search_keep.specs.Walks.{search_of}
-use Rattle.search_run.specs.declared.coming.Coming.{Coming}
+use Rattle.search_run.specs.declared.next_search.NextSearch.{NextSearch}
 use Rattle.search_run.specs.declared.fault.RestoreRefused.{RestoreRefused}
 use Rattle.search_run.specs.declared.fault.RestoreRefused.TheVariants as refused
 use Rattle.search_run.specs.declared.restoring.Restored.{Restored}
-use Rattle.search_keep.specs.declared.walk.Walk.{Walk}
 use Rattle.search_run.proofs.ComeLaws.{IsSearchFirst, comes_to_search}
 use Rattle.search_run.proofs.AlongLaws.{step_at}
 use Rattle.search_run.proofs.ResultLaws.{comes_search, kept_stands}
@@ -42,34 +41,34 @@ module _ (seed : List ℕ) (steps : List PlainStep) (k : PlainSaved) (log : Plai
   not_followed (refused.Answer i) h = absurd h
   not_followed refused.Memory h = tt
 
-  pub without_tail : (c : Coming) (i : ℕ) → HasFollowed seed steps log.closed c → log.tail ≡ None → i ≡ length log.closed → IsRefusedFor seed steps k log (refused.Section i)
+  pub without_tail : (c : NextSearch) (i : ℕ) → HasFollowed seed steps log.closed c → log.tail ≡ None → i ≡ length log.closed → IsRefusedFor seed steps k log (refused.Section i)
   without_tail c i h e at = inr (h.due, at, λ right. subst (λ (t : Option PlainOpen). IsSomeAnd t (IsOpenAt (comes_to seed (first_search seed steps) log.closed) k)) e right)
 
-  open_there : (c : Coming) (o : PlainOpen) → HasFollowed seed steps log.closed c → IsOpenAt (record { left = drop c.at steps; found = (comes_to seed (first_search seed steps) log.closed).found }) k o → IsOpenAt (comes_to seed (first_search seed steps) log.closed) k o
+  open_there : (c : NextSearch) (o : PlainOpen) → HasFollowed seed steps log.closed c → IsOpenAt (record { left = drop c.at steps; found = (comes_to seed (first_search seed steps) log.closed).found }) k o → IsOpenAt (comes_to seed (first_search seed steps) log.closed) k o
   open_there c o h right = subst (λ (l : List PlainStep). IsOpenAt (record { left = l; found = (comes_to seed (first_search seed steps) log.closed).found }) k o) (sym h.comes.left) right
 
-  open_here : (c : Coming) (o : PlainOpen) → HasFollowed seed steps log.closed c → IsOpenAt (comes_to seed (first_search seed steps) log.closed) k o → IsOpenAt (record { left = drop c.at steps; found = (comes_to seed (first_search seed steps) log.closed).found }) k o
+  open_here : (c : NextSearch) (o : PlainOpen) → HasFollowed seed steps log.closed c → IsOpenAt (comes_to seed (first_search seed steps) log.closed) k o → IsOpenAt (record { left = drop c.at steps; found = (comes_to seed (first_search seed steps) log.closed).found }) k o
   open_here c o h right = subst (λ (l : List PlainStep). IsOpenAt (record { left = l; found = (comes_to seed (first_search seed steps) log.closed).found }) k o) h.comes.left right
 
-  pub wrong_tail : (c : Coming) (i : ℕ) (o : PlainOpen) → HasFollowed seed steps log.closed c → log.tail ≡ Some o → i ≡ length log.closed → (IsOpenAt (record { left = drop c.at steps; found = (comes_to seed (first_search seed steps) log.closed).found }) k o → ⊥) → IsRefusedFor seed steps k log (refused.Section i)
+  pub wrong_tail : (c : NextSearch) (i : ℕ) (o : PlainOpen) → HasFollowed seed steps log.closed c → log.tail ≡ Some o → i ≡ length log.closed → (IsOpenAt (record { left = drop c.at steps; found = (comes_to seed (first_search seed steps) log.closed).found }) k o → ⊥) → IsRefusedFor seed steps k log (refused.Section i)
   wrong_tail c i o h e at wrong = inr (h.due, at, λ right. wrong (open_here c o h (subst (λ (t : Option PlainOpen). IsSomeAnd t (IsOpenAt (comes_to seed (first_search seed steps) log.closed) k)) e right)))
 
-  pub sections_right : (c : Coming) (o : PlainOpen) → HasFollowed seed steps log.closed c → log.tail ≡ Some o → IsOpenAt (record { left = drop c.at steps; found = (comes_to seed (first_search seed steps) log.closed).found }) k o → AreSectionsRight seed steps k log
+  pub sections_right : (c : NextSearch) (o : PlainOpen) → HasFollowed seed steps log.closed c → log.tail ≡ Some o → IsOpenAt (record { left = drop c.at steps; found = (comes_to seed (first_search seed steps) log.closed).found }) k o → AreSectionsRight seed steps k log
   sections_right c o h e right = record { closed = h.due; tail = subst (λ (t : Option PlainOpen). IsSomeAnd t (IsOpenAt (comes_to seed (first_search seed steps) log.closed) k)) (sym e) (open_there c o h right) }
 
-  place_there : (c : Coming) (x : PlainStep) → HasFollowed seed steps log.closed c → c.at < length steps → x ≡ get_or steps c.at x → IsPosition x.problem (kept_walk k) → IsPlaceRight seed steps k log
+  place_there : (c : NextSearch) (x : PlainStep) → HasFollowed seed steps log.closed c → c.at < length steps → x ≡ get_or steps c.at x → IsPosition x.problem (kept_walk k) → IsPlaceRight seed steps k log
   place_there c x h below is right = subst (λ (l : List PlainStep). IsPositionFor l (kept_walk k)) (sym (h.comes.left ∙ step_at steps c.at x below is)) right
 
-  place_here : (c : Coming) (x : PlainStep) → HasFollowed seed steps log.closed c → c.at < length steps → x ≡ get_or steps c.at x → IsPlaceRight seed steps k log → IsPosition x.problem (kept_walk k)
+  place_here : (c : NextSearch) (x : PlainStep) → HasFollowed seed steps log.closed c → c.at < length steps → x ≡ get_or steps c.at x → IsPlaceRight seed steps k log → IsPosition x.problem (kept_walk k)
   place_here c x h below is right = subst (λ (l : List PlainStep). IsPositionFor l (kept_walk k)) (h.comes.left ∙ step_at steps c.at x below is) right
 
-  pub no_walk : (c : Coming) (x : PlainStep) (e : RestoreRefused) → HasFollowed seed steps log.closed c → c.at < length steps → x ≡ get_or steps c.at x → AreSectionsRight seed steps k log → IsNoWalk x.problem k e → IsRefusedFor seed steps k log e
+  pub no_walk : (c : NextSearch) (x : PlainStep) (e : RestoreRefused) → HasFollowed seed steps log.closed c → c.at < length steps → x ≡ get_or steps c.at x → AreSectionsRight seed steps k log → IsNoWalk x.problem k e → IsRefusedFor seed steps k log e
   no_walk c x (refused.Section i) h below is right no_place = absurd no_place
   no_walk c x refused.IllFormed h below is right no_place = (right, λ p. no_place (place_here c x h below is p))
   no_walk c x (refused.Answer i) h below is right no_place = absurd no_place
   no_walk c x refused.Memory h below is right no_place = tt
 
-  pub unfit_is : (c : Coming) (x : PlainStep) (w : Walk) (letters : List ℕ) (e : RestoreRefused) → HasFollowed seed steps log.closed c → c.at < length steps → x ≡ get_or steps c.at x → AreSectionsRight seed steps k log → IsWalkKept x.problem k letters w → IsUnfit seed steps log.closed e → IsRefusedFor seed steps k log e
+  pub unfit_is : (c : NextSearch) (x : PlainStep) (w : PlainSearch) (letters : List ℕ) (e : RestoreRefused) → HasFollowed seed steps log.closed c → c.at < length steps → x ≡ get_or steps c.at x → AreSectionsRight seed steps k log → IsWalkKept x.problem k letters w → IsUnfit seed steps log.closed e → IsRefusedFor seed steps k log e
   unfit_is c x w letters (refused.Section i) h below is right kept unfit = absurd unfit
   unfit_is c x w letters refused.IllFormed h below is right kept unfit = absurd unfit
   unfit_is c x w letters (refused.Answer i) h below is right kept unfit = (right, place_there c x h below is kept.position, unfit)
@@ -77,7 +76,7 @@ module _ (seed : List ℕ) (steps : List PlainStep) (k : PlainSaved) (log : Plai
 
   -- ---- what goes on
 
-  pub resumes : (c : Coming) (x : PlainStep) (o : PlainOpen) (w : Walk) (past : Past) (r : Restored) → HasFollowed seed steps log.closed c → log.tail ≡ Some o → IsOpenAt (record { left = drop c.at steps; found = (comes_to seed (first_search seed steps) log.closed).found }) k o → c.at < length steps → x ≡ get_or steps c.at x →
+  pub resumes : (c : NextSearch) (x : PlainStep) (o : PlainOpen) (w : PlainSearch) (past : Past) (r : Restored) → HasFollowed seed steps log.closed c → log.tail ≡ Some o → IsOpenAt (record { left = drop c.at steps; found = (comes_to seed (first_search seed steps) log.closed).found }) k o → c.at < length steps → x ≡ get_or steps c.at x →
       IsWalkKept x.problem k o.letters w → IsReplayed seed steps log.closed k.tries past → r.at ≡ c.at → r.walk ≡ w → r.past ≡ past → IsRestored seed steps k log r
   resumes c x o w past r h e right below is kept replayed at walk past_is =
       record {
@@ -90,9 +89,9 @@ module _ (seed : List ℕ) (steps : List PlainStep) (k : PlainSaved) (log : Plai
         };
         within = subst (λ (n : ℕ). n ≤ length steps) (sym at) h.comes.within;
         left = ap (λ (n : ℕ). drop n steps) at ∙ sym h.comes.left;
-        problem = λ y rest here. ap (λ (v : Walk). (search_of v).problem) walk ∙ (kept.problem ∙ same y rest (sym (ap (λ (n : ℕ). drop n steps) at) ∙ here));
-        walk = ap (λ (v : Walk). (search_of v).walk) walk ∙ kept.walk;
-        before = ap (λ (v : Walk). (search_of v).before) walk ∙ (kept.before ∙ ap tail_letters (sym e));
+        problem = λ y rest here. ap (λ (v : PlainSearch). v.problem) walk ∙ (kept.problem ∙ same y rest (sym (ap (λ (n : ℕ). drop n steps) at) ∙ here));
+        walk = ap (λ (v : PlainSearch). v.walk) walk ∙ kept.walk;
+        before = ap (λ (v : PlainSearch). v.before) walk ∙ (kept.before ∙ ap tail_letters (sym e));
         past = past_is ∙ replayed.is;
       }
     where
@@ -111,8 +110,8 @@ module _ (seed : List ℕ) (steps : List PlainStep) (k : PlainSaved) (log : Plai
 
   pub restored_stand : (r : Restored) → IsRestored seed steps k log r → stand_in seed (drop r.at steps) (Some r.walk) r.past ≡ stand_of seed steps k log
   restored_stand r h =
-      ap (λ (l : List PlainStep). record { left = l; walk = (search_of r.walk).walk; before = (search_of r.walk).before; past = r.past }) h.left
-      ∙ (ap (λ (w : plain.Walk). record { left = (comes_to seed (first_search seed steps) log.closed).left; walk = w; before = (search_of r.walk).before; past = r.past }) h.walk
+      ap (λ (l : List PlainStep). record { left = l; walk = r.walk.walk; before = r.walk.before; past = r.past }) h.left
+      ∙ (ap (λ (w : plain.Walk). record { left = (comes_to seed (first_search seed steps) log.closed).left; walk = w; before = r.walk.before; past = r.past }) h.walk
       ∙ (ap (λ (b : List ℕ). record { left = (comes_to seed (first_search seed steps) log.closed).left; walk = kept_walk k; before = b; past = r.past }) h.before
       ∙ ap (λ (p : Past). record { left = (comes_to seed (first_search seed steps) log.closed).left; walk = kept_walk k; before = tail_letters log.tail; past = p }) h.past))
 

@@ -10,42 +10,40 @@ use Rattle.search_run.specs.Found.{found_of}
 use Rattle.search_run.specs.Runs.{PlainRun}
 use Rattle.search_run.specs.Stands.{IsStand}
 use Rattle.search_run.specs.Step.{AreSteps, PlainStep, is_drawn}
-use Rattle.search_keep.specs.Walks.{search_of}
-use Rattle.search_keep.specs.declared.walk.Walk.{Walk}
 use Rattle.search_run.specs.declared.walking.Turn.{Turn}
 
 -- the walk of the first step that is left; one that hasn't begun stands where it begins
-abbrev pub walk_in : List ℕ → List PlainStep → Option Walk → plain.Walk
+abbrev pub walk_in : List ℕ → List PlainStep → Option PlainSearch → plain.Walk
 walk_in seed left None = begun_first seed left
-walk_in seed left (Some w) = (search_of w).walk
+walk_in seed left (Some w) = w.walk
 
 -- the walk of a step
-abbrev pub walk_of : List ℕ → PlainStep → Option Walk → plain.Walk
+abbrev pub walk_of : List ℕ → PlainStep → Option PlainSearch → plain.Walk
 walk_of seed x None = begun seed x
-walk_of seed x (Some w) = (search_of w).walk
+walk_of seed x (Some w) = w.walk
 
-abbrev pub before_in : Option Walk → List ℕ
+abbrev pub before_in : Option PlainSearch → List ℕ
 before_in None = []
-before_in (Some w) = (search_of w).before
+before_in (Some w) = w.before
 
-abbrev pub stand_in : List ℕ → List PlainStep → Option Walk → Past → Stand
+abbrev pub stand_in : List ℕ → List PlainStep → Option PlainSearch → Past → Stand
 stand_in seed left walk past = record { left = left; walk = walk_in seed left walk; before = before_in walk; past = past }
 
-abbrev pub run_in : List ℕ → List PlainStep → ℕ → Option Walk → Past → PlainRun
+abbrev pub run_in : List ℕ → List PlainStep → ℕ → Option PlainSearch → Past → PlainRun
 run_in seed steps at walk past = record { seed = seed; steps = steps; stand = stand_in seed (drop at steps) walk past }
 
 -- a walk is that of the first step, which is a search
-abbrev pub IsOf : List PlainStep → Option Walk → Type 0
+abbrev pub IsOf : List PlainStep → Option PlainSearch → Type 0
 IsOf left None = Unit {0}
 IsOf [] (Some w) = ⊥
-IsOf (x ∷ rest) (Some w) = ((search_of w).problem ≡ x.problem) × (is_drawn x.stage ≡ false)
+IsOf (x ∷ rest) (Some w) = (w.problem ≡ x.problem) × (is_drawn x.stage ≡ false)
 
 -- ---- pieces
 
 -- the search of a step, which begins where it has not begun
-abbrev pub search_in : PlainStep → Option Walk → PlainSearch
+abbrev pub search_in : PlainStep → Option PlainSearch → PlainSearch
 search_in x None = begun_search x.problem
-search_in x (Some w) = search_of w
+search_in x (Some w) = w
 
 -- so many tries of a search were granted, and some made
 pub record Tries (old new : PlainSearch) (n : ℕ) (t : Turn) : Type 0 where
@@ -56,19 +54,19 @@ pub record Tries (old new : PlainSearch) (n : ℕ) (t : Turn) : Type 0 where
   pub over : t.done ≡ new.walk.done
 
 -- the same of the walk of a step, which may have begun or not
-pub record HasWalked (x : PlainStep) (old new : Option Walk) (n : ℕ) (t : Turn) : Type 0 where
+pub record HasWalked (x : PlainStep) (old new : Option PlainSearch) (n : ℕ) (t : Turn) : Type 0 where
   pub before : before_in new ≡ before_in old
   pub walk : (seed : List ℕ) → walk_of seed x new ≡ after_tries x.problem (walk_of seed x old) n
   pub count : (seed : List ℕ) → t.made ≡ made (walk_of seed x old) (walk_of seed x new)
   pub over : (seed : List ℕ) → t.done ≡ (walk_of seed x new).done
 
 -- no try was made
-pub record IsSame (x : PlainStep) (old new : Option Walk) : Type 0 where
+pub record IsSame (x : PlainStep) (old new : Option PlainSearch) : Type 0 where
   pub before : before_in new ≡ before_in old
   pub walk : (seed : List ℕ) → walk_of seed x new ≡ walk_of seed x old
 
 -- a step is left for the next one, with what it has come to
-pub record HasLeft (seed : List ℕ) (steps : List PlainStep) (at : ℕ) (walk : Option Walk) (old : Past) (next : ℕ) (new : Past) : Type 0 where
+pub record HasLeft (seed : List ℕ) (steps : List PlainStep) (at : ℕ) (walk : Option PlainSearch) (old : Past) (next : ℕ) (new : Past) : Type 0 where
   pub within : next ≤ length steps
   pub left : (x : PlainStep) (rest : List PlainStep) → drop at steps ≡ x ∷ rest → drop next steps ≡ (if ends x (old.found ++ found_of x (walk_of seed x walk).best) then [] else rest)
   pub is : (x : PlainStep) (rest : List PlainStep) → drop at steps ≡ x ∷ rest → new ≡ passed x (before_in walk) (walk_of seed x walk) (walk_of seed x walk) old
@@ -82,7 +80,7 @@ pub record IsPlaceOf (q : Position) (w : plain.Walk) : Type 0 where
 -- ---- the whole
 
 -- what each run keeps
-pub record IsRun (seed : List ℕ) (steps : List PlainStep) (at : ℕ) (walk : Option Walk) (past : Past) : Type 0 where
+pub record IsRun (seed : List ℕ) (steps : List PlainStep) (at : ℕ) (walk : Option PlainSearch) (past : Past) : Type 0 where
   pub within : at ≤ length steps
   pub of : IsOf (drop at steps) walk
   pub steps_are : AreSteps steps

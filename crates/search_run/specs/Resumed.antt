@@ -1,22 +1,21 @@
 -- What is kept of a run, as the code goes on from it.
+use Rattle.walk_engine.specs.Search.{PlainSearch}
 use Rattle.std.specs.Prelude.{ℕ, ◌≡◌, ◌≤◌, List, ◌∷◌, length, drop}
 use Rattle.closing_log.specs.Log.{PlainLog, PlainSection}
 use Rattle.pick_problem.specs.Problem.{PlainProblem}
 use Rattle.pick_problem.specs.Walk.{IsPosition}
-use Rattle.search_keep.specs.Walks.{search_of}
-use Rattle.search_keep.specs.declared.walk.Walk.{Walk}
 use Rattle.search_run.specs.Along.{ComesTo}
 use Rattle.search_run.specs.Judged.{IsFirstNot}
 use Rattle.search_run.specs.Kept.{Along, CanGoOn, IsDueAt, IsFitAt, PlainSaved, comes_to, first_search, kept_walk, tail_letters, to_search}
 use Rattle.search_run.specs.Run.{Past}
 use Rattle.search_run.specs.Step.{PlainStep}
-use Rattle.search_run.specs.declared.coming.Coming.{Coming}
+use Rattle.search_run.specs.declared.next_search.NextSearch.{NextSearch}
 use Rattle.search_run.specs.declared.fault.RestoreRefused.{RestoreRefused}
 use Rattle.search_run.specs.declared.fault.RestoreRefused.TheVariants as refused
 use Rattle.search_run.specs.declared.restoring.Restored.{Restored}
 
 -- each section is that of the search to which the run comes, and after them all it comes to this place
-pub record HasFollowed (seed : List ℕ) (steps : List PlainStep) (closed : List PlainSection) (c : Coming) : Type 0 where
+pub record HasFollowed (seed : List ℕ) (steps : List PlainStep) (closed : List PlainSection) (c : NextSearch) : Type 0 where
   pub due : Along IsDueAt seed (first_search seed steps) closed
   pub comes : ComesTo steps c (comes_to seed (first_search seed steps) closed)
 
@@ -28,10 +27,10 @@ IsNotFollowed seed steps closed (refused.Answer i) = ⊥
 IsNotFollowed seed steps closed refused.Memory = Unit {0}
 
 -- the walk at a saved position, at which one may stand
-pub record IsWalkKept (p : PlainProblem) (k : PlainSaved) (letters : List ℕ) (w : Walk) : Type 0 where
-  pub problem : (search_of w).problem ≡ p
-  pub walk : (search_of w).walk ≡ kept_walk k
-  pub before : (search_of w).before ≡ letters
+pub record IsWalkKept (p : PlainProblem) (k : PlainSaved) (letters : List ℕ) (w : PlainSearch) : Type 0 where
+  pub problem : w.problem ≡ p
+  pub walk : w.walk ≡ kept_walk k
+  pub before : w.before ≡ letters
   pub position : IsPosition p (kept_walk k)
 
 abbrev pub IsNoWalk : PlainProblem → PlainSaved → RestoreRefused → Type 0
@@ -64,7 +63,7 @@ pub record IsRestored (seed : List ℕ) (steps : List PlainStep) (k : PlainSaved
   pub can : CanGoOn seed steps k log
   pub within : r.at ≤ length steps
   pub left : drop r.at steps ≡ (comes_to seed (first_search seed steps) log.closed).left
-  pub problem : (x : PlainStep) (rest : List PlainStep) → drop r.at steps ≡ x ∷ rest → (search_of r.walk).problem ≡ x.problem
-  pub walk : (search_of r.walk).walk ≡ kept_walk k
-  pub before : (search_of r.walk).before ≡ tail_letters log.tail
+  pub problem : (x : PlainStep) (rest : List PlainStep) → drop r.at steps ≡ x ∷ rest → r.walk.problem ≡ x.problem
+  pub walk : r.walk.walk ≡ kept_walk k
+  pub before : r.walk.before ≡ tail_letters log.tail
   pub past : r.past ≡ record { found = (comes_to seed (first_search seed steps) log.closed).found; closed = log.closed; tries = k.tries }

@@ -124,9 +124,9 @@ draws_behind seed x rest = if x.last then [] else later_draws seed rest
 
 -- the results that there are of the column of a walk that goes on: those of the steps before it, its best so far, and the
 -- draws behind it, which are made even so
-abbrev pub at_hand : List ℕ → Stand → List PlainStep → List PlainFound
-at_hand seed s [] = []
-at_hand seed s (x ∷ rest) = s.past.found ++ (found_of x s.walk.best ++ draws_behind seed x rest)
+abbrev pub results_in_column : List ℕ → Stand → List PlainStep → List PlainFound
+results_in_column seed s [] = []
+results_in_column seed s (x ∷ rest) = s.past.found ++ (found_of x s.walk.best ++ draws_behind seed x rest)
 
 abbrev pub or_unfinished : Option PlainFound → End
 or_unfinished None = Unfinished
@@ -134,7 +134,7 @@ or_unfinished (Some f) = Partial f
 
 abbrev pub end_by : (take : Bool) → List ℕ → Stand → List PlainStep → End
 end_by take seed s [] = Ended (taken s.past.found)
-end_by take seed s (x ∷ rest) = if take then or_unfinished (taken (at_hand seed s (x ∷ rest))) else Unfinished
+end_by take seed s (x ∷ rest) = if take then or_unfinished (taken (results_in_column seed s (x ∷ rest))) else Unfinished
 
 -- what a stand comes to, a result being taken for want of tries or not
 abbrev pub end_of : (take : Bool) → List ℕ → Stand → End

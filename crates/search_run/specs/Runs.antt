@@ -18,7 +18,7 @@ pub record RunLeads (a : PlainRun) (k : ℕ) (b : PlainRun) : Type 0 where
   pub same_steps : b.steps ≡ a.steps
   pub leads : Leads a.seed a.stand k b.stand
 
--- what is saved of a search, with a job and a number of parts
-abbrev pub saved_with : List ℕ → ℕ → Option PlainSaved → Option text.PlainSaved
-saved_with job parts None = None
-saved_with job parts (Some k) = Some (record { job = job; tries = k.tries; row = k.row; stage = k.stage; chosen = k.chosen; next = k.next; best = k.best; parts = parts })
+-- what is saved of a search, with a job, a number of parts and a digest of the log, if it is kept
+abbrev pub saved_with : List ℕ → ℕ → Option (List ℕ) → Option PlainSaved → Option text.PlainSaved
+saved_with job parts log None = None
+saved_with job parts log (Some k) = Some (record { job = job; tries = k.tries; row = k.row; stage = k.stage; chosen = k.chosen; next = k.next; best = k.best; parts = parts; log = log })

@@ -12,8 +12,8 @@ use closing_log::{OpenSection, Section};
 use fund_base::{Memory, Places};
 use pick_problem::Position;
 use random_draw::draw;
-use search_keep::Walk;
 use std::alloc::Global;
+use walk_engine::Search;
 
 /// A copy of an answer. The error is out of memory.
 pub(crate) fn copy_answer(alloc: Global, answer: &Option<Places>) -> Result<Option<Places>, Memory>
@@ -54,7 +54,7 @@ pub(crate) fn copy_sections(alloc: Global, sections: &[Section]) -> Result<Vec<S
 }
 
 /// The section of a step at which a run stands, with its letters so far. The error is out of memory.
-pub(crate) fn tail(alloc: Global, step: &Step, walk: &Option<Walk>) -> Result<OpenSection, Memory>
+pub(crate) fn tail(alloc: Global, step: &Step, walk: &Option<Search>) -> Result<OpenSection, Memory>
     requires { IsOf (step.now ∷ []) walk.now }
     ensures { (seed : List ℕ) → IfOk result (λ s. s ≡ record {
       row = step.now.row;
@@ -73,7 +73,7 @@ pub(crate) fn tail(alloc: Global, step: &Step, walk: &Option<Walk>) -> Result<Op
     }
     match walk {
         None => {
-            let begun = Walk::new(alloc, step.problem())?;
+            let begun = Search::new(alloc, step.problem())?;
             open_section(alloc, step, &begun)
         }
         Some(walk) => open_section(alloc, step, walk),
@@ -100,7 +100,7 @@ pub(crate) fn place(
     alloc: Global,
     seed: [u8; 32],
     step: &Step,
-    walk: &Option<Walk>,
+    walk: &Option<Search>,
 ) -> Result<Position, Memory>
     requires { IsOf (step.now ∷ []) walk.now }
     ensures { IfOk result (λ q. IsPlaceOf q (walk_of seed step.now walk.now)) }
@@ -110,7 +110,7 @@ pub(crate) fn place(
     }
     match walk {
         None => {
-            let begun = Walk::new(alloc, step.problem())?;
+            let begun = Search::new(alloc, step.problem())?;
             begun.position(alloc)
         }
         Some(walk) => walk.position(alloc),

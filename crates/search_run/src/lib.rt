@@ -3,20 +3,21 @@
 //! and its stage. Coins, fees, requests and files are unknown here.
 #![tactic(auto)]
 
-mod coming;
+mod column_results;
 mod ending;
 mod fault;
 mod found;
-mod hand;
+mod history;
 mod keeping;
 mod laws;
+mod next_search;
 mod outcome;
 mod restoring;
 mod resuming;
 mod run;
+mod section_check;
 mod sections;
 mod step;
-mod trail;
 mod verifying;
 mod walking;
 mod worked;
@@ -34,6 +35,7 @@ pub use resuming::{
     log_faults_have_one_cause, refusals_have_one_cause, runs_stand, verified_runs_have_the_answer,
 };
 pub use run::SearchRun;
+pub use section_check::check_section;
 pub use sections::{open_section, section};
 pub use step::Step;
 pub use worked::{worked_budgets, worked_columns, worked_resuming};

@@ -6,17 +6,16 @@ ghost use Rattle.search_run.specs.Found.{found_of};
 ghost use Rattle.search_run.specs.Held.{HasLeft, IsOf, before_in, walk_of};
 ghost use Rattle.search_run.specs.Run.{sections_of};
 ghost use Rattle.search_run.specs.Step.{is_drawn};
-ghost use Rattle.search_keep.specs.Walks.{search_of};
 
 use crate::found::Found;
+use crate::history::{History, next};
 use crate::sections::section;
 use crate::step::Step;
-use crate::trail::{Trail, next};
 use closing_log::Section;
 use fund_base::Memory;
 use random_draw::draw;
-use search_keep::Walk;
 use std::alloc::Global;
+use walk_engine::Search;
 
 /// What a draw finds by a seed. The error is out of memory.
 pub(crate) fn drawn_result(
@@ -37,9 +36,9 @@ pub(crate) fn drawn_result(
 }
 
 /// The best of the walk of a search so far; `None` where it hasn't begun. The error is out of memory.
-fn best_so_far(alloc: Global, step: &Step, walk: &Walk) -> Result<Option<Found>, Memory>
-    requires { (search_of walk.now).problem ≡ step.now.problem }
-    ensures { IfOk result (λ f. option_to_list f ≡ found_of step.now (search_of walk.now).walk.best) }
+fn best_so_far(alloc: Global, step: &Step, walk: &Search) -> Result<Option<Found>, Memory>
+    requires { walk.now.problem ≡ step.now.problem }
+    ensures { IfOk result (λ f. option_to_list f ≡ found_of step.now walk.now.walk.best) }
 {
     let _tries = walk.tries();
     match walk.best() {
@@ -56,7 +55,7 @@ pub(crate) fn result_so_far(
     alloc: Global,
     seed: [u8; 32],
     step: &Step,
-    walk: &Option<Walk>,
+    walk: &Option<Search>,
 ) -> Result<Option<Found>, Memory>
     requires { IsOf (step.now ∷ []) walk.now }
     ensures { IfOk result (λ f. option_to_list f ≡ found_of step.now (walk_of seed step.now walk.now).best) }
@@ -74,7 +73,7 @@ pub(crate) fn result_so_far(
 pub(crate) fn closing(
     alloc: Global,
     step: &Step,
-    walk: &Option<Walk>,
+    walk: &Option<Search>,
 ) -> Result<Option<Section>, Memory>
     requires { IsOf (step.now ∷ []) walk.now }
     ensures { (seed : List ℕ) → IfOk result (λ s. option_to_list s ≡ sections_of step.now (before_in walk.now) (walk_of seed step.now walk.now)) }
@@ -84,7 +83,7 @@ pub(crate) fn closing(
     }
     match walk {
         None => {
-            let begun = Walk::new(alloc, step.problem())?;
+            let begun = Search::new(alloc, step.problem())?;
             let closed = section(alloc, step, &begun)?;
             Ok(Some(closed))
         }
@@ -102,8 +101,8 @@ pub(crate) fn leave(
     seed: [u8; 32],
     steps: &[Step],
     at: usize,
-    walk: &Option<Walk>,
-    past: &mut Trail,
+    walk: &Option<Search>,
+    past: &mut History,
 ) -> Result<usize, Memory>
     requires below { at < length steps.now }
     requires of { IsOf (drop at steps.now) walk.now }

@@ -10,18 +10,19 @@ ghost use Rattle.search_run.specs.Kept.{Along, IsDueAt, IsOpenAt, Names, NamesFi
 ghost use Rattle.search_run.specs.Walks.{kept_position};
 ghost use Rattle.search_run.specs.declared.fault.RestoreRefused.TheVariants as refused;
 
-use crate::coming::{Coming, answered, first};
 use crate::fault::RestoreRefused;
 use crate::found::Found;
+use crate::history::{History, next};
 use crate::keeping::{copy_answer, copy_section};
+use crate::next_search::{NextSearch, answered, first};
 use crate::outcome::drawn_result;
 use crate::step::Step;
-use crate::trail::{Trail, next};
 use closing_log::{LogText, OpenSection, Section, Stage, tries_in};
 use fund_base::{Memory, Places};
 use pick_problem::{Position, Problem, RestoreFault};
-use search_keep::{Saved, Walk};
+use search_keep::Saved;
 use std::alloc::Global;
+use walk_engine::Search;
 
 /// Whether row, stage and digest are those of a step.
 fn names(step: &Step, row: u8, stage: Stage, digest: &[u8; 32]) -> bool
@@ -47,7 +48,7 @@ fn follow(
     seed: [u8; 32],
     steps: &[Step],
     closed: &[Section],
-) -> Result<Coming, RestoreRefused>
+) -> Result<NextSearch, RestoreRefused>
     ensures ok { IfOk result (λ c. HasFollowed seed steps.now closed.now c) }
     ensures refused { IfErr result (λ e. IsNotFollowed seed steps.now closed.now e) }
 {
@@ -91,7 +92,7 @@ fn walk_at(
     step: &Step,
     place: &Position,
     letters: &[u8],
-) -> Result<Walk, RestoreRefused>
+) -> Result<Search, RestoreRefused>
     ensures walk { (k : PlainSaved) → place.now ≡ kept_position k letters.now →
         IfOk result (λ w. IsWalkKept step.now.problem k letters.now w) }
     ensures refused { (k : PlainSaved) → place.now ≡ kept_position k letters.now →
@@ -100,7 +101,7 @@ fn walk_at(
     ensures ill { (k : PlainSaved) → place.now ≡ kept_position k letters.now →
         ¬ IsPosition step.now.problem (kept_walk k) → result ≡ Err refused.IllFormed }
 {
-    match Walk::restore(alloc, step.problem(), place, letters) {
+    match Search::restore(alloc, step.problem(), place, letters) {
         Ok(walk) => Ok(walk),
         Err(RestoreFault::IllFormed) => Err(RestoreRefused::IllFormed),
         Err(RestoreFault::Memory) => Err(RestoreRefused::Memory),
@@ -144,7 +145,7 @@ fn draws(
     seed: [u8; 32],
     steps: &[Step],
     from: usize,
-    trail: &mut Trail,
+    trail: &mut History,
 ) -> Result<usize, Memory>
     requires { from ≤ length steps.now }
     ensures { IfOk result (λ at. HasDrawn seed steps.now from at trail.old trail.new) }
@@ -171,12 +172,12 @@ fn replay(
     steps: &[Step],
     closed: &[Section],
     tries: u64,
-) -> Result<Trail, RestoreRefused>
+) -> Result<History, RestoreRefused>
     requires { Along IsDueAt seed (first_search seed steps.now) closed.now }
     ensures ok { IfOk result (λ t. IsReplayed seed steps.now closed.now tries t) }
     ensures refused { IfErr result (λ e. IsUnfit seed steps.now closed.now e) }
 {
-    let mut trail = Trail {
+    let mut trail = History {
         found: Vec::new(alloc),
         closed: Vec::new(alloc),
         tries,
@@ -200,8 +201,8 @@ fn replay(
 #[derive(Drop)]
 pub(crate) struct Restored {
     pub(crate) at: usize,
-    pub(crate) walk: Walk,
-    pub(crate) past: Trail,
+    pub(crate) walk: Search,
+    pub(crate) past: History,
 }
 
 /// What a run over these steps has that goes on from what is kept.

@@ -8,7 +8,7 @@ ghost use Rattle.search_run.specs.Answer.{AreWhole, IsAnswer};
 ghost use Rattle.search_run.specs.Found.{taken};
 ghost use Rattle.search_run.specs.Judged.{IsRefusedFor, IsRefusedLog};
 ghost use Rattle.search_run.specs.Kept.{Along, CanGoOn, IsAcceptedAt, IsBestAt, PlainSaved, first_search, kept_walk, log_of, saved_of, stand_of};
-ghost use Rattle.search_run.specs.Run.{Stand, beginning, end_of, go_on, run};
+ghost use Rattle.search_run.specs.Run.{Stand, beginning, end_of, go_on};
 ghost use Rattle.search_run.specs.Stands.{IsStand};
 ghost use Rattle.search_run.specs.Step.{AreSteps, PlainStep};
 ghost use Rattle.search_run.specs.Walks.{kept_position};

@@ -10,21 +10,22 @@ ghost use Rattle.search_run.specs.Stands.{IsEndOf, IsStand};
 ghost use Rattle.search_run.specs.Step.{AreSteps, PlainStep};
 ghost use Rattle.search_run.specs.declared.fault.VerifyFault.TheVariants as verified;
 
+use crate::column_results::{take_ended, take_partial};
 use crate::ending::End;
 use crate::fault::{RestoreRefused, VerifyFault};
-use crate::hand::{take_ended, take_partial};
+use crate::history::History;
 use crate::keeping::{copy_sections, place, tail};
 use crate::outcome::leave;
 use crate::restoring::resume;
 use crate::step::Step;
-use crate::trail::Trail;
 use crate::verifying::verify;
 use crate::walking::{Turn, advance};
 use closing_log::{LogText, OpenSection};
 use fund_base::Memory;
-use search_keep::{Saved, Walk};
+use search_keep::Saved;
 use std::alloc::Global;
 use std::marker::Model;
+use walk_engine::Search;
 
 /// For how many tries letters are reserved at a time.
 const MOST_RESERVED: u64 = 65_536;
@@ -37,8 +38,8 @@ pub struct SearchRun {
     seed: [u8; 32],
     steps: Vec<Step>,
     at: usize,
-    walk: Option<Walk>,
-    past: Trail,
+    walk: Option<Search>,
+    past: History,
 }
 
 /// One call, wherever it is dropped.
@@ -78,7 +79,7 @@ impl SearchRun {
             steps,
             at: 0,
             walk: None,
-            past: Trail {
+            past: History {
                 found: Vec::new(alloc),
                 closed: Vec::new(alloc),
                 tries: 0,
@@ -258,10 +259,15 @@ impl SearchRun {
         }
     }
 
-    /// What is saved of it beside its log, for this job and so many parts of the log; `None` exactly where no step is
-    /// left. The error is out of memory.
-    pub fn saved(&self, job: [u8; 32], parts: u32) -> Result<Option<Saved>, Memory>
-        ensures { IfOk result (λ saved. saved ≡ saved_with job parts (saved_of self.now.stand)) }
+    /// What is saved of it beside its log, for this job, so many parts of the log and its digest, if it is kept; `None`
+    /// exactly where no step is left. The error is out of memory.
+    pub fn saved(
+        &self,
+        job: [u8; 32],
+        parts: u32,
+        log: Option<[u8; 32]>,
+    ) -> Result<Option<Saved>, Memory>
+        ensures { IfOk result (λ saved. saved ≡ saved_with job parts log (saved_of self.now.stand)) }
     {
         let Some(step) = self.steps.as_slice().get(self.at) else {
             return Ok(None);
@@ -276,6 +282,7 @@ impl SearchRun {
             next: place.next,
             best: place.best,
             parts,
+            log,
         }))
     }
 

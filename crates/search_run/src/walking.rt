@@ -2,13 +2,12 @@
 
 ghost use Rattle.std.specs.Prelude.{◌≡◌, [], ◌∷◌, IfOk, None, OnErr};
 ghost use Rattle.search_run.specs.Held.{HasWalked, IsOf, IsSame, Tries, search_in};
-ghost use Rattle.search_keep.specs.Walks.{search_of};
 
 use crate::step::Step;
 use fund_base::Memory;
 use pick_problem::Progress;
-use search_keep::Walk;
 use std::alloc::Global;
+use walk_engine::Search;
 
 /// What tries have come to: how many were made, and whether the walk is done.
 #[derive(Clone, Copy, PartialEq, Eq)]
@@ -18,21 +17,21 @@ pub(crate) struct Turn {
 }
 
 /// The walk of a search, or a new one where it hasn't begun. The error is out of memory.
-fn begin(alloc: Global, step: &Step, walk: Option<Walk>) -> Result<Walk, Memory>
-    ensures ok { IfOk result (λ w. search_of w ≡ search_in step.now walk) }
+fn begin(alloc: Global, step: &Step, walk: Option<Search>) -> Result<Search, Memory>
+    ensures ok { IfOk result (λ w. w ≡ search_in step.now walk) }
     ensures err { OnErr result (walk ≡ None) }
 {
     match walk {
         Some(walk) => Ok(walk),
-        None => Walk::new(alloc, step.problem()),
+        None => Search::new(alloc, step.problem()),
     }
 }
 
 /// Makes so many tries of a search, or fewer if it is done before. The error is out of memory: then no try was made.
 #[tactic(auto, using(crate::proofs::HeldLaws::tried_more))]
-fn try_on(walk: &mut Walk, tries: u64) -> Result<Turn, Memory>
-    ensures ok { IfOk result (λ t. Tries (search_of walk.old) (search_of walk.new) tries t) }
-    ensures err { OnErr result (search_of walk.new ≡ record (search_of walk.old) { spare = (search_of walk.new).spare }) }
+fn try_on(walk: &mut Search, tries: u64) -> Result<Turn, Memory>
+    ensures ok { IfOk result (λ t. Tries walk.old walk.new tries t) }
+    ensures err { OnErr result (walk.new ≡ record walk.old { spare = walk.new.spare }) }
 {
     walk.reserve(tries)?;
     let before = walk.tries();
@@ -49,7 +48,7 @@ fn try_on(walk: &mut Walk, tries: u64) -> Result<Turn, Memory>
 pub(crate) fn advance(
     alloc: Global,
     step: &Step,
-    walk: &mut Option<Walk>,
+    walk: &mut Option<Search>,
     tries: u64,
 ) -> Result<Turn, Memory>
     requires { IsOf (step.now ∷ []) walk.old }

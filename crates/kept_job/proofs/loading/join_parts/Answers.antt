@@ -9,8 +9,9 @@ joining-preserved g c = record {
   joined = λ told.
       put_on _ _ _ (c.joining.invariant.joined told) _ _ _
       (c.in_ok-part.ensures.part told ∙ ap (λ (jobs : List ℕ → Option KeptJob). part_in (jobs c.args.job.now) c.joining.number) (c.joining.invariant.same told))
-      c.in_ok-put_part.ensures;
-  fits = put_fits _ _ _ _ _ c.in_ok-put_part.ensures;
+      c.in_ok-put_part.ensures.put;
+  hashed = c.in_ok-put_part.ensures.hashed c.joining.invariant.hashed;
+  fits = put_fits _ _ _ _ _ c.in_ok-put_part.ensures.put;
   same = λ told. c.in_ok-part.ensures.same told ∙ c.joining.invariant.same told;
   faults = c.in_ok-part.ensures.unfailed ∙ c.joining.invariant.faults;
 }
@@ -24,7 +25,7 @@ returns-in_err-put_part-clause-fault g c =
     (c.in_ok-part.ensures.part told ∙ ap (λ (jobs : List ℕ → Option KeptJob). part_in (jobs c.args.job.now) c.joining.number) (c.joining.invariant.same told))
     c.joining-test.true
     c.joining.invariant.fits
-    c.in_err-put_part.ensures)
+    c.in_err-put_part.ensures.put)
 
 pub returns-clause-parts : goal.returns-clause-parts
 returns-clause-parts g c = λ told.

@@ -7,6 +7,7 @@ returns c =
     subst (λ (s : PlainSaved). IsSized s) c.saved.view_is
     (record {
       job = (c.digest_fits.ensures.length, c.digest_fits.ensures.bytes);
+      log = c.log_fits.ensures;
       numbers = record {
         tries = c.counts_fit.ensures.tries;
         row = c.counts_fit.ensures.row;

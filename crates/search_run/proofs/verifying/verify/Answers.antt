@@ -1,7 +1,8 @@
 use Rattle.std.specs.Prelude.{◌≡◌, ◌<◌, length, take, is_some}
 use Rattle.std.proofs.Common.{rules, subst}
+use Rattle.pick_problem.specs.Letters.{IsAcceptedText}
 use Rattle.pick_problem.specs.Problem.{PlainProblem}
-use Rattle.search_run.specs.Judged.{IsBegun}
+use Rattle.search_run.specs.Judged.{HasOrMemory}
 use Rattle.search_run.specs.Kept.{IsAcceptedAt, comes_to, first_search}
 use Rattle.search_run.proofs.FollowLaws.{accepted_at, along_below, along_on, refused_here}
 use Rattle.search_run.proofs.verifying.verify.Goals as goal
@@ -21,7 +22,7 @@ returns-in-Err c =
       accepted = tt;
       refused =
           refused_here c.args.seed c.args.steps.now c.args.closed.now c.along.i c.along.now x s c.in-Err.why c.refusal.result c.along-test.true c.index-closed-i.is below c.index-steps-now.is c.along.invariant
-          (c.in-Err.ensures.fault x.problem (subst (λ (p : PlainProblem). IsBegun p s.answer c.begin-made.result) c.problem.ensures.problem c.begin-made.ensures)) c.refusal.ensures.memory c.refusal.ensures.log;
+          (subst (λ (p : PlainProblem). HasOrMemory p s.answer s.letters c.in-Err.why) c.problem.ensures.problem c.in-Err.ensures.fault) c.refusal.ensures.memory c.refusal.ensures.log;
     }
 
 pub along-preserved : goal.along-preserved
@@ -32,5 +33,5 @@ along-preserved c =
     let below : c.along.now.at < length c.args.steps.now = along_below IsAcceptedAt c.args.seed c.args.steps.now c.args.closed.now c.along.i c.along.now s c.along-test.true c.index-closed-i.is c.requires c.along.invariant in
     let some : is_some c.index-closed-i.result.answer ≡ c.is_some.result = search rules in
     along_on IsAcceptedAt c.args.seed c.args.steps.now c.args.closed.now c.along.i c.along.now c.in_ok-now-2.now s c.along-test.true c.index-closed-i.is c.along.invariant
-    (accepted_at c.args.steps.now c.along.now at x s below c.index-steps-now.is c.along.invariant.comes (c.in_default.ensures.ok x.problem (subst (λ (p : PlainProblem). IsBegun p s.answer c.begin-made.result) c.problem.ensures.problem c.begin-made.ensures)))
+    (accepted_at c.args.steps.now c.along.now at x s below c.index-steps-now.is c.along.invariant.comes (subst (λ (p : PlainProblem). IsAcceptedText p s.answer s.letters) c.problem.ensures.problem c.in_default.ensures.ok))
     (c.in_ok-now-2.ensures at s.answer c.along.invariant.comes some)
