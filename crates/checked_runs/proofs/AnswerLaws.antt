@@ -31,7 +31,7 @@ use Rattle.search_run.proofs.MadeLaws.{kept_begins, kept_stands_on, run_answers}
 use Rattle.search_run.proofs.ResultLaws.{ends_of}
 use Rattle.search_run.proofs.SearchedLaws.{answered_sections}
 use Rattle.report_check.specs.Answer.{IsAnsweredBy}
-use Rattle.report_check.specs.Due.{AreRightBy}
+use Rattle.report_check.specs.DueSections.{AreRightBy}
 use Rattle.report_check.specs.Proved.{HasTriesBy, IsEndedText, tries_in}
 use Rattle.report_check.specs.Verdict.{IsAccepted, IsPaid}
 use Rattle.report_check.specs.Vouched.{IsOfPayment}

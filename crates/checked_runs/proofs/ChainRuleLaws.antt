@@ -8,11 +8,11 @@ use Rattle.coin_candidates.specs.Candidates.{AreCandidates}
 use Rattle.tx_codec.specs.TransactionText.{IsTransaction}
 use Rattle.wallet_text.specs.PlainWallet.{PlainWallet}
 use Rattle.payment_states.specs.BookOf.{IsBookOf}
-use Rattle.fund_files.specs.Chain.{held_of, history_of, tip_behind}
+use Rattle.fund_files.specs.Chain.{chain_from, history_of, tip_behind}
 use Rattle.fund_files.specs.Contents.{HasChain}
-use Rattle.fund_files.specs.declared.held.Tip.{Tip}
-use Rattle.desk_machine.specs.State.{candidates_in}
-use Rattle.desk_laws.proofs.PlanLaws.{now_fit}
+use Rattle.fund_files.specs.declared.chain.Tip.{Tip}
+use Rattle.desk_machine.specs.State.{candidates_at}
+use Rattle.desk_laws.proofs.PlanLaws.{fit_at}
 use Rattle.desk_laws.specs.Claimed.{IsBooked}
 use Rattle.checked_runs.proofs.WalletRuleLaws.{wallet_is}
 
@@ -29,7 +29,7 @@ tip_low tip height hash (b ∷ blocks) bytes low h =
     let is = h.1.is_block.height_is in
     tip_low (record { height = b.height; hash = b.hash }) b.height b.hash blocks h.0 (omega (arith, is)) h.2
 
-pub chain_booked : (wallet_file block_file : List ℕ) (w : PlainWallet) (blocks : List ChainBlock) → HasChain wallet_file block_file w blocks → IsBooked (held_of w blocks)
+pub chain_booked : (wallet_file block_file : List ℕ) (w : PlainWallet) (blocks : List ChainBlock) → HasChain wallet_file block_file w blocks → IsBooked (chain_from w blocks)
 chain_booked wallet_file block_file w blocks h =
     let rules = wallet_is wallet_file w h.wallet.form in
     let low = rules.height in
@@ -53,5 +53,5 @@ chain_book wallet_file block_file w blocks h = record {
   pending = refl;
 }
 
-pub chain_fit : (wallet_file block_file : List ℕ) (w : PlainWallet) (blocks : List ChainBlock) → HasChain wallet_file block_file w blocks → AreCandidates (candidates_in (held_of w blocks))
-chain_fit wallet_file block_file w blocks h = now_fit (held_of w blocks) (chain_booked wallet_file block_file w blocks h)
+pub chain_fit : (wallet_file block_file : List ℕ) (w : PlainWallet) (blocks : List ChainBlock) (rate : ℕ) → HasChain wallet_file block_file w blocks → AreCandidates (candidates_at (chain_from w blocks) rate)
+chain_fit wallet_file block_file w blocks rate h = fit_at (chain_from w blocks) rate (chain_booked wallet_file block_file w blocks h)

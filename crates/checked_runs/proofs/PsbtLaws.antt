@@ -1,6 +1,6 @@
 -- What is written of a PSBT is bytes.
-use Rattle.std.specs.Prelude.{ℕ, zero, suc, ◌≡◌, ◌<◌, ◌^◌, List, [], ◌∷◌, ◌++◌, All, length, nat_lt, Option, Some, None, IfSome}
-use Rattle.std.specs.Int.{byte_at, bytes_low_first}
+use Rattle.std.specs.Prelude.{ℕ, zero, suc, ◌≡◌, ◌==◌, ◌<◌, ◌^◌, List, [], ◌∷◌, ◌++◌, All, length, nat_lt, Option, Some, None, IfSome}
+use Rattle.std.specs.Int.{byte_at, bytes_low_first, to_le_bytes, w32, w64}
 use Rattle.std.specs.List.{flat_map, zip}
 use Rattle.std.proofs.Common.{arith}
 use Rattle.std.proofs.lemmas.Bool.{cond_both}
@@ -9,7 +9,7 @@ use Rattle.fund_base.specs.CompactSize.{compact, counted, prefixed}
 use Rattle.fund_base.specs.Cursor.{IsBytes}
 use Rattle.pick_problem.proofs.Deciding.{if_cases, lt_yes}
 use Rattle.psbt_codec.specs.PartialTransaction.{PartialTransaction}
-use Rattle.psbt_codec.specs.Psbt.{IsPaid, IsParent, IsPsbt, IsSpent, Pair, global_map, input_map, magic, map_text, output_map, paid_pairs, pair_text, typed, whole_pairs, written}
+use Rattle.psbt_codec.specs.Psbt.{IsPaid, IsParent, IsPsbt, IsSpent, Pair, global_fields, global_map, input_fields, input_map, magic, map_text, output_fields, output_map, own_fields, paid_pairs, pair_text, typed, whole_pairs, written, written_fields, written_whole}
 use Rattle.psbt_codec.specs.declared.psbt.Spent.{Spent}
 use Rattle.tx_codec.specs.Transaction.{Transaction}
 use Rattle.tx_codec.specs.TransactionText.{InputFits, IsTransaction, OutputFits, bare_text, input_text, output_text, segregated_text, stack_text, text_of}
@@ -117,8 +117,11 @@ map_fits : (pairs : List Pair) → All IsBytePair pairs → Fit (map_text pairs)
 unfolding map_text
 map_fits pairs h = both (flat_fits pair_text pairs h) (one_more 0 (omega arith) none)
 
+pair_and : (kind : ℕ) (value : List ℕ) (pairs : List Pair) → Fit value → All IsBytePair pairs → All IsBytePair (typed kind value ∷ pairs)
+pair_and kind value pairs h k = All-cons IsBytePair (typed kind value) pairs (pair_fits kind value h) k
+
 one_pair : (kind : ℕ) (value : List ℕ) → Fit value → All IsBytePair (typed kind value ∷ [])
-one_pair kind value h = All-cons IsBytePair (typed kind value) [] (pair_fits kind value h) (All-nil IsBytePair)
+one_pair kind value h = pair_and kind value [] h (All-nil IsBytePair)
 
 whole_fits : (i : TxIn) (o : Option Transaction) → IfSome o (IsParent i) → All IsBytePair (whole_pairs o)
 whole_fits i None h = All-nil IsBytePair
@@ -128,8 +131,11 @@ paid_fits : (o : Option TxOut) → IfSome o IsPaid → All IsBytePair (paid_pair
 paid_fits None h = All-nil IsBytePair
 paid_fits (Some o) h = one_pair 1 (output_text o) (output_fits o h.fits)
 
+known_fits : (i : TxIn) (s : Spent) → IsSpent i s → All IsBytePair (input_map s)
+known_fits i s h = All-append IsBytePair (whole_pairs s.whole) (paid_pairs s.paid) (whole_fits i s.whole h.whole) (paid_fits s.paid h.paid)
+
 spent_fits : (i : TxIn) (s : Spent) → IsSpent i s → Fit (map_text (input_map s))
-spent_fits i s h = map_fits (input_map s) (All-append IsBytePair (whole_pairs s.whole) (paid_pairs s.paid) (whole_fits i s.whole h.whole) (paid_fits s.paid h.paid))
+spent_fits i s h = map_fits (input_map s) (known_fits i s h)
 
 abbrev AreSpent : TxIn × Spent → Type 0
 AreSpent k = IsSpent k.0 k.1
@@ -155,20 +161,79 @@ no_pairs (o ∷ os) = All-cons HasNone o os (map_fits [] (All-nil IsBytePair)) (
 magic_fits : Fit magic
 magic_fits = one_more 112 (omega arith) (one_more 115 (omega arith) (one_more 98 (omega arith) (one_more 116 (omega arith) (one_more 255 (omega arith) none))))
 
--- ---- the whole
+-- ---- version 0
 
-written_fits : (p : PartialTransaction) → IsPsbt p → Fit (written p)
-unfolding written
-written_fits p h =
+whole_text_fits : (p : PartialTransaction) → IsPsbt p → Fit (written_whole p)
+unfolding written_whole
+whole_text_fits p h =
     both magic_fits
     (both (map_fits (global_map p.tx) (one_pair 0 (bare_text p.tx) (bare_fits p.tx h.text)))
     (both (flat_fits (λ (s : Spent). map_text (input_map s)) p.spent (all_spent p.tx.inputs p.spent h.spent_len h.spent))
     (flat_fits (λ (o : TxOut). map_text (output_map o)) p.tx.outputs (no_pairs p.tx.outputs))))
 
-pub written_bytes : (p : PartialTransaction) → IsPsbt p → IsBytes (written p)
-written_bytes p h = (written_fits p h).each
+-- ---- version 2
+
+global_fits : (t : Transaction) → All IsBytePair (global_fields t)
+global_fits t =
+    let version : Fit (to_le_bytes w32 2) = low_first 0 4 2 in
+    let inputs : List Pair = typed 4 (compact (length t.inputs)) ∷ typed 5 (compact (length t.outputs)) ∷ typed 251 (to_le_bytes w32 2) ∷ [] in
+    let outputs : List Pair = typed 5 (compact (length t.outputs)) ∷ typed 251 (to_le_bytes w32 2) ∷ [] in
+    pair_and 2 (to_le_bytes w32 t.version) (typed 3 (to_le_bytes w32 t.locktime) ∷ inputs) (low_first 0 4 t.version)
+    (pair_and 3 (to_le_bytes w32 t.locktime) inputs (low_first 0 4 t.locktime)
+    (pair_and 4 (compact (length t.inputs)) outputs (compact_fits (length t.inputs))
+    (pair_and 5 (compact (length t.outputs)) (typed 251 (to_le_bytes w32 2) ∷ []) (compact_fits (length t.outputs))
+    (one_pair 251 (to_le_bytes w32 2) version))))
+
+own_fit : (i : TxIn) → InputFits i → All IsBytePair (own_fields i)
+own_fit i h =
+    let txid : Fit i.prev.txid = record { each = h.txid } in
+    let sequence : List Pair = typed 16 (to_le_bytes w32 i.sequence) ∷ [] in
+    pair_and 14 i.prev.txid (typed 15 (to_le_bytes w32 i.prev.index) ∷ sequence) txid
+    (pair_and 15 (to_le_bytes w32 i.prev.index) sequence (low_first 0 4 i.prev.index)
+    (one_pair 16 (to_le_bytes w32 i.sequence) (low_first 0 4 i.sequence)))
+
+abbrev HasInputFields : TxIn × Spent → Type 0
+HasInputFields k = Fit (map_text (input_fields k))
+
+input_fields_fit : (i : TxIn) (s : Spent) → InputFits i → IsSpent i s → HasInputFields (i, s)
+input_fields_fit i s fits h = map_fits (input_fields (i, s)) (All-append IsBytePair (input_map s) (own_fields i) (known_fits i s h) (own_fit i fits))
+
+all_inputs : (inputs : List TxIn) (spent : List Spent) → All InputFits inputs → All AreSpent (zip inputs spent) → All HasInputFields (zip inputs spent)
+all_inputs [] spent fits h = All-nil HasInputFields
+all_inputs (i ∷ is) [] fits h = All-nil HasInputFields
+all_inputs (i ∷ is) (s ∷ ss) fits h =
+    All-cons HasInputFields (i, s) (zip is ss) (input_fields_fit i s (All-head InputFits i is fits) (All-head AreSpent (i, s) (zip is ss) h))
+    (all_inputs is ss (All-tail InputFits i is fits) (All-tail AreSpent (i, s) (zip is ss) h))
+
+abbrev HasOutputFields : TxOut → Type 0
+HasOutputFields o = Fit (map_text (output_fields o))
+
+output_fields_fit : (o : TxOut) → OutputFits o → HasOutputFields o
+output_fields_fit o h =
+    let script : Fit o.script = record { each = h.script } in
+    map_fits (output_fields o) (pair_and 3 (to_le_bytes w64 o.value) (typed 4 o.script ∷ []) (low_first 0 8 o.value) (one_pair 4 o.script script))
+
+fields_text_fits : (p : PartialTransaction) → IsPsbt p → Fit (written_fields p)
+unfolding written_fields
+fields_text_fits p h =
+    both magic_fits
+    (both (map_fits (global_fields p.tx) (global_fits p.tx))
+    (both (flat_fits (λ (k : TxIn × Spent). map_text (input_fields k)) (zip p.tx.inputs p.spent) (all_inputs p.tx.inputs p.spent h.text.inputs h.spent))
+    (flat_fits (λ (o : TxOut). map_text (output_fields o)) p.tx.outputs (All-weaker OutputFits HasOutputFields output_fields_fit p.tx.outputs h.text.outputs))))
+
+-- ---- either
+
+pub written_bytes : (version : ℕ) (p : PartialTransaction) → IsPsbt p → IsBytes (written version p)
+written_bytes version p h = (cond_both (version == 2) (written_fields p) (written_whole p) Fit (λ _. fields_text_fits p h) (λ _. whole_text_fits p h)).each
 
 -- there are some, the first five of which name the format
-pub written_some : (p : PartialTransaction) → 0 < length (written p)
-unfolding written
-written_some p = omega arith
+whole_some : (p : PartialTransaction) → 0 < length (written_whole p)
+unfolding written_whole
+whole_some p = omega arith
+
+fields_some : (p : PartialTransaction) → 0 < length (written_fields p)
+unfolding written_fields
+fields_some p = omega arith
+
+pub written_some : (version : ℕ) (p : PartialTransaction) → 0 < length (written version p)
+written_some version p = cond_both (version == 2) (written_fields p) (written_whole p) (λ (bytes : List ℕ). 0 < length bytes) (λ _. fields_some p) (λ _. whole_some p)

@@ -9,7 +9,7 @@ use Rattle.std.proofs.lemmas.List.Elements.{All-head, All-tail, All-weaker}
 use Rattle.std.proofs.lemmas.List.Sums.{sum_by-le}
 use Rattle.fee_rates.specs.Fee.{fee_of, input_fee_of, vsize_of}
 use Rattle.fee_rates.specs.Terms.{base_of}
-use Rattle.fee_rates.specs.declared.terms.Load.{Load}
+use Rattle.fee_rates.specs.declared.terms.PaymentLoad.{PaymentLoad}
 use Rattle.coin_candidates.specs.Candidates.{IsCandidate}
 use Rattle.coin_candidates.specs.declared.candidate.Candidate.{Candidate}
 use Rattle.fund_plan.specs.Answer.{IsPayment, IsSelection}
@@ -60,11 +60,11 @@ signed_by (pos n) a b e small low = omega (arith, ints, e, small, low)
 signed_by (negsuc n) a b e small low = omega (arith, ints, e, small, low)
 
 -- what the fees of a payment take is within what its coins are worth, and so is the spending of its change
-record IsMost (r : PlainRequest) (l : Load) (f : PlainFunded) : Type 0 where
+record IsMost (r : PlainRequest) (l : PaymentLoad) (f : PlainFunded) : Type 0 where
   fixed : fee_of r.rate (vsize_of (base_of l)) + l.burden + raised_of r.rate l ≤ value_of f.coins
   spending : spending_of r l f.change ≤ 2_100_000_000_000_000
 
-most_of : (r : PlainRequest) (l : Load) (f : PlainFunded) (p : PlainPlan) (amount : Option ℕ) → f.change ≡ amount → p.request ≡ r → IfSome amount (λ n. n ≤ 2_100_000_000_000_000) → Pays r p.change l f.coins amount (payment_of r p.change f)
+most_of : (r : PlainRequest) (l : PaymentLoad) (f : PlainFunded) (p : PlainPlan) (amount : Option ℕ) → f.change ≡ amount → p.request ≡ r → IfSome amount (λ n. n ≤ 2_100_000_000_000_000) → Pays r p.change l f.coins amount (payment_of r p.change f)
     → IsMost r l f
 most_of r l f p None is own small h = record {
   fixed = omega (arith, h.fee.0);

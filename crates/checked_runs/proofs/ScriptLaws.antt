@@ -6,7 +6,7 @@ use Rattle.command_end.specs.Names.{Sources}
 use Rattle.desk_machine.specs.Commands.{Command}
 use Rattle.desk_machine.specs.Runs.{Runs, Said}
 use Rattle.desk_machine.specs.State.{PlainDesk}
-use Rattle.fund_files.specs.Chain.{held_of}
+use Rattle.fund_files.specs.Chain.{chain_from}
 use Rattle.desk_laws.proofs.DeskLaws.{IsKept, new_kept}
 use Rattle.checked_runs.proofs.ChainRuleLaws.{chain_booked}
 use Rattle.desk_laws.specs.Claimed.{HasBytes, HaveBytes, IsBooked, IsClaimed}
@@ -19,7 +19,7 @@ use Rattle.command_desk.specs.Starts.{StartsFrom}
 
 pub is_booked : (files : List ℕ → List ℕ) (s : Sources) (script text : List ℕ) (d : PlainDesk) → StartsFrom (Unit {0}) files s script text d → IsBooked d.held
 is_booked files s script text d h =
-    let same : d.held ≡ held_of h.wallet h.blocks = ap (λ (x : PlainDesk). x.held) h.desk_is in
+    let same : d.held ≡ chain_from h.wallet h.blocks = ap (λ (x : PlainDesk). x.held) h.desk_is in
     subst IsBooked (sym same) (chain_booked (files s.wallet) (files s.blocks) h.wallet h.blocks (h.inputs tt).chain)
 
 module _ (files : List ℕ → List ℕ) (fit : (name : List ℕ) → IsBytes (files name)) where
@@ -53,7 +53,7 @@ kept : (files : List ℕ → List ℕ) (s : Sources) (script text : List ℕ) (d
 kept files s script text d new printed fit h course =
     let r = are_fed files (lines_of text) d new printed fit course in
     let booked = chain_booked (files s.wallet) (files s.blocks) h.wallet h.blocks (h.inputs tt).chain in
-    new_kept (held_of h.wallet h.blocks) new r.0 booked r.3 (subst (λ (x : PlainDesk). Runs x r.0 new) h.desk_is r.2)
+    new_kept (chain_from h.wallet h.blocks) new r.0 booked r.3 (subst (λ (x : PlainDesk). Runs x r.0 new) h.desk_is r.2)
 
 pub are_claimed : (files : List ℕ → List ℕ) (s : Sources) (script text : List ℕ) (d new : PlainDesk) (printed : List ℕ) → ((name : List ℕ) → IsBytes (files name))
     → StartsFrom (Unit {0}) files s script text d → Course files (lines_of text) d printed new → All IsClaimed new.jobs

@@ -6,7 +6,7 @@ use Rattle.std.proofs.lemmas.List.Elements.{filter-append}
 use Rattle.closing_log.specs.Log.{PlainSection}
 use Rattle.search_run.specs.Searched.{IsSectionOf, searches}
 use Rattle.search_run.specs.Step.{PlainStep, is_drawn}
-use Rattle.report_check.specs.Due.{AreAllButLast, AreFor, AreForFirst}
+use Rattle.report_check.specs.DueSections.{AreAllButLast, AreFor, AreForFirst}
 use Rattle.report_check.specs.Proved.{AreProved, IsProvedFor}
 use Rattle.checked_runs.proofs.RunLaws.{IsFront}
 

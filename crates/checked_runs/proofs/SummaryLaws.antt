@@ -9,7 +9,7 @@ use Rattle.fund_report.specs.declared.report.Report.TheVariants as kinds
 use Rattle.fund_steps.specs.Plan.{PlainPlan}
 use Rattle.command_work.proofs.KeptLaws.{funded_kept}
 use Rattle.command_work.specs.Summary.{digest_line, summary_text, title_of}
-use Rattle.command_work.specs.Due.{load_of, load_plan}
+use Rattle.command_work.specs.Outcome.{load_of, load_plan}
 use Rattle.checked_runs.specs.Summed.{IsSummed, lines_for, report_for, reported_for}
 use Rattle.checked_runs.proofs.CommandLaws.{few_tries, paid_reads}
 use Rattle.checked_runs.proofs.FoundLaws.{can_be_told}

@@ -1,10 +1,8 @@
 -- What is reported of a payment is a text of its report, and that is of the payment.
 use Rattle.std.specs.Prelude.{ℕ, ◌≡◌, ◌≤◌, List, [], ◌∷◌, ◌++◌, All, codes, length, map, slice_get, Option, Some, IfSome, IsSome}
 use Rattle.std.specs.List.{AllZip}
-use Rattle.std.proofs.Common.{arith, refl, sym, subst, inl, inr}
+use Rattle.std.proofs.Common.{arith, refl, sym, ap, subst, inl, inr, ◌∙◌}
 use Rattle.std.proofs.lemmas.List.{length-append}
-use Rattle.base64.specs.Engines.{standard}
-use Rattle.base64.specs.GeneralPurpose.{encode_of}
 use Rattle.coin_book.specs.History.{History}
 use Rattle.coin_candidates.specs.declared.candidate.Candidate.{Candidate}
 use Rattle.fund_plan.specs.Answer.{IsPayment}
@@ -20,14 +18,16 @@ use Rattle.fund_payment.specs.Report.{line_of, psbt_of, psbt_text_of, report_of,
 use Rattle.fund_payment.specs.Shown.{ShowsCoin, ShowsCoins}
 use Rattle.payment_states.specs.Makers.{output_of}
 use Rattle.psbt_codec.specs.PartialTransaction.{PartialTransaction}
-use Rattle.psbt_codec.specs.Psbt.{IsPsbt, written}
+use Rattle.psbt_codec.specs.Psbt.{IsPsbt, IsReadableIn, IsString, written}
+use Rattle.psbt_codec.specs.Text.{IsPsbtText, IsPsbtTextIn, psbt_text}
 use Rattle.psbt_codec.specs.declared.psbt.Spent.{Spent}
-use Rattle.psbt_codec.proofs.Written.{written_is}
+use Rattle.psbt_codec.proofs.Written.{first_is, second_is, written_is}
+use Rattle.request_text.specs.PlainRequest.{IsVersion}
 use Rattle.std.specs.List.{flat_map}
 use Rattle.tx_codec.specs.Transaction.{Transaction}
 use Rattle.tx_codec.specs.TransactionText.{InputFits}
 use Rattle.tx_codec.specs.declared.tx.TxOut.{TxOut}
-use Rattle.report_check.specs.Payment.{IsPsbtText, Shows}
+use Rattle.report_check.specs.Payment.{Shows}
 use Rattle.report_check.specs.Vouched.{IsOfPayment}
 use Rattle.checked_runs.proofs.FoundLaws.{CanBeTold}
 use Rattle.checked_runs.proofs.LineLaws.{is_line, no_shorter}
@@ -44,7 +44,7 @@ pub report_can : (h : History) (p : PlainPlan) (tries : ℕ) (g : PlainFunded) �
 report_can h p tries g told = record {
   stage = told.stage;
   coins = lines_some g.coins told.selection.some;
-  text = is_line (written (psbt_of h p.request p.change g)) (written_some (psbt_of h p.request p.change g));
+  text = is_line (written p.request.psbt (psbt_of h p.request p.change g)) (written_some p.request.psbt (psbt_of h p.request p.change g));
 }
 
 pub report_sized : (h : History) (p : PlainPlan) (tries : ℕ) (g : PlainFunded) → IsPlan p → IsPayment p g → CanBeTold p g → IsPsbt (psbt_of h p.request p.change g) → tries ≤ 10_000_000 → IsSized (Funded (reported h p.request p.change tries g))
@@ -113,17 +113,34 @@ shows_all [] (s ∷ ss) h = absurd h
 shows_all (c ∷ cs) [] h = absurd h
 shows_all (c ∷ cs) (s ∷ ss) h = (shows_one c s h.0, shows_all cs ss h.1)
 
--- the bytes that are written of a PSBT can be read
-psbt_reads : (x : PartialTransaction) (most : ℕ) → IsPsbt x → length (encode_of standard (written x)) ≤ most → most ≤ 67_108_864 → IsPsbtText (encode_of standard (written x)) x
-psbt_reads x most psbt short few =
-    let bytes = written_bytes x psbt in
-    let long = no_shorter (written x) in
-    record {
-      bytes = written x;
-      are_bytes = bytes;
-      text_is = refl;
-      readable = written_is (written x) x (bytes, omega (arith, long, short, few)) psbt refl;
-    }
+-- what is written of a PSBT in either version is readable in it
+readable_in : (version : ℕ) (bytes : List ℕ) (x : PartialTransaction) → IsString bytes → IsPsbt x → IsVersion version → bytes ≡ written version x → IsReadableIn version bytes x
+readable_in version bytes x fits psbt (inl first) is = subst (λ (n : ℕ). IsReadableIn n bytes x) (sym first) (first_is bytes x fits psbt (is ∙ ap (λ (n : ℕ). written n x) first))
+readable_in version bytes x fits psbt (inr second) is = subst (λ (n : ℕ). IsReadableIn n bytes x) (sym second) (second_is bytes x fits psbt (is ∙ ap (λ (n : ℕ). written n x) second))
+
+written_short : (version : ℕ) (x : PartialTransaction) (most : ℕ) → IsPsbt x → length (psbt_text version x) ≤ most → most ≤ 67_108_864 → IsString (written version x)
+written_short version x most psbt short few =
+    let long : length (written version x) ≤ length (psbt_text version x) = no_shorter (written version x) in
+    (written_bytes version x psbt, omega (arith, long, short, few))
+
+-- the text of a PSBT can be read
+psbt_reads : (version : ℕ) (x : PartialTransaction) (most : ℕ) → IsPsbt x → length (psbt_text version x) ≤ most → most ≤ 67_108_864 → IsPsbtText (psbt_text version x) x
+psbt_reads version x most psbt short few = record {
+  bytes = written version x;
+  are_bytes = written_bytes version x psbt;
+  text_is = refl;
+  readable = written_is version (written version x) x (written_short version x most psbt short few) psbt refl;
+}
+
+-- that of the report of a payment can be read in the version that is asked for
+pub psbt_in_version : (h : History) (p : PlainPlan) (tries : ℕ) (g : PlainFunded) → IsVersion p.request.psbt → IsPsbt (psbt_of h p.request p.change g) → length (report_of h p.request p.change tries g) ≤ 67_108_864
+    → IsPsbtTextIn p.request.psbt (psbt_text_of h p.request p.change g) (psbt_of h p.request p.change g)
+psbt_in_version h p tries g of psbt short =
+    let version : ℕ = p.request.psbt in
+    let x : PartialTransaction = psbt_of h p.request p.change g in
+    let fits : IsString (written version x) = written_short version x (length (report_of h p.request p.change tries g)) psbt (psbt_within h p tries g) short in
+    let read : IsReadableIn version (written version x) x = readable_in version (written version x) x fits psbt of refl in
+    (record { bytes = written version x; are_bytes = fits.0; text_is = refl; readable = read.0 }, read.1)
 
 transaction_is : (h : History) (p : PlainPlan) (g : PlainFunded) → (psbt_of h p.request p.change g).tx ≡ payment_of p.request p.change g
 unfolding psbt_of
@@ -141,7 +158,7 @@ report_is_of h p tries g psbt shows short =
       fee = refl;
       waste = refl;
       psbt = x;
-      text = psbt_reads x (length (report_of h p.request p.change tries g)) psbt (psbt_within h p tries g) short;
+      text = psbt_reads p.request.psbt x (length (report_of h p.request p.change tries g)) psbt (psbt_within h p tries g) short;
       transaction = transaction_is h p g;
       shows = shows_all g.coins x.spent shows.each;
     }

@@ -3,11 +3,11 @@ use Rattle.std.specs.Prelude.{ℕ, ◌≡◌, List}
 use Rattle.command_end.specs.Names.{Sources}
 use Rattle.command_inputs.specs.Names.{Payment}
 use Rattle.command_inputs.specs.Results as payments
-use Rattle.fund_files.specs.Chain.{held_of, history_of}
+use Rattle.fund_files.specs.Chain.{chain_from, history_of}
 use Rattle.fund_payment.specs.Report.{reported}
 use Rattle.fund_plan.specs.Outcome.{tries_at}
 use Rattle.fund_report.specs.PlainFunded as reports
-use Rattle.command_inputs.specs.Due.{plan_of}
+use Rattle.command_inputs.specs.Outcome.{plan_of}
 
 -- The wallet, the blocks and the request are as they were, and the report stands in a file of this name.
 pub record StandsBeside (files files' : List ℕ → List ℕ) (s : Sources) (p : Payment) (name report : List ℕ) : Type 0 where
@@ -35,4 +35,4 @@ IsUnfinished files s p report = payments.IsUnfinished (Unit {0}) files s p repor
 
 -- what is reported of a payment of these files
 abbrev pub reported_of : (files : List ℕ → List ℕ) (s : Sources) (p : Payment) (report log : List ℕ) → IsFunded files s p report log → reports.PlainFunded
-reported_of files s p report log k = reported (history_of k.wallet k.blocks) k.asked k.wallet.change (tries_at (plan_of (held_of k.wallet k.blocks) k.asked) k.asked.tries) k.funded
+reported_of files s p report log k = reported (history_of k.wallet k.blocks) k.asked k.wallet.change (tries_at (plan_of (chain_from k.wallet k.blocks) k.asked) k.asked.tries) k.funded

@@ -3,10 +3,10 @@ use Rattle.std.specs.Prelude.{ℕ, ◌+◌, List, Option}
 use Rattle.fund_outside.specs.Kept.{KeptJob}
 use Rattle.fund_plan.specs.Outcome.{tries_at}
 use Rattle.fund_report.specs.PlainFunded as reports
-use Rattle.fund_files.specs.Chain.{held_of, history_of}
+use Rattle.fund_files.specs.Chain.{chain_from, history_of}
 use Rattle.fund_payment.specs.Report.{reported}
 use Rattle.command_end.specs.Names.{Sources}
-use Rattle.command_inputs.specs.Due.{plan_of}
+use Rattle.command_inputs.specs.Outcome.{plan_of}
 use Rattle.command_inputs.specs.Names.{Payment}
 use Rattle.command_resume.specs.Resumed as resumes
 
@@ -22,4 +22,4 @@ IsUnfinished files s p o report = resumes.IsUnfinished (Unit {0}) (Unit {0}) fil
 
 -- what is reported of a payment after n tries that were made before, and the request's
 abbrev pub reported_after : (files : List ℕ → List ℕ) (s : Sources) (p : Payment) (o : Option KeptJob) (report log : List ℕ) (n : ℕ) → IsFunded files s p o report log → reports.PlainFunded
-reported_after files s p o report log n k = reported (history_of k.wallet k.blocks) k.asked k.wallet.change (tries_at (plan_of (held_of k.wallet k.blocks) k.asked) (n + k.asked.tries)) k.funded
+reported_after files s p o report log n k = reported (history_of k.wallet k.blocks) k.asked k.wallet.change (tries_at (plan_of (chain_from k.wallet k.blocks) k.asked) (n + k.asked.tries)) k.funded

@@ -7,7 +7,7 @@ use Rattle.fund_report.specs.PlainFunded as reports
 use Rattle.command_work.specs.Load.{request_of, wallet_of}
 use Rattle.command_work.specs.Outline.{outline_of}
 use Rattle.command_work.specs.Summary.{digest_line, title_of}
-use Rattle.command_work.specs.Due.{load_of, load_plan}
+use Rattle.command_work.specs.Outcome.{load_of, load_plan}
 use Rattle.command_work.specs.Statuses as workloads
 
 -- the summary of a payment from the workload of a number and a count

@@ -10,11 +10,11 @@ ghost use Rattle.wallet_text.specs.PlainWallet.{PlainWallet};
 ghost use Rattle.wallet_text.specs.WalletRules.{IsWallet};
 ghost use Rattle.wallet_text.specs.WalletText.{wallet_of};
 ghost use Rattle.payment_states.specs.BookOf.{IsBookOf};
-ghost use Rattle.fund_files.specs.Chain.{held_of, history_of};
+ghost use Rattle.fund_files.specs.Chain.{chain_from, history_of};
 ghost use Rattle.fund_files.specs.Contents.{HasChain};
 ghost use Rattle.command_end.specs.Names.{Sources};
 ghost use Rattle.desk_machine.specs.Runs.{Runs, Said};
-ghost use Rattle.desk_machine.specs.State.{PlainDesk, candidates_in};
+ghost use Rattle.desk_machine.specs.State.{PlainDesk, candidates_at};
 ghost use Rattle.desk_laws.specs.Claimed.{HaveBytes, IsBooked, IsClaimed};
 ghost use Rattle.command_desk.specs.Calls.{Shows};
 ghost use Rattle.command_desk.specs.Course.{Course};
@@ -30,11 +30,11 @@ pub fn inputs_keep_their_rules()
 {}
 
 /// The law of files that are in order: the wallet, its blocks and its book keep what the laws of books, of replacements and of
-/// desks ask for.
+/// desks ask for. So do the coins that may be spent, with their prices at any rate.
 pub fn chains_keep_their_rules()
-    ensures booked { (wallet_file block_file : List ℕ) (w : PlainWallet) (blocks : List ChainBlock) → HasChain wallet_file block_file w blocks → IsBooked (held_of w blocks) }
+    ensures booked { (wallet_file block_file : List ℕ) (w : PlainWallet) (blocks : List ChainBlock) → HasChain wallet_file block_file w blocks → IsBooked (chain_from w blocks) }
     ensures book { (wallet_file block_file : List ℕ) (w : PlainWallet) (blocks : List ChainBlock) → HasChain wallet_file block_file w blocks → IsBookOf w (history_of w blocks) }
-    ensures candidates { (wallet_file block_file : List ℕ) (w : PlainWallet) (blocks : List ChainBlock) → HasChain wallet_file block_file w blocks → AreCandidates (candidates_in (held_of w blocks)) }
+    ensures candidates { (wallet_file block_file : List ℕ) (w : PlainWallet) (blocks : List ChainBlock) (rate : ℕ) → HasChain wallet_file block_file w blocks → AreCandidates (candidates_at (chain_from w blocks) rate) }
 {}
 
 /// The law of scripts' commits: the desk that a script starts from keeps what the laws of desks ask for. Of files that hold

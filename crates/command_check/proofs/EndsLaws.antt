@@ -16,13 +16,13 @@ use Rattle.command_inputs.specs.Names.{Payment}
 use Rattle.command_inputs.specs.Stops as payment_stops
 use Rattle.command_inputs.specs.Words as payment_words
 use Rattle.command_inputs.specs.Words.{refusal_words}
-use Rattle.command_inputs.specs.Meant.{IsDue}
+use Rattle.command_inputs.specs.Meant.{AreRefusedFor}
 use Rattle.command_inputs.specs.declared.refusal.Refusal.{Refusal}
 use Rattle.command_inputs.specs.declared.refusal.Stop.{Stop as PaymentStop}
 use Rattle.command_inputs.specs.declared.refusal.Stop.TheVariants as payments
 use Rattle.command_check.proofs.OutcomeLaws.{one_outcome}
 use Rattle.command_check.specs.Evidence.{evidence_name}
-use Rattle.command_check.specs.Due.{Accepted, Broken, ComesTo, IsAnAcceptance, Outcome, Refused, TooLong, status_of}
+use Rattle.command_check.specs.Outcome.{Accepted, Broken, ComesTo, IsAnAcceptance, Outcome, Refused, TooLong, status_of}
 use Rattle.command_check.specs.Statuses.{Ends, IsVouched, NoneFailed, NoneUnread}
 use Rattle.command_check.specs.Stops.{StopsFor}
 use Rattle.command_check.specs.Words.{IsStopped, check_fault_words, evidence_word}
@@ -47,7 +47,7 @@ module _ (told_files told : Type 0) (s : Sources) (p : Payment) (report : List �
   unfolding EndsAs
   wanting_ends result w = subst EndsAs (sym w.0) (inl w.1)
 
-  refused_ends : (refusal : Refusal) → (told_files → IsDue shelf.files s p (cause_of refusal)) → (told → GotLine (fault_line (refusal_words refusal)) sink sink')
+  refused_ends : (refusal : Refusal) → (told_files → AreRefusedFor shelf.files s p (cause_of refusal)) → (told → GotLine (fault_line (refusal_words refusal)) sink sink')
       → (status_of_cause (cause_of refusal) ≡ statuses.Input) ⊎ (status_of_cause (cause_of refusal) ≡ statuses.Limit) → EndsAs (status_of_cause (cause_of refusal))
   unfolding EndsAs
   refused_ends refusal due line (inl e) = subst EndsAs (sym e) (refusal, e, due, line)

@@ -6,9 +6,10 @@ use Rattle.fund_report.specs.declared.report.Report.{Report}
 use Rattle.fund_report.specs.declared.report.Report.TheVariants.{Funded, NoSelection, Unfinished}
 use Rattle.fund_steps.specs.Plan.{IsPlan, PlainPlan}
 use Rattle.psbt_codec.specs.PartialTransaction.{PartialTransaction}
+use Rattle.psbt_codec.specs.Text.{IsPsbtText}
 use Rattle.report_check.proofs.BurdenLaws.{burden_brought, weight_said}
 use Rattle.report_check.proofs.PaymentLaws.{all_held}
-use Rattle.report_check.specs.Payment.{IsPsbtText, PaysBy}
+use Rattle.report_check.specs.Payment.{PaysBy}
 use Rattle.report_check.specs.Verdict.{IsPaid}
 use Rattle.request_text.specs.PlainRequest.{PlainRequest}
 use Rattle.wallet_text.specs.PlainWallet.{PlainWallet}

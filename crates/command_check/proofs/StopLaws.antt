@@ -6,24 +6,24 @@ use Rattle.fund_shelf.proofs.Outside.{rose_earlier}
 use Rattle.fund_shelf.specs.Causes.{OnlyReads, Rose, ShelfView}
 use Rattle.fund_report.specs.declared.fault.ReportFault.{ReportFault}
 use Rattle.fund_report.specs.declared.fault.ReportFault.TheVariants as forms
-use Rattle.fund_report.specs.Told.{IsFault as IsReportFault}
+use Rattle.fund_report.specs.Reported.{IsReportFault}
 use Rattle.fund_report.specs.declared.report.Report as reports
 use Rattle.fund_report.specs.declared.report.Report.TheVariants.{Funded, NoSelection, Unfinished}
 use Rattle.fund_steps.specs.Plan.{PlainPlan}
-use Rattle.report_check.specs.Verdict.{HasLog, IsAccepted, IsFault, IsPaid}
+use Rattle.report_check.specs.Verdict.{HasLog, IsAccepted, IsReportRefusal, IsPaid}
 use Rattle.report_check.specs.Vouched.{Vouches}
 use Rattle.report_check.specs.declared.fault.CheckFault.{CheckFault}
 use Rattle.report_check.specs.declared.fault.CheckFault.TheVariants as faults
 use Rattle.command_end.specs.Names.{Sources}
 use Rattle.command_inputs.specs.Names.{Payment}
 use Rattle.command_check.proofs.ReplacedLaws.{replaced_as}
-use Rattle.command_check.specs.Due.{CanBeJudged, IsFormBroken}
+use Rattle.command_check.specs.Outcome.{CanBeJudged, IsFormBroken}
 use Rattle.command_check.specs.Evidence.{AreRead, BurdenReplaces, HasLoggedReport, HasReport, HavePlan, IsPlanOf, IsReplacingPlan, IsTooLong, IsWithin}
 use Rattle.command_check.specs.Statuses.{IsVouched}
 use Rattle.command_check.specs.Stops.{StopsAtEvidence, StopsAtLog, StopsAtReport, StopsFor, StopsJudging, StopsReading, form_stop_of, stop_of_fault}
 use Rattle.command_check.specs.Words.{accepted_text}
-use Rattle.command_check.specs.declared.stop.Evidence.{Evidence}
-use Rattle.command_check.specs.declared.stop.Evidence.TheVariants.{Report, Log}
+use Rattle.command_check.specs.declared.stop.CheckedFile.{CheckedFile}
+use Rattle.command_check.specs.declared.stop.CheckedFile.TheVariants.{Report, Log}
 use Rattle.command_check.specs.declared.stop.Stop.{Stop}
 use Rattle.command_check.specs.declared.stop.Stop.TheVariants as stops
 
@@ -55,11 +55,11 @@ if_log_stops told r name old new (Err stop) has h = log_stops told r name old ne
 
 -- ---- both
 
-read_unread : (told : Type 0) (report log : List ℕ) (old new : ShelfView) (file : Evidence) → file ≡ Report → Rose (old.reads report) (new.reads report) → StopsAtEvidence told report log old new (stops.Read file)
-read_unread told report log old new file is rose = subst (λ (f : Evidence). StopsAtEvidence told report log old new (stops.Read f)) (sym is) rose
+read_unread : (told : Type 0) (report log : List ℕ) (old new : ShelfView) (file : CheckedFile) → file ≡ Report → Rose (old.reads report) (new.reads report) → StopsAtEvidence told report log old new (stops.Read file)
+read_unread told report log old new file is rose = subst (λ (f : CheckedFile). StopsAtEvidence told report log old new (stops.Read f)) (sym is) rose
 
-read_long : (told : Type 0) (report log : List ℕ) (old new : ShelfView) (file : Evidence) → file ≡ Report → (told → IsTooLong (old.files report)) → StopsAtEvidence told report log old new (stops.TooLong file)
-read_long told report log old new file is long = subst (λ (f : Evidence). StopsAtEvidence told report log old new (stops.TooLong f)) (sym is) long
+read_long : (told : Type 0) (report log : List ℕ) (old new : ShelfView) (file : CheckedFile) → file ≡ Report → (told → IsTooLong (old.files report)) → StopsAtEvidence told report log old new (stops.TooLong file)
+read_long told report log old new file is long = subst (λ (f : CheckedFile). StopsAtEvidence told report log old new (stops.TooLong f)) (sym is) long
 
 -- at the report
 pub found_stops : (told : Type 0) (report log : List ℕ) (old new : ShelfView) (stop : Stop) → StopsAtReport told report old new stop → StopsAtEvidence told report log old new stop
@@ -79,9 +79,9 @@ log_long old middle log same long = subst (λ (files : List ℕ → List ℕ). I
 pub beside_stops : (told : Type 0) (report log : List ℕ) (old middle new : ShelfView) (r : reports.Report) (stop : Stop) → (told → HasReport (old.files report) r) → OnlyReads told old middle → StopsAtLog told r log middle new stop → StopsAtEvidence told report log old new stop
 beside_stops told report log old middle new r (stops.Payment stop) found only h = absurd h
 beside_stops told report log old middle new r (stops.Read file) found only h =
-    subst (λ (f : Evidence). StopsAtEvidence told report log old new (stops.Read f)) (sym h.0) (rose_earlier _ _ _ (only.reads log) h.2, log_reached told report old r found h.1)
+    subst (λ (f : CheckedFile). StopsAtEvidence told report log old new (stops.Read f)) (sym h.0) (rose_earlier _ _ _ (only.reads log) h.2, log_reached told report old r found h.1)
 beside_stops told report log old middle new r (stops.TooLong file) found only h =
-    subst (λ (f : Evidence). StopsAtEvidence told report log old new (stops.TooLong f)) (sym h.0) (λ t. (log_reached told report old r found h.1 t, log_long old middle log (only.same t) (h.2 t)))
+    subst (λ (f : CheckedFile). StopsAtEvidence told report log old new (stops.TooLong f)) (sym h.0) (λ t. (log_reached told report old r found h.1 t, log_long old middle log (only.same t) (h.2 t)))
 beside_stops told report log old middle new r (stops.Broken fault) found only h = absurd h
 beside_stops told report log old middle new r stops.Memory found only h = tt
 
@@ -101,7 +101,7 @@ accepted_beside plan (Funded f) log file same h = subst (λ (bytes : List ℕ). 
 accepted_beside plan (NoSelection tries) log file same h = subst (λ (bytes : List ℕ). IsAccepted plan (NoSelection tries) bytes) (same tt) h
 accepted_beside plan (Unfinished tries row stage) log file same h = tt
 
-open_fault : (plan : PlainPlan) (tries row : ℕ) (stage : _) (log file : List ℕ) (fault : CheckFault) → IsFault plan (Unfinished tries row stage) log fault → IsFault plan (Unfinished tries row stage) file fault
+open_fault : (plan : PlainPlan) (tries row : ℕ) (stage : _) (log file : List ℕ) (fault : CheckFault) → IsReportRefusal plan (Unfinished tries row stage) log fault → IsReportRefusal plan (Unfinished tries row stage) file fault
 open_fault plan tries row stage log file (faults.Report place) h = absurd h.0
 open_fault plan tries row stage log file (faults.Psbt e) h = absurd h
 open_fault plan tries row stage log file (faults.Coin point) h = absurd h
@@ -112,9 +112,9 @@ open_fault plan tries row stage log file (faults.Log i e) h = absurd h.0
 open_fault plan tries row stage log file faults.Answer h = absurd h.0
 open_fault plan tries row stage log file faults.Memory h = tt
 
-fault_beside : (plan : PlainPlan) (r : reports.Report) (log file : List ℕ) (fault : CheckFault) → (HasLog r → log ≡ file) → IsFault plan r log fault → IsFault plan r file fault
-fault_beside plan (Funded f) log file fault same h = subst (λ (bytes : List ℕ). IsFault plan (Funded f) bytes fault) (same tt) h
-fault_beside plan (NoSelection tries) log file fault same h = subst (λ (bytes : List ℕ). IsFault plan (NoSelection tries) bytes fault) (same tt) h
+fault_beside : (plan : PlainPlan) (r : reports.Report) (log file : List ℕ) (fault : CheckFault) → (HasLog r → log ≡ file) → IsReportRefusal plan r log fault → IsReportRefusal plan r file fault
+fault_beside plan (Funded f) log file fault same h = subst (λ (bytes : List ℕ). IsReportRefusal plan (Funded f) bytes fault) (same tt) h
+fault_beside plan (NoSelection tries) log file fault same h = subst (λ (bytes : List ℕ). IsReportRefusal plan (NoSelection tries) bytes fault) (same tt) h
 fault_beside plan (Unfinished tries row stage) log file fault same h = open_fault plan tries row stage log file fault h
 
 pub accepted_pays : (plan : PlainPlan) (r : reports.Report) (log : List ℕ) → IsAccepted plan r log → IsPaid plan r
@@ -208,7 +208,7 @@ if_vouched told s p report plan old middle new r log (Err stop) h only read acce
 
 -- ---- the judgement's faults
 
-pub fault_stops : (plan : PlainPlan) (r : reports.Report) (log : List ℕ) (fault : CheckFault) → IsFault plan r log fault → StopsJudging plan r log (stop_of_fault fault)
+pub fault_stops : (plan : PlainPlan) (r : reports.Report) (log : List ℕ) (fault : CheckFault) → IsReportRefusal plan r log fault → StopsJudging plan r log (stop_of_fault fault)
 fault_stops plan r log (faults.Report place) h = ((λ e. cc), h)
 fault_stops plan r log (faults.Psbt e) h = ((λ is. cc), h)
 fault_stops plan r log (faults.Coin point) h = ((λ e. cc), h)

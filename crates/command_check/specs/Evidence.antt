@@ -9,14 +9,14 @@ use Rattle.fund_steps.specs.Plan.{IsPlan, PlainPlan}
 use Rattle.report_check.specs.Verdict.{HasLog}
 use Rattle.request_text.specs.PlainRequest.{PlainRequest}
 use Rattle.wallet_text.specs.PlainWallet.{PlainWallet}
-use Rattle.fund_files.specs.Chain.{held_of, history_of}
+use Rattle.fund_files.specs.Chain.{chain_from, history_of}
 use Rattle.command_end.specs.Names.{Sources}
-use Rattle.command_inputs.specs.Due.{plan_of}
+use Rattle.command_inputs.specs.Outcome.{plan_of}
 use Rattle.command_inputs.specs.Inputs.{AreInputs}
 use Rattle.command_inputs.specs.Names.{Payment}
 use Rattle.command_inputs.specs.Replacing.{PaysTheBurden, ReplacesIf}
-use Rattle.command_check.specs.declared.stop.Evidence.{Evidence}
-use Rattle.command_check.specs.declared.stop.Evidence.TheVariants.{Report, Log}
+use Rattle.command_check.specs.declared.stop.CheckedFile.{CheckedFile}
+use Rattle.command_check.specs.declared.stop.CheckedFile.TheVariants.{Report, Log}
 
 -- ---- against what
 
@@ -26,7 +26,7 @@ pub record IsPlanOf (told : Type 0) (files : List ℕ → List ℕ) (s : Sources
   pub blocks : List ChainBlock
   pub asked : PlainRequest
   pub inputs : told → AreInputs files s p wallet blocks asked
-  pub is : plan ≡ plan_of (held_of wallet blocks) asked
+  pub is : plan ≡ plan_of (chain_from wallet blocks) asked
   pub rules : IsPlan plan
 
 -- the files hold a wallet, blocks and a request, of which this is the plan
@@ -45,7 +45,7 @@ pub record IsReplacingPlan (told : Type 0) (files : List ℕ → List ℕ) (s : 
 -- ---- what is judged
 
 -- the name of a file that is judged
-abbrev pub evidence_name : Payment → (report : List ℕ) → Evidence → List ℕ
+abbrev pub evidence_name : Payment → (report : List ℕ) → CheckedFile → List ℕ
 evidence_name p report Report = report
 evidence_name p report Log = p.log
 
@@ -75,10 +75,10 @@ pub record AreRead (report_file log_file : List ℕ) (r : reports.Report) (log :
 -- ---- the order of the files
 
 -- a read of this file failed
-abbrev pub IsUnread : Payment → (report : List ℕ) → Evidence → ShelfView → ShelfView → Type 0
+abbrev pub IsUnread : Payment → (report : List ℕ) → CheckedFile → ShelfView → ShelfView → Type 0
 IsUnread p report file old new = Rose (old.reads (evidence_name p report file)) (new.reads (evidence_name p report file))
 
 -- The files before this one are in order, so that it is read: those of the payment, and before the log a report that has one.
-abbrev pub IsReached : (List ℕ → List ℕ) → Sources → Payment → (report : List ℕ) → Evidence → Type 0
+abbrev pub IsReached : (List ℕ → List ℕ) → Sources → Payment → (report : List ℕ) → CheckedFile → Type 0
 IsReached files s p report Report = (plan : PlainPlan) × HavePlan files s p plan
 IsReached files s p report Log = (plan : PlainPlan) × HavePlan files s p plan × HasLoggedReport (files report)

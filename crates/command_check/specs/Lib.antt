@@ -1,6 +1,6 @@
 pub mod Asked
-pub mod Due
 pub mod Evidence
+pub mod Outcome
 pub mod Statuses
 pub mod Stops
 pub mod Words

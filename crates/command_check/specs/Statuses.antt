@@ -12,7 +12,8 @@ use Rattle.fund_report.specs.declared.report.Report.{Report}
 use Rattle.fund_report.specs.declared.report.Report.TheVariants as reports
 use Rattle.fund_steps.specs.Plan.{PlainPlan}
 use Rattle.psbt_codec.specs.PartialTransaction.{PartialTransaction}
-use Rattle.report_check.specs.Payment.{IsPsbtText, PaysBy}
+use Rattle.psbt_codec.specs.Text.{IsPsbtText}
+use Rattle.report_check.specs.Payment.{PaysBy}
 use Rattle.report_check.specs.Verdict.{HasLog, IsAccepted, IsPaid}
 use Rattle.report_check.specs.Vouched.{Vouches}
 use Rattle.report_check.specs.declared.fault.CheckFault.{CheckFault}
@@ -27,10 +28,10 @@ use Rattle.command_inputs.specs.Inputs as inputs
 use Rattle.command_inputs.specs.Names.{Payment}
 use Rattle.command_inputs.specs.Replacing.{ReplacesIf}
 use Rattle.command_inputs.specs.Results as payments
-use Rattle.command_check.specs.Due.{Accepted, Broken, ComesTo, TooLong}
+use Rattle.command_check.specs.Outcome.{Accepted, Broken, ComesTo, TooLong}
 use Rattle.command_check.specs.Evidence.{IsPlanOf, IsReached, IsUnread, evidence_name}
 use Rattle.command_check.specs.Words.{accepted_text, check_fault_words, evidence_word}
-use Rattle.command_check.specs.declared.stop.Evidence.{Evidence}
+use Rattle.command_check.specs.declared.stop.CheckedFile.{CheckedFile}
 
 -- ---- an accepted report
 
@@ -81,14 +82,14 @@ EndsAccepted told_files told s p report shelf sink sink' =
 -- a file that is judged is too long, which the files come to where they are told, with its line
 abbrev pub EndsTooLong : Type 0 → Type 0 → Sources → Payment → (report : List ℕ) → ShelfView → SinkView → SinkView → Type 0
 EndsTooLong told_files told s p report shelf sink sink' =
-    (file : Evidence) × (told_files → ComesTo shelf.files s p report (TooLong file)) × (told → GotLine (fault_line (codes "limit " ++ evidence_word file)) sink sink')
+    (file : CheckedFile) × (told_files → ComesTo shelf.files s p report (TooLong file)) × (told → GotLine (fault_line (codes "limit " ++ evidence_word file)) sink sink')
 
 -- a limit: of the payment, or of a file that is judged
 abbrev pub EndsLimited : Type 0 → Type 0 → Sources → Payment → (report : List ℕ) → ShelfView → SinkView → SinkView → Type 0
 EndsLimited told_files told s p report shelf sink sink' =
     payments.EndsRefused statuses.Limit told_files told s p shelf sink sink' ⊎ EndsTooLong told_files told s p report shelf sink sink'
 
--- the first rule that the report breaks, which the files come to where they are told, with its line; it is no want of memory
+-- the first rule that the report breaks, which the files come to where they are told, with its line; it isn't being out of memory
 abbrev pub EndsBroken : Type 0 → Type 0 → Sources → Payment → (report : List ℕ) → ShelfView → SinkView → SinkView → Type 0
 EndsBroken told_files told s p report shelf sink sink' =
     (fault : CheckFault) × (fault ≢ faults.Memory) × (told_files → ComesTo shelf.files s p report (Broken fault))
@@ -98,7 +99,7 @@ EndsBroken told_files told s p report shelf sink sink' =
 abbrev pub EndsUnread : Type 0 → Type 0 → Sources → Payment → (report : List ℕ) → ShelfView → ShelfView → SinkView → SinkView → Type 0
 EndsUnread told_files told s p report shelf shelf' sink sink' =
     payments.EndsUnread told_files told s p shelf shelf' sink sink'
-    ⊎ ((file : Evidence) × IsUnread p report file shelf shelf' × (told_files → IsReached shelf.files s p report file)
+    ⊎ ((file : CheckedFile) × IsUnread p report file shelf shelf' × (told_files → IsReached shelf.files s p report file)
     × (told → GotLine (fault_line (codes "read " ++ evidence_name p report file)) sink sink'))
 
 -- the report is accepted, and the sink failed and has got a part of what is due
@@ -132,7 +133,7 @@ Ends told_files told s p report shelf shelf' sink sink' statuses.CheckRefused = 
 -- no read of a file failed
 pub record NoneUnread (s : Sources) (p : Payment) (report : List ℕ) (shelf shelf' : ShelfView) : Type 0 where
   pub payment : (file : File) → inputs.IsUnread s p file shelf shelf' → ⊥
-  pub evidence : (file : Evidence) → IsUnread p report file shelf shelf' → ⊥
+  pub evidence : (file : CheckedFile) → IsUnread p report file shelf shelf' → ⊥
 
 -- nor did the sink fail
 pub record NoneFailed (s : Sources) (p : Payment) (report : List ℕ) (shelf shelf' : ShelfView) (sink sink' : SinkView) : Type 0 where

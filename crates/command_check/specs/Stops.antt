@@ -7,20 +7,20 @@ use Rattle.fund_report.specs.declared.fault.ReportFault.{ReportFault}
 use Rattle.fund_report.specs.declared.fault.ReportFault.TheVariants as forms
 use Rattle.fund_report.specs.declared.report.Report as reports
 use Rattle.fund_steps.specs.Plan.{PlainPlan}
-use Rattle.report_check.specs.Verdict.{HasLog, IsFault}
+use Rattle.report_check.specs.Verdict.{HasLog, IsReportRefusal}
 use Rattle.report_check.specs.declared.fault.CheckFault.{CheckFault}
 use Rattle.report_check.specs.declared.fault.CheckFault.TheVariants as faults
 use Rattle.command_end.specs.Names.{Sources}
 use Rattle.command_inputs.specs.Names.{Payment}
 use Rattle.command_inputs.specs.Stops as payments
-use Rattle.command_check.specs.Due.{TooLong, Broken, ComesTo, IsFormBroken}
+use Rattle.command_check.specs.Outcome.{TooLong, Broken, ComesTo, IsFormBroken}
 use Rattle.command_check.specs.Evidence.{HasLoggedReport, IsReached, IsTooLong, IsUnread}
-use Rattle.command_check.specs.declared.stop.Evidence.{Evidence}
-use Rattle.command_check.specs.declared.stop.Evidence.TheVariants.{Report, Log}
+use Rattle.command_check.specs.declared.stop.CheckedFile.{CheckedFile}
+use Rattle.command_check.specs.declared.stop.CheckedFile.TheVariants.{Report, Log}
 use Rattle.command_check.specs.declared.stop.Stop.{Stop}
 use Rattle.command_check.specs.declared.stop.Stop.TheVariants as stops
 
--- the stop of a report that breaks this rule: want of memory comes from that of the judgement alone
+-- the stop of a report that breaks this rule: being out of memory comes from that of the judgement alone
 abbrev pub stop_of_fault : CheckFault → Stop
 stop_of_fault faults.Memory = stops.Memory
 stop_of_fault fault = stops.Broken fault
@@ -28,7 +28,7 @@ stop_of_fault fault = stops.Broken fault
 -- ---- one file
 
 -- the stop of a file that wasn't read whole
-abbrev pub read_stop_of : Evidence → ReadError → Stop
+abbrev pub read_stop_of : CheckedFile → ReadError → Stop
 read_stop_of file reads.Failed = stops.Read file
 read_stop_of file reads.TooLong = stops.TooLong file
 read_stop_of file reads.Memory = stops.Memory
@@ -39,7 +39,7 @@ form_stop_of (forms.Form place) = stops.Broken (faults.Report place)
 form_stop_of forms.Memory = stops.Memory
 
 -- a read of this file failed, or it is too long
-abbrev pub StopsReading : Type 0 → Evidence → (name : List ℕ) → ShelfView → ShelfView → Stop → Type 0
+abbrev pub StopsReading : Type 0 → CheckedFile → (name : List ℕ) → ShelfView → ShelfView → Stop → Type 0
 StopsReading told file name old new (stops.Payment stop) = ⊥
 StopsReading told file name old new (stops.Read other) = (other ≡ file) × Rose (old.reads name) (new.reads name)
 StopsReading told file name old new (stops.TooLong other) = (other ≡ file) × (told → IsTooLong (old.files name))
@@ -82,7 +82,7 @@ abbrev pub StopsJudging : PlainPlan → reports.Report → (log : List ℕ) → 
 StopsJudging plan r log (stops.Payment stop) = ⊥
 StopsJudging plan r log (stops.Read file) = ⊥
 StopsJudging plan r log (stops.TooLong file) = ⊥
-StopsJudging plan r log (stops.Broken fault) = (fault ≢ faults.Memory) × IsFault plan r log fault
+StopsJudging plan r log (stops.Broken fault) = (fault ≢ faults.Memory) × IsReportRefusal plan r log fault
 StopsJudging plan r log stops.Memory = Unit {0}
 
 -- A file of the payment stops it; a read of the report or of the log failed, those before it being in order; or the files come

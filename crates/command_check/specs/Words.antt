@@ -17,13 +17,13 @@ use Rattle.command_end.specs.declared.status.Status.TheVariants as statuses
 use Rattle.command_inputs.specs.Names.{Payment}
 use Rattle.command_inputs.specs.Words as payments
 use Rattle.command_check.specs.Evidence.{evidence_name}
-use Rattle.command_check.specs.declared.stop.Evidence.{Evidence}
-use Rattle.command_check.specs.declared.stop.Evidence.TheVariants.{Report, Log}
+use Rattle.command_check.specs.declared.stop.CheckedFile.{CheckedFile}
+use Rattle.command_check.specs.declared.stop.CheckedFile.TheVariants.{Report, Log}
 use Rattle.command_check.specs.declared.stop.Stop.{Stop}
 use Rattle.command_check.specs.declared.stop.Stop.TheVariants as stops
 
 -- how a fault line names a file that is judged
-abbrev pub evidence_word : Evidence → List ℕ
+abbrev pub evidence_word : CheckedFile → List ℕ
 evidence_word Report = codes "report"
 evidence_word Log = codes "log"
 

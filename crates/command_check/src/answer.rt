@@ -12,32 +12,32 @@ ghost use Rattle.command_inputs.specs.declared.refusal.Stop.TheVariants as payme
 ghost use Rattle.command_check.specs.Evidence.{evidence_name};
 ghost use Rattle.command_check.specs.Words.{IsStopped, check_fault_words, evidence_word, stop_status, stop_words};
 
-use crate::stop::{Evidence, Stop};
+use crate::stop::{CheckedFile, Stop};
 use crate::words::{broken_parts, evidence_word};
-use command_end::{Part, Sources, Status, put_fault, refuse_read, want_of_memory};
+use command_end::{Part, Sources, Status, out_of_memory, put_fault, refuse_read};
 use command_inputs::{Payment, answer as answer_payment};
 use fund_shelf::Sink;
 use report_check::CheckFault;
 
 /// The name of a file that is judged.
-fn evidence_name<'a>(payment: &Payment<'a>, report: &'a str, file: Evidence) -> &'a str
+fn evidence_name<'a>(payment: &Payment<'a>, report: &'a str, file: CheckedFile) -> &'a str
     ensures { result.now ≡ evidence_name (plain_payment payment.now) report.now file }
 {
     match file {
-        Evidence::Report => report,
-        Evidence::Log => payment.log,
+        CheckedFile::Report => report,
+        CheckedFile::Log => payment.log,
     }
 }
 
 /// What the line of a file that is too long says behind the word `fault`.
-fn limit_parts(file: Evidence) -> [Part<'static>; 2]
+fn limit_parts(file: CheckedFile) -> [Part<'static>; 2]
     ensures { parts_text result ≡ codes "limit " ++ evidence_word file }
 {
     [Part::Text("limit "), Part::Text(evidence_word(file))]
 }
 
 /// Puts the line of a file that is too long.
-fn refuse_length<O: Sink>(file: Evidence, out: &mut O) -> Status
+fn refuse_length<O: Sink>(file: CheckedFile, out: &mut O) -> Status
     ensures is { result ≡ Status.Limit }
     ensures line { O.tells → GotLine (fault_line (codes "limit " ++ evidence_word file)) (O.view out.old) (O.view out.new) }
     ensures answered { IsAnswered O.tells (codes "limit " ++ evidence_word file) Status.Limit (O.view out.old) (O.view out.new) result }
@@ -67,7 +67,7 @@ pub fn answer<O: Sink>(
     ensures is { result ≡ stop_status stop }
     ensures line { O.tells → GotLine (fault_line (stop_words (plain_sources sources.now) (plain_payment payment.now) report.now stop)) (O.view out.old) (O.view out.new) }
     ensures answered { IsStopped O.tells (plain_sources sources.now) (plain_payment payment.now) report.now stop (O.view out.old) (O.view out.new) result }
-    ensures read { (file : Evidence) → stop ≡ Stop.Read file → result ≡ Status.ReadFault }
+    ensures read { (file : CheckedFile) → stop ≡ Stop.Read file → result ≡ Status.ReadFault }
     ensures read_payment { (file : File) → stop ≡ Stop.Payment (payments.Read file) → result ≡ Status.ReadFault }
     ensures counts { CountsNeverFall (O.view out.old) (O.view out.new) }
 {
@@ -76,6 +76,6 @@ pub fn answer<O: Sink>(
         Stop::Read(file) => refuse_read(evidence_name(payment, report, file), out),
         Stop::TooLong(file) => refuse_length(file, out),
         Stop::Broken(fault) => refuse_report(&fault, out),
-        Stop::Memory => want_of_memory(out),
+        Stop::Memory => out_of_memory(out),
     }
 }

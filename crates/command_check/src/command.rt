@@ -8,7 +8,7 @@ ghost use Rattle.command_end.specs.Printed.{TellsWhole, TookAll};
 ghost use Rattle.command_inputs.specs.Inputs.{NoneBehind};
 ghost use Rattle.command_inputs.specs.Names.{plain_payment};
 ghost use Rattle.command_check.specs.Asked.{AsksInOrder, AsksNoLog, AsksPayment};
-ghost use Rattle.command_check.specs.Due.{ComesTo, IsAnAcceptance, Outcome, status_of};
+ghost use Rattle.command_check.specs.Outcome.{ComesTo, IsAnAcceptance, Outcome, status_of};
 ghost use Rattle.command_check.specs.Evidence.{HasLoggedReport, HavePlan};
 ghost use Rattle.command_check.specs.Statuses.{Ends, NoneFailed, NoneUnread};
 
@@ -42,7 +42,7 @@ pub fn check<H: Shelf, O: Sink>(
     // Where the report isn't accepted and the files were read, the status is that of the refusal, even if the sink fails.
     ensures refused { H.tells → NoneUnread (plain_sources sources.now) (plain_payment payment.now) report.now (H.view shelf.old) (H.view shelf.new) → (o : Outcome) → ComesTo (H.view shelf.old).files (plain_sources sources.now) (plain_payment payment.now) report.now o → (IsAnAcceptance o → ⊥) → (result ≡ status_of o) ⊎ (result ≡ Status.Memory) }
 
-    // Where no count rose, the status is that of what the files come to, or want of memory.
+    // Where no count rose, the status is that of what the files come to, or out of memory.
     ensures complete { H.tells → NoneFailed (plain_sources sources.now) (plain_payment payment.now) report.now (H.view shelf.old) (H.view shelf.new) (O.view out.old) (O.view out.new) → (o : Outcome) → ComesTo (H.view shelf.old).files (plain_sources sources.now) (plain_payment payment.now) report.now o → (result ≡ status_of o) ⊎ (result ≡ Status.Memory) }
 
     // A read that failed is told as that, and as nothing else; an output that failed is never told as an acceptance.

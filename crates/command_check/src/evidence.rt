@@ -6,7 +6,7 @@ ghost use Rattle.report_check.specs.Verdict.{HasLog};
 ghost use Rattle.command_check.specs.Evidence.{HasReport, IsWithin};
 ghost use Rattle.command_check.specs.Stops.{StopsAtLog, StopsAtReport, StopsReading, form_stop_of, read_stop_of};
 
-use crate::stop::{Evidence, Stop};
+use crate::stop::{CheckedFile, Stop};
 use fund_report::{Report, ReportFault, read_report};
 use fund_shelf::{ReadError, Shelf, read_whole};
 use report_check::CheckFault;
@@ -16,7 +16,7 @@ use std::alloc::Global;
 const LIMIT: usize = 67_108_864;
 
 /// Why the reading stops at a file that wasn't read whole.
-fn read_stop(file: Evidence, error: ReadError) -> Stop
+fn read_stop(file: CheckedFile, error: ReadError) -> Stop
     ensures stop { result ≡ read_stop_of file error }
 {
     match error {
@@ -29,7 +29,7 @@ fn read_stop(file: Evidence, error: ReadError) -> Stop
 /// The bytes of a file that is judged, which has this name and at most 67,108,864 bytes.
 fn read_evidence<H: Shelf>(
     alloc: Global,
-    file: Evidence,
+    file: CheckedFile,
     name: &str,
     shelf: &mut H,
 ) -> Result<Vec<u8>, Stop>
@@ -62,9 +62,9 @@ pub fn read_found<H: Shelf>(alloc: Global, name: &str, shelf: &mut H) -> Result<
     ensures frame { OnlyReads H.tells (H.view shelf.old) (H.view shelf.new) }
     ensures stop { IfErr result (StopsAtReport H.tells name.now (H.view shelf.old) (H.view shelf.new)) }
     ensures asked { H.tells → Asks (name.now ∷ []) (H.view shelf.old).asked (H.view shelf.new).asked }
-    ensures all_read { result ≢ Err (Stop.Read Evidence.Report) → (H.view shelf.new).reads ≡ (H.view shelf.old).reads }
+    ensures all_read { result ≢ Err (Stop.Read CheckedFile.Report) → (H.view shelf.new).reads ≡ (H.view shelf.old).reads }
 {
-    let bytes = read_evidence(alloc, Evidence::Report, name, shelf)?;
+    let bytes = read_evidence(alloc, CheckedFile::Report, name, shelf)?;
     match read_report(alloc, &bytes) {
         Ok(report) => Ok(report),
         Err(fault) => Err(form_stop(fault)),
@@ -96,10 +96,10 @@ pub fn read_beside<H: Shelf>(
     ensures stop { IfErr result (StopsAtLog H.tells report.now name.now (H.view shelf.old) (H.view shelf.new)) }
     ensures asked { H.tells → Asks (name.now ∷ []) (H.view shelf.old).asked (H.view shelf.new).asked }
     ensures unread { (HasLog report.now → ⊥) → (H.view shelf.new) ≡ (H.view shelf.old) }
-    ensures all_read { result ≢ Err (Stop.Read Evidence.Log) → (H.view shelf.new).reads ≡ (H.view shelf.old).reads }
+    ensures all_read { result ≢ Err (Stop.Read CheckedFile.Log) → (H.view shelf.new).reads ≡ (H.view shelf.old).reads }
 {
     if has_log(report) {
-        read_evidence(alloc, Evidence::Log, name, shelf)
+        read_evidence(alloc, CheckedFile::Log, name, shelf)
     } else {
         Ok(Vec::new(alloc))
     }

@@ -2,12 +2,12 @@
 
 ghost use Rattle.std.specs.Prelude.{◌≡◌, ◌≢◌, None, IfErr, IfOk};
 ghost use Rattle.fund_shelf.specs.Causes.{OnlyReads};
-ghost use Rattle.fund_files.specs.Chain.{IsHeld};
+ghost use Rattle.fund_files.specs.Chain.{IsChain};
 ghost use Rattle.fund_files.specs.declared.refusal.File.{File};
 ghost use Rattle.fund_plan.specs.Selection.{PlainFunded};
 ghost use Rattle.fund_steps.specs.Plan.{IsPlan};
 ghost use Rattle.command_end.specs.Names.{plain_sources};
-ghost use Rattle.command_inputs.specs.Due.{bump_fault_in, plan_of, terms_for};
+ghost use Rattle.command_inputs.specs.Outcome.{bump_fault_in, plan_of, terms_for};
 ghost use Rattle.command_inputs.specs.Inputs.{AsksInOrder, NoneBehind};
 ghost use Rattle.command_inputs.specs.Names.{plain_payment};
 ghost use Rattle.command_inputs.specs.PlanEnds.{StopsPlan};
@@ -18,9 +18,9 @@ ghost use Rattle.command_check.specs.Evidence.{IsReplacingPlan};
 use command_end::Sources;
 use command_inputs::{Inputs, Payment, PlanCoins, Stop, plan_coins, read_inputs};
 use fee_bump::BumpTerms;
-use fund_files::Held;
+use fund_files::Chain;
 use fund_shelf::Shelf;
-use report_check::Examiner;
+use report_check::ReportChecker;
 use request_text::Request;
 use std::alloc::Global;
 
@@ -28,11 +28,11 @@ use std::alloc::Global;
 /// where the request names a payment to be replaced.
 fn made(
     alloc: Global,
-    held: Held,
+    held: Chain,
     request: Request,
     terms: Option<BumpTerms>,
-) -> Result<Examiner, Stop>
-    requires held { IsHeld held }
+) -> Result<ReportChecker, Stop>
+    requires held { IsChain held }
     requires terms { terms ≡ terms_for held request }
     requires taken { bump_fault_in held request ≡ None }
     ensures made { IfOk result (λ e. e ≡ plan_of held request) }
@@ -40,12 +40,11 @@ fn made(
     ensures replaces { IfOk result (λ e. (f : PlainFunded) → PaysTheBurden e f → ReplacesIf held.wallet held.book request f) }
     ensures stop { IfErr result (StopsPlan held request) }
 {
-    // no book has a history with a fault
-    held.book.len();
+    held.book.keeps_rules();
     let PlanCoins { candidates, bump } = plan_coins(alloc, &held, &request, terms)?;
     let wallet = held.wallet;
     let change = wallet.change;
-    let examiner = Examiner::new(alloc, request, change, candidates, bump)?;
+    let examiner = ReportChecker::new(alloc, request, change, candidates, bump)?;
     examiner.keeps_rules();
     Ok(examiner)
 }
@@ -57,7 +56,7 @@ pub fn examiner<H: Shelf>(
     sources: &Sources,
     payment: &Payment,
     shelf: &mut H,
-) -> Result<Examiner, Stop>
+) -> Result<ReportChecker, Stop>
     ensures plan { IfOk result (IsReplacingPlan H.tells (H.view shelf.old).files (plain_sources sources.now) (plain_payment payment.now)) }
     ensures frame { OnlyReads H.tells (H.view shelf.old) (H.view shelf.new) }
     ensures stop { IfErr result (StopsFor H.tells (plain_sources sources.now) (plain_payment payment.now) (H.view shelf.old) (H.view shelf.new)) }

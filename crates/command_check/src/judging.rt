@@ -17,13 +17,13 @@ ghost use Rattle.command_check.specs.Words.{accepted_text};
 
 use crate::evidence::{read_beside, read_found};
 use crate::examining::examiner;
-use crate::stop::{Evidence, Stop};
+use crate::stop::{CheckedFile, Stop};
 use crate::words::accepted_text;
 use command_end::Sources;
 use command_inputs::{Payment, Stop as PaymentStop};
 use fund_report::Report;
 use fund_shelf::Shelf;
-use report_check::Examiner;
+use report_check::ReportChecker;
 use std::alloc::Global;
 
 /// A report, and the bytes of its log.
@@ -42,7 +42,7 @@ fn read_pair<H: Shelf>(alloc: Global, report: &str, log: &str, shelf: &mut H) ->
     ensures stop { IfErr result (StopsAtEvidence H.tells report.now log.now (H.view shelf.old) (H.view shelf.new)) }
     ensures asked { H.tells → Asks (report.now ∷ log.now ∷ []) (H.view shelf.old).asked (H.view shelf.new).asked }
     ensures no_log { H.tells → (HasLoggedReport ((H.view shelf.old).files report.now) → ⊥) → Asks (report.now ∷ []) (H.view shelf.old).asked (H.view shelf.new).asked }
-    ensures all_read { ((file : Evidence) → result ≢ Err (Stop.Read file)) → (H.view shelf.new).reads ≡ (H.view shelf.old).reads }
+    ensures all_read { ((file : CheckedFile) → result ≢ Err (Stop.Read file)) → (H.view shelf.new).reads ≡ (H.view shelf.old).reads }
 {
     let found = read_found(alloc, report, shelf)?;
     let log = read_beside(alloc, &found, log, shelf)?;
@@ -50,7 +50,7 @@ fn read_pair<H: Shelf>(alloc: Global, report: &str, log: &str, shelf: &mut H) ->
 }
 
 /// What is printed of a report that is accepted with its log, or the first rule that it breaks.
-fn judge(alloc: Global, examiner: &Examiner, pair: &Pair) -> Result<String, Stop>
+fn judge(alloc: Global, examiner: &ReportChecker, pair: &Pair) -> Result<String, Stop>
     ensures accepted { IfOk result (λ _. IsAccepted examiner.now pair.now.report pair.now.log.items) }
     ensures vouches { IfOk result (λ _. Vouches examiner.now pair.now.report) }
     ensures text { IfOk result (λ text. string_bytes text ≡ accepted_text pair.now.report) }
@@ -77,7 +77,7 @@ pub fn accepted<H: Shelf>(
     ensures none_behind { H.tells → NoneBehind (plain_sources sources.now) (H.view shelf.old) (H.view shelf.new) }
     ensures no_log { H.tells → (HasLoggedReport ((H.view shelf.old).files report.now) → ⊥) → AsksNoLog (plain_sources sources.now) (plain_payment payment.now) report.now (H.view shelf.old) (H.view shelf.new) }
     ensures unread { H.tells → ((plan : PlainPlan) → HavePlan (H.view shelf.old).files (plain_sources sources.now) (plain_payment payment.now) plan → ⊥) → AsksPayment (plain_sources sources.now) (plain_payment payment.now) (H.view shelf.old) (H.view shelf.new) }
-    ensures all_read { ((file : Evidence) → result ≢ Err (Stop.Read file)) → ((file : File) → result ≢ Err (Stop.Payment (PaymentStop.Read file))) → (H.view shelf.new).reads ≡ (H.view shelf.old).reads }
+    ensures all_read { ((file : CheckedFile) → result ≢ Err (Stop.Read file)) → ((file : File) → result ≢ Err (Stop.Payment (PaymentStop.Read file))) → (H.view shelf.new).reads ≡ (H.view shelf.old).reads }
 {
     let examiner = examiner(alloc, sources, payment, shelf)?;
     let pair = read_pair(alloc, report, payment.log, shelf)?;

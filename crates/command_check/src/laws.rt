@@ -8,7 +8,7 @@ ghost use Rattle.report_check.specs.Vouched.{Vouches};
 ghost use Rattle.search_run.specs.Step.{AreSteps};
 ghost use Rattle.command_end.specs.Names.{Sources};
 ghost use Rattle.command_inputs.specs.Names.{Payment};
-ghost use Rattle.command_check.specs.Due.{ComesTo, KeepsRules, Outcome};
+ghost use Rattle.command_check.specs.Outcome.{ComesTo, KeepsRules, Outcome};
 ghost use Rattle.command_check.specs.Evidence.{HasReport};
 ghost use Rattle.command_check.specs.Words.{StartsWithLine, first_line};
 

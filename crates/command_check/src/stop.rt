@@ -6,7 +6,7 @@ use report_check::CheckFault;
 
 /// A file that is judged.
 #[derive(Clone, Copy)]
-pub enum Evidence {
+pub enum CheckedFile {
     Report,
     Log,
 }
@@ -17,9 +17,9 @@ pub enum Stop {
     /// A file of the payment stops it, as it stops the command that funds the payment.
     Payment(PaymentStop),
     /// A read of the report or of the log failed.
-    Read(Evidence),
+    Read(CheckedFile),
     /// The report or the log is longer than its limit.
-    TooLong(Evidence),
+    TooLong(CheckedFile),
     /// The first rule that the report breaks with its log. It is never that there was not enough memory.
     Broken(CheckFault),
     /// There was not enough memory.

@@ -4,7 +4,7 @@ ghost use Rattle.std.specs.Prelude.{◌≡◌, ◌++◌, codes, IfOk, string_byt
 ghost use Rattle.command_end.specs.Parts.{part_text, parts_text};
 ghost use Rattle.command_check.specs.Words.{accepted_text, check_fault_words, evidence_word};
 
-use crate::stop::Evidence;
+use crate::stop::CheckedFile;
 use closing_log::Worded;
 use command_end::{Part, log_fault_part, psbt_fault_parts};
 use fund_base::Memory;
@@ -13,12 +13,12 @@ use report_check::CheckFault;
 use std::alloc::Global;
 
 /// How a fault line names a file that is judged.
-pub fn evidence_word(file: Evidence) -> &'static str
+pub fn evidence_word(file: CheckedFile) -> &'static str
     ensures { result.now ≡ evidence_word file }
 {
     match file {
-        Evidence::Report => "report",
-        Evidence::Log => "log",
+        CheckedFile::Report => "report",
+        CheckedFile::Log => "log",
     }
 }
 

@@ -12,10 +12,10 @@ use Rattle.command_end.specs.Lines.{GotLine, fault_line, file_refusal_words, sta
 use Rattle.command_end.specs.Names.{Sources}
 use Rattle.command_end.specs.declared.status.Status.{Status}
 use Rattle.command_end.specs.ChainAnswer.{IsStopped}
-use Rattle.command_coins.specs.Statuses.{Ends, IsDue}
+use Rattle.command_coins.specs.Statuses.{Ends, AreRefusedFor}
 use Rattle.command_coins.proofs.ListingLaws.{refused_due}
 
-refused_ends : (told_files told : Type 0) (s : Sources) (refusal : FileRefusal) (shelf shelf' : ShelfView) (sink sink' : SinkView) → (told_files → IsDue shelf.files s (cause_of refusal)) → (told → GotLine (fault_line (file_refusal_words refusal)) sink sink')
+refused_ends : (told_files told : Type 0) (s : Sources) (refusal : FileRefusal) (shelf shelf' : ShelfView) (sink sink' : SinkView) → (told_files → AreRefusedFor shelf.files s (cause_of refusal)) → (told → GotLine (fault_line (file_refusal_words refusal)) sink sink')
     → Ends told_files told s shelf shelf' sink sink' (status_of_file (cause_of refusal))
 refused_ends told_files told s (refusals.TooLong file) shelf shelf' sink sink' due line = (refusals.TooLong file, refl, due, line)
 refused_ends told_files told s (refusals.BadWallet fault) shelf shelf' sink sink' due line = (refusals.BadWallet fault, refl, due, line)

@@ -1,3 +1,3 @@
-pub mod Due
 pub mod Listing
+pub mod Outcome
 pub mod Statuses

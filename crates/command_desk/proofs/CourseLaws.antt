@@ -10,7 +10,7 @@ use Rattle.desk_machine.specs.State.{PlainDesk}
 use Rattle.command_desk.specs.Line.{Line, Open, Turn, Commit, Close, Release, Blocks, Pending, Other, Wanted, line_of, wanted}
 use Rattle.command_desk.specs.Asked.{file_in, files_in}
 use Rattle.command_desk.specs.Course.{Answers, Course, IsLong, IsWithin, file_name}
-use Rattle.command_desk.specs.Due.{is_long}
+use Rattle.command_desk.specs.Outcome.{is_long}
 
 -- ---- one line more
 

@@ -2,11 +2,11 @@ pub mod ArmLaws
 pub mod CallLaws
 pub mod CourseLaws
 pub mod CutLaws
-pub mod DueLaws
 pub mod EndsLaws
 pub mod HaltLaws
 pub mod LineLaws
 pub mod OnlyLaws
+pub mod OutcomeLaws
 pub mod ReplyLaws
 pub mod SaidLaws
 pub mod ScriptLaws

@@ -10,7 +10,7 @@ use Rattle.command_end.specs.Name.{shown_name}
 use Rattle.command_end.specs.Words.{address_fault_words, feed_fault_words, request_fault_words, tx_fault_words}
 use Rattle.json_fields.specs.declared.fault.FieldFault.{FieldFault}
 use Rattle.json_fields.specs.declared.fault.FieldFault.TheVariants as fields
-use Rattle.request_text.specs.Told.{plain_fault}
+use Rattle.request_text.specs.Reported.{plain_fault}
 use Rattle.request_text.specs.declared.fault.Refusal as plain_requests
 use Rattle.request_text.specs.declared.fault.Refusal.TheVariants as plain
 use Rattle.request_text.specs.declared.fault.RequestFault.{RequestFault}

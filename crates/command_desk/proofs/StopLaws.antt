@@ -4,11 +4,11 @@ use Rattle.std.proofs.Common.{refl, sym, subst, inl, inr}
 use Rattle.fund_shelf.specs.Causes.{Asks, ShelfView, SinkView}
 use Rattle.fund_shelf.proofs.Asking.{asks_first, asks_then}
 use Rattle.fund_files.proofs.StopLaws.{not_refused}
-use Rattle.fund_files.specs.Behind.{AreHeld}
+use Rattle.fund_files.specs.Joined.{IsChainOf}
 use Rattle.fund_files.specs.Cause.{FileCause, cause_of}
 use Rattle.fund_files.specs.FileStops.{IsWalletCause}
 use Rattle.fund_files.specs.Refusals.{IsChainCause}
-use Rattle.fund_files.specs.declared.held.Held.{Held}
+use Rattle.fund_files.specs.declared.chain.Chain.{Chain}
 use Rattle.fund_files.specs.declared.refusal.FileRefusal.{FileRefusal}
 use Rattle.fund_files.specs.declared.refusal.FileRefusal.TheVariants as refusals
 use Rattle.fund_files.specs.declared.stop.Stop as reads
@@ -45,7 +45,7 @@ module _ (s : Sources) (script : List ℕ) (old mid new : ShelfView) where
   pub script_asked : Asks (s.wallet ∷ s.blocks ∷ []) old.asked mid.asked → Asks (script ∷ []) mid.asked new.asked → Asks (first_names s script) old.asked new.asked
   script_asked first second = asks_then (s.wallet ∷ s.blocks ∷ []) (script ∷ []) old.asked mid.asked new.asked first second
 
-  pub in_order : (told : Type 0) (k : Held) → AreHeld told (old.files s.wallet) (old.files s.blocks) k → told → HasWalletAndBlocks old.files s
+  pub in_order : (told : Type 0) (k : Chain) → IsChainOf told (old.files s.wallet) (old.files s.blocks) k → told → HasWalletAndBlocks old.files s
   in_order told k h t = (k.wallet, h.held.blocks, h.chain t)
 
   -- the wallet and the blocks being in order, and the script being asked for

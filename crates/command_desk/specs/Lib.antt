@@ -1,11 +1,11 @@
 pub mod Asked
 pub mod Calls
 pub mod Course
-pub mod Due
 pub mod Endings
 pub mod Halts
 pub mod Lent
 pub mod Line
+pub mod Outcome
 pub mod ReplyText
 pub mod Running
 pub mod Script

@@ -2,7 +2,7 @@
 use Rattle.std.specs.Prelude.{ℕ, ◌≡◌, ◌≤◌, ◌<◌, List, length}
 use Rattle.block_feed.specs.Block.{ChainBlock}
 use Rattle.wallet_text.specs.PlainWallet.{PlainWallet}
-use Rattle.fund_files.specs.Chain.{held_of}
+use Rattle.fund_files.specs.Chain.{chain_from}
 use Rattle.fund_files.specs.Contents.{HasChain}
 use Rattle.command_end.specs.Names.{Sources}
 use Rattle.desk_machine.specs.State.{PlainDesk, new_desk}
@@ -17,7 +17,7 @@ pub record AreInputs (files : List ℕ → List ℕ) (s : Sources) (script : Lis
 pub record StartsFrom (told_files : Type 0) (files : List ℕ → List ℕ) (s : Sources) (script text : List ℕ) (d : PlainDesk) : Type 0 where
   pub wallet : PlainWallet
   pub blocks : List ChainBlock
-  pub desk_is : d ≡ new_desk (held_of wallet blocks)
+  pub desk_is : d ≡ new_desk (chain_from wallet blocks)
   pub inputs : told_files → AreInputs files s script wallet blocks
   pub text_is : told_files → text ≡ files script
 

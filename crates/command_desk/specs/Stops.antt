@@ -1,5 +1,5 @@
 -- Why the reading stops before the first line is done, and how that is answered.
-use Rattle.std.specs.Prelude.{ℕ, ◌≡◌, ◌<◌, List, ◌++◌, codes, length}
+use Rattle.std.specs.Prelude.{ℕ, ◌<◌, List, ◌++◌, codes, length}
 use Rattle.fund_shelf.specs.Causes.{Asks, ShelfView, SinkView, Rose}
 use Rattle.fund_shelf.specs.declared.pieces.ReadError.{ReadError}
 use Rattle.fund_shelf.specs.declared.pieces.ReadError.TheVariants as reads

@@ -8,7 +8,7 @@ ghost use Rattle.command_end.specs.Names.{plain_sources};
 ghost use Rattle.command_desk.specs.Stops.{IsStopped, stop_status, stop_words};
 
 use crate::stop::Stop;
-use command_end::{Sources, Status, put_line, refuse_chain, refuse_read, want_of_memory};
+use command_end::{Sources, Status, out_of_memory, put_line, refuse_chain, refuse_read};
 use fund_files::Stop as ChainStop;
 use fund_shelf::Sink;
 
@@ -31,6 +31,6 @@ pub fn answer<O: Sink>(sources: &Sources, script: &str, stop: Stop, out: &mut O)
             put_line(LIMIT_LINE, out);
             Status::Limit
         }
-        Stop::Memory => want_of_memory(out),
+        Stop::Memory => out_of_memory(out),
     }
 }

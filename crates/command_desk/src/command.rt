@@ -6,7 +6,7 @@ ghost use Rattle.command_end.specs.Names.{plain_sources};
 ghost use Rattle.command_end.specs.Printed.{TellsWhole, TookAll};
 ghost use Rattle.command_desk.specs.Script.{lines_of};
 ghost use Rattle.command_desk.specs.Asked.{NoneBehind, files_in, first_names};
-ghost use Rattle.command_desk.specs.Due.{IsRefusal, due_of, status_of};
+ghost use Rattle.command_desk.specs.Outcome.{IsRefusal, outcome_of, status_of};
 ghost use Rattle.command_desk.specs.Statuses.{Ends, NoneFailed, NoneUnread};
 
 use crate::answer::answer;
@@ -36,10 +36,10 @@ pub fn desk<H: Shelf, O: Sink>(
 
     // Where the wallet, the blocks, the script or the file of its first line is refused, and the files were read, the status is
     // that of the refusal, even if the sink fails.
-    ensures refused { H.tells → NoneUnread (plain_sources sources.now) script.now (H.view shelf.old) (H.view shelf.new) → IsRefusal (due_of (H.view shelf.old).files (plain_sources sources.now) script.now) → (result ≡ status_of (due_of (H.view shelf.old).files (plain_sources sources.now) script.now)) ⊎ (result ≡ Status.Memory) }
+    ensures refused { H.tells → NoneUnread (plain_sources sources.now) script.now (H.view shelf.old) (H.view shelf.new) → IsRefusal (outcome_of (H.view shelf.old).files (plain_sources sources.now) script.now) → (result ≡ status_of (outcome_of (H.view shelf.old).files (plain_sources sources.now) script.now)) ⊎ (result ≡ Status.Memory) }
 
-    // Where no count rose, the status is that of what the files come to, or want of memory.
-    ensures complete { H.tells → NoneFailed (plain_sources sources.now) script.now (H.view shelf.old) (H.view shelf.new) (O.view out.old) (O.view out.new) → (result ≡ status_of (due_of (H.view shelf.old).files (plain_sources sources.now) script.now)) ⊎ (result ≡ Status.Memory) }
+    // Where no count rose, the status is that of what the files come to, or out of memory.
+    ensures complete { H.tells → NoneFailed (plain_sources sources.now) script.now (H.view shelf.old) (H.view shelf.new) (O.view out.old) (O.view out.new) → (result ≡ status_of (outcome_of (H.view shelf.old).files (plain_sources sources.now) script.now)) ⊎ (result ≡ Status.Memory) }
 
     // A read that failed is told as that, and as nothing else; an output that failed is never told as done.
     ensures all_read { result ≢ Status.ReadFault → (H.view shelf.new).reads ≡ (H.view shelf.old).reads }

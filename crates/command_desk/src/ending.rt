@@ -9,7 +9,7 @@ ghost use Rattle.command_desk.specs.Halts.{EndsAt, EndsFirst, status_of};
 
 use crate::halt::Halt;
 use crate::line::Line;
-use command_end::{Status, put_line, refuse_read, want_of_memory};
+use command_end::{Status, out_of_memory, put_line, refuse_read};
 use fund_shelf::Sink;
 
 /// The status of a line that isn't done.
@@ -66,7 +66,7 @@ fn end_first<O: Sink>(line: &Line, halt: Halt, out: &mut O) -> Status
         Halt::TooLong => refuse_length(line, out),
         Halt::Unwritten => Status::WriteFault,
         Halt::Full => Status::Memory,
-        Halt::Memory => want_of_memory(out),
+        Halt::Memory => out_of_memory(out),
     }
 }
 

@@ -6,7 +6,7 @@ ghost use Rattle.command_desk.specs.Lent.{is_job_verb, plain_line, txid_word};
 ghost use Rattle.command_desk.specs.Line.{by_one, by_two, is_file_word, line_of};
 
 use crate::script::next_word;
-use fund_base::{Txid, read_decimal};
+use fund_base::{MOST_TRIES, Txid, read_decimal};
 use fund_outside::is_job_name;
 use std::str;
 
@@ -82,7 +82,7 @@ fn of_two<'a>(verb: &[u8], first: &'a [u8], second: &'a [u8]) -> Line<'a>
             _ => Line::Other,
         }
     } else if verb == b"turn".as_slice() {
-        match (name_of(first), read_decimal(second, 10_000_000)) {
+        match (name_of(first), read_decimal(second, MOST_TRIES)) {
             (Some(name), Some(tries)) if tries >= 1 => Line::Turn { name, tries },
             _ => Line::Other,
         }

@@ -2,7 +2,7 @@
 
 ghost use Rattle.std.specs.Prelude.{◌≡◌, ◌≢◌, ◌≤◌, [], ◌∷◌, IfErr, IfOk, OnOk, length};
 ghost use Rattle.fund_shelf.specs.Causes.{Asks, OnlyReads};
-ghost use Rattle.fund_files.specs.Chain.{IsHeld};
+ghost use Rattle.fund_files.specs.Chain.{IsChain};
 ghost use Rattle.fund_files.specs.declared.refusal.File.{File};
 ghost use Rattle.command_end.specs.Names.{plain_sources};
 ghost use Rattle.desk_machine.specs.State.{new_desk};
@@ -14,7 +14,7 @@ use crate::stop::{Stop, read_stop};
 use command_end::Sources;
 use fund_base::Memory;
 use fund_desk::Desk;
-use fund_files::{Held, Stop as ChainStop, read_chain};
+use fund_files::{Chain, Stop as ChainStop, read_chain};
 use fund_shelf::{Shelf, read_whole};
 use std::alloc::Global;
 
@@ -31,11 +31,11 @@ pub struct Start {
 }
 
 /// The desk of a wallet and its chain, at which nothing was done yet. The error is out of memory.
-fn desk_of(alloc: Global, held: Held) -> Result<Desk, Memory>
-    requires { IsHeld held }
+fn desk_of(alloc: Global, held: Chain) -> Result<Desk, Memory>
+    requires { IsChain held }
     ensures { IfOk result (λ d. d ≡ new_desk held) }
 {
-    let Held { wallet, book, tip } = held;
+    let Chain { wallet, book, tip } = held;
     Desk::new(alloc, wallet, book, tip.height, tip.hash)
 }
 
@@ -57,11 +57,11 @@ fn script_text<H: Shelf>(alloc: Global, script: &str, shelf: &mut H) -> Result<V
 /// The desk of a wallet and its chain, and the text of the script, which is read.
 fn start_with<H: Shelf>(
     alloc: Global,
-    held: Held,
+    held: Chain,
     script: &str,
     shelf: &mut H,
 ) -> Result<Start, Stop>
-    requires { IsHeld held }
+    requires { IsChain held }
     ensures desk { IfOk result (λ x. x.desk ≡ new_desk held) }
     ensures text { H.tells → IfOk result (λ x. x.text.items ≡ (H.view shelf.old).files script.now) }
     ensures fits { H.tells → OnOk result (length ((H.view shelf.old).files script.now) ≤ SCRIPT_LIMIT) }

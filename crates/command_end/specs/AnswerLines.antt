@@ -9,6 +9,6 @@ use Rattle.command_end.specs.Lines.{GotLine, fault_line}
 abbrev pub IsAnswered : Type 0 → List ℕ → Status → SinkView → SinkView → Status → Type 0
 IsAnswered told words status old new result = (result ≡ status) × (told → GotLine (fault_line words) old new)
 
--- the status of want of memory, with its line
+-- the status of being out of memory, with its line
 abbrev pub IsWanting : Type 0 → SinkView → SinkView → Status → Type 0
 IsWanting told old new result = IsAnswered told (codes "memory") statuses.Memory old new result

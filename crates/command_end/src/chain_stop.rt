@@ -7,7 +7,7 @@ ghost use Rattle.command_end.specs.Names.{plain_sources};
 ghost use Rattle.command_end.specs.ChainAnswer.{IsStopped, name_of, stop_status, stop_words};
 
 use crate::names::Sources;
-use crate::output::want_of_memory;
+use crate::output::out_of_memory;
 use crate::refusals::{refuse_file, refuse_read};
 use crate::status::Status;
 use fund_files::{File, Stop};
@@ -35,6 +35,6 @@ pub fn refuse_chain<O: Sink>(sources: &Sources, stop: Stop, out: &mut O) -> Stat
     match stop {
         Stop::Read(file) => refuse_read(name_of(sources, file), out),
         Stop::Refused(refusal) => refuse_file(&refusal, out),
-        Stop::Memory => want_of_memory(out),
+        Stop::Memory => out_of_memory(out),
     }
 }

@@ -34,7 +34,7 @@ pub use coin_words::{coin_text, shown_hash};
 pub use log_words::log_fault_part;
 pub use name_words::shown_name;
 pub use names::Sources;
-pub use output::{finish, put_fault, put_line, put_report, refuse_keep, want_of_memory};
+pub use output::{finish, out_of_memory, put_fault, put_line, put_report, refuse_keep};
 pub use parts::{Part, words_of};
 pub use plan_words::plan_fault_parts;
 pub use psbt_words::psbt_fault_parts;

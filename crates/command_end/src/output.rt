@@ -12,7 +12,7 @@ use crate::putting::put_words;
 use crate::status::Status;
 use fund_shelf::{Fault, Shelf, Sink, put_all};
 
-/// The line of want of memory.
+/// The line of being out of memory.
 const MEMORY_LINE: &[u8] = b"fault memory\n";
 
 /// The line of a keeper of jobs that failed.
@@ -26,8 +26,8 @@ pub fn put_line<O: Sink>(line: &[u8], out: &mut O)
     let _ = put_all(out, line);
 }
 
-/// Puts the line of want of memory.
-pub fn want_of_memory<O: Sink>(out: &mut O) -> Status
+/// Puts the line of being out of memory.
+pub fn out_of_memory<O: Sink>(out: &mut O) -> Status
     ensures is { result ≡ Status.Memory }
     ensures line { O.tells → GotLine (fault_line (codes "memory")) (O.view out.old) (O.view out.new) }
     ensures counts { CountsNeverFall (O.view out.old) (O.view out.new) }
@@ -115,6 +115,6 @@ pub fn finish<H: Shelf, O: Sink>(
     match shelf.write_file(log, text) {
         Ok(()) => put_report(report, status, out),
         Err(Fault::Failed) => refuse_write(log, out),
-        Err(Fault::Memory) => want_of_memory(out),
+        Err(Fault::Memory) => out_of_memory(out),
     }
 }

@@ -1,5 +1,5 @@
 -- How the writing and the printing end is how the command ends.
-use Rattle.std.proofs.Common.{◌≡◌, ◌∙◌, ◌++◌, ℕ, List, Option, Some, None, inl, inr, refl, sym, ap, subst}
+use Rattle.std.proofs.Common.{◌≡◌, ◌∙◌, ◌++◌, ℕ, List, [], Option, Some, None, inl, inr, refl, sym, ap, subst}
 use Rattle.std.specs.Prelude.{◌⊎◌}
 use Rattle.fund_shelf.specs.Causes.{OnlyReads, ShelfView, SinkView, Rose}
 use Rattle.block_feed.specs.Block.{ChainBlock}
@@ -9,7 +9,7 @@ use Rattle.fund_plan.specs.Steps.{steps_of}
 use Rattle.request_text.specs.PlainRequest.{PlainRequest}
 use Rattle.search_run.specs.Step.{AreSteps}
 use Rattle.wallet_text.specs.PlainWallet.{PlainWallet}
-use Rattle.fund_files.specs.Chain.{held_of}
+use Rattle.fund_files.specs.Chain.{chain_from}
 use Rattle.kept_job.proofs.SavingLaws.{first_kept}
 use Rattle.kept_job.specs.Kept.{new_of}
 use Rattle.kept_job.specs.Saving.{IsSavedBehind}
@@ -22,14 +22,14 @@ use Rattle.command_end.specs.declared.status.Status.{Status}
 use Rattle.command_end.specs.declared.status.Status.TheVariants as statuses
 use Rattle.command_fund.specs.Statuses.{Ends, EndsUnwritten, EndsWithoutMemory, IsReport}
 use Rattle.command_inputs.specs.Results.{IsLogLost, IsUnfinished}
-use Rattle.command_inputs.specs.Due.{Refused, due_of, plan_of}
+use Rattle.command_inputs.specs.Outcome.{Refused, outcome_of, plan_of}
 use Rattle.command_end.specs.Printed.{IsEnd, IsPut, IsUnwritten, IsWithoutMemory}
 use Rattle.command_end.specs.Names.{Sources}
 use Rattle.command_inputs.specs.Names.{Payment}
 use Rattle.command_end.specs.AnswerLines.{IsWanting}
 use Rattle.command_end.specs.Lines.{GotLine, fault_line}
 use Rattle.command_inputs.specs.Cause.{Cause, cause_of, status_of_cause}
-use Rattle.command_inputs.specs.Meant.{IsDue}
+use Rattle.command_inputs.specs.Meant.{AreRefusedFor}
 use Rattle.command_inputs.specs.Stops.{StopsFor}
 use Rattle.command_inputs.specs.Words.{IsStopped, refusal_words}
 use Rattle.command_inputs.specs.declared.refusal.Refusal.{Refusal}
@@ -38,7 +38,7 @@ use Rattle.command_inputs.specs.declared.refusal.Stop.TheVariants as stops
 use Rattle.command_inputs.proofs.StopLaws.{refusal_status}
 
 -- what a report is of isn't refused
-pub report_due : (told_files : Type 0) (files : List ℕ → List ℕ) (s : Sources) (p : Payment) (report : List ℕ) (log : Option (List ℕ)) → IsReport told_files files s p report log → told_files → (cause : Cause) → due_of files s p ≡ Refused cause → ⊥
+pub report_due : (told_files : Type 0) (files : List ℕ → List ℕ) (s : Sources) (p : Payment) (report : List ℕ) (log : Option (List ℕ)) → IsReport told_files files s p report log → told_files → (cause : Cause) → outcome_of files s p ≡ Refused cause → ⊥
 report_due told_files files s p report (Some log) (inl f) t cause is = let e = sym (f.comes_to t) ∙ is in cc
 report_due told_files files s p report (Some log) (inr n) t cause is = let e = sym (n.comes_to t) ∙ is in cc
 report_due told_files files s p report None u t cause is = let e = sym (u.comes_to t) ∙ is in cc
@@ -78,17 +78,17 @@ finish_ends told_files told told_jobs s p job keeper report log status shelf mid
 
 -- what is saved anew of the run's plan is kept as the run was left, with the digest of the files
 left_is : (told_files told_jobs : Type 0) (files : List ℕ → List ℕ) (s : Sources) (p : Payment) (job digest : Option (List ℕ)) (left : Left (Unit {0})) (keeper keeper' : KeeperView) (w : PlainWallet) (blocks : List ChainBlock) (r : PlainRequest) → HasDigest told_files files s p job digest
-    → IsLeftAt (held_of w blocks) r left.plan → AreSteps (steps_of (plan_of (held_of w blocks) r)) → IsSavedAnew told_jobs left.plan job digest keeper keeper' → told_jobs → IsLeft told_files files s p (plan_of (held_of w blocks) r) r.tries job keeper keeper'
+    → IsLeftAt (chain_from w blocks) r left.plan → AreSteps (steps_of (plan_of (chain_from w blocks) r)) → IsSavedAnew told_jobs left.plan job digest keeper keeper' → told_jobs → IsLeft told_files files s p (plan_of (chain_from w blocks) r) r.tries job keeper keeper'
 left_is told_files told_jobs files s p None digest left keeper keeper' w blocks r named at steps saved t = ap (λ (k : KeeperView). k.jobs) saved
 left_is told_files told_jobs files s p (Some job) None left keeper keeper' w blocks r named at steps saved t = absurd named
 left_is told_files told_jobs files s p (Some job) (Some digest) left keeper keeper' w blocks r named at steps saved t =
-    let plan = plan_of (held_of w blocks) r in
-    let behind : IsSavedBehind digest (moved (new_of plan) r.tries) 0 0 (keeper.jobs job) (keeper'.jobs job) = subst (λ (x : PlanState). IsSavedBehind digest x 0 0 (keeper.jobs job) (keeper'.jobs job)) at.stands (saved t).1 in
+    let plan = plan_of (chain_from w blocks) r in
+    let behind : IsSavedBehind digest (moved (new_of plan) r.tries) 0 [] (keeper.jobs job) (keeper'.jobs job) = subst (λ (x : PlanState). IsSavedBehind digest x 0 [] (keeper.jobs job) (keeper'.jobs job)) at.stands (saved t).1 in
     ((saved t).0, (digest, named, first_kept plan r.tries digest (keeper.jobs job) (keeper'.jobs job) steps behind, behind))
 
 module _ (told_files told told_jobs : Type 0) (s : Sources) (p : Payment) (job digest : Option (List ℕ)) (left : Left (Unit {0})) (shelf shelf' : ShelfView) (sink sink' : SinkView) (keeper keeper' : KeeperView) (result : Status)
     (read : OnlyReads told_files shelf shelf') (u : IsUnfinished told_files shelf.files s p left.report.items) where
-  put_ends : (told_jobs → IsLeft told_files shelf.files s p (plan_of (held_of u.wallet u.blocks) u.asked) u.asked.tries job keeper keeper') → IsPut told left.report.items statuses.Unfinished sink sink' result
+  put_ends : (told_jobs → IsLeft told_files shelf.files s p (plan_of (chain_from u.wallet u.blocks) u.asked) u.asked.tries job keeper keeper') → IsPut told left.report.items statuses.Unfinished sink sink' result
       → Ends told_files told told_jobs s p job shelf shelf' sink sink' keeper keeper' result
   put_ends kept (inl h) = subst (λ (x : Status). Ends told_files told told_jobs s p job shelf shelf' sink sink' keeper keeper' x) (sym h.0) (left.report.items, u, read.same, h.1, kept)
   put_ends kept (inr (inl h)) = subst (λ (x : Status). Ends told_files told told_jobs s p job shelf shelf' sink sink' keeper keeper' x) (sym h.0) (left.report.items, None, u, inr (h.1, read.same, h.2, kept))
@@ -98,14 +98,14 @@ module _ (told_files told told_jobs : Type 0) (s : Sources) (p : Payment) (job d
   not_left_ends (inl h) same = subst (λ (x : Status). Ends told_files told told_jobs s p job shelf shelf' sink sink' keeper keeper' x) (sym h.0) (left.report.items, u, h.1, h.2, h.3)
   not_left_ends (inr h) same = subst (λ (x : Status). Ends told_files told told_jobs s p job shelf shelf' sink sink' keeper keeper' x) (sym h.0) (inl (h.1, same, read.same))
 
-  pub leave_ends : AreSteps (steps_of (plan_of (held_of u.wallet u.blocks) u.asked)) → IsLeftAt (held_of u.wallet u.blocks) u.asked left.plan → HasDigest told_files shelf.files s p job digest
+  pub leave_ends : AreSteps (steps_of (plan_of (chain_from u.wallet u.blocks) u.asked)) → IsLeftAt (chain_from u.wallet u.blocks) u.asked left.plan → HasDigest told_files shelf.files s p job digest
       → HasLeft told told_jobs job digest left sink sink' keeper keeper' result → Ends told_files told told_jobs s p job shelf shelf' sink sink' keeper keeper' result
   leave_ends steps at named (inl h) = put_ends (left_is told_files told_jobs shelf.files s p job digest left keeper keeper' u.wallet u.blocks u.asked named at steps h.1) h.0
   leave_ends steps at named (inr h) = not_left_ends h.0 h.1
 
 -- ---- a stop
 
-refused_ends : (told_files told told_jobs : Type 0) (s : Sources) (p : Payment) (job : Option (List ℕ)) (keeper : KeeperView) (refusal : Refusal) (shelf shelf' : ShelfView) (sink sink' : SinkView) → (told_files → IsDue shelf.files s p (cause_of refusal)) → (told → GotLine (fault_line (refusal_words refusal)) sink sink')
+refused_ends : (told_files told told_jobs : Type 0) (s : Sources) (p : Payment) (job : Option (List ℕ)) (keeper : KeeperView) (refusal : Refusal) (shelf shelf' : ShelfView) (sink sink' : SinkView) → (told_files → AreRefusedFor shelf.files s p (cause_of refusal)) → (told → GotLine (fault_line (refusal_words refusal)) sink sink')
     → (status_of_cause (cause_of refusal) ≡ statuses.Input) ⊎ (status_of_cause (cause_of refusal) ≡ statuses.Limit) → Ends told_files told told_jobs s p job shelf shelf' sink sink' keeper keeper (status_of_cause (cause_of refusal))
 refused_ends told_files told told_jobs s p job keeper refusal shelf shelf' sink sink' due line (inl e) = subst (λ (x : Status). Ends told_files told told_jobs s p job shelf shelf' sink sink' keeper keeper x) (sym e) (refusal, e, due, line)
 refused_ends told_files told told_jobs s p job keeper refusal shelf shelf' sink sink' due line (inr e) = subst (λ (x : Status). Ends told_files told told_jobs s p job shelf shelf' sink sink' keeper keeper x) (sym e) (refusal, e, due, line)

@@ -1,5 +1,5 @@
 -- What becomes of kept jobs.
-use Rattle.std.specs.Prelude.{ℕ, ◌≡◌, List, Option, Some, None}
+use Rattle.std.specs.Prelude.{ℕ, ◌≡◌, List, [], Option, Some, None}
 use Rattle.fund_outside.specs.Kept.{KeeperView, SameForOthers}
 use Rattle.fund_plan.specs.State.{moved}
 use Rattle.fund_steps.specs.Plan.{PlainPlan}
@@ -17,4 +17,4 @@ IsLeft told_files files s p plan n None keeper keeper' = keeper'.jobs ≡ keeper
 IsLeft told_files files s p plan n (Some job) keeper keeper' =
     SameForOthers job keeper.jobs keeper'.jobs
     × ((digest : List ℕ) × (told_files → digest ≡ digest_in files s p) × IsKeptAt plan digest n (keeper'.jobs job)
-    × IsSavedBehind digest (moved (new_of plan) n) 0 0 (keeper.jobs job) (keeper'.jobs job))
+    × IsSavedBehind digest (moved (new_of plan) n) 0 [] (keeper.jobs job) (keeper'.jobs job))

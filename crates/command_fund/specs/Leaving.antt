@@ -1,5 +1,5 @@
 -- How a run that is unfinished is left: it is kept where there is a job, and its report is printed.
-use Rattle.std.specs.Prelude.{ℕ, ◌≡◌, ◌⊎◌, List, codes, Option, Some, None, IsSome}
+use Rattle.std.specs.Prelude.{ℕ, ◌≡◌, ◌⊎◌, List, [], codes, Option, Some, None, IsSome}
 use Rattle.fund_shelf.specs.Causes.{Rose, SinkView}
 use Rattle.fund_outside.specs.Kept.{KeeperView, SameForOthers}
 use Rattle.fund_plan.specs.State.{PlanState}
@@ -13,7 +13,7 @@ use Rattle.command_inputs.specs.declared.funding.Left.{Left}
 -- what a save of a plan leaves of its job, with its digest, and of the others
 abbrev pub IsSavedAnew : Type 0 → PlanState → (job digest : Option (List ℕ)) → KeeperView → KeeperView → Type 0
 IsSavedAnew told_jobs plan (Some job) (Some digest) keeper keeper' = told_jobs →
-    SameForOthers job keeper.jobs keeper'.jobs × IsSavedBehind digest plan 0 0 (keeper.jobs job) (keeper'.jobs job)
+    SameForOthers job keeper.jobs keeper'.jobs × IsSavedBehind digest plan 0 [] (keeper.jobs job) (keeper'.jobs job)
 IsSavedAnew told_jobs plan (Some job) None keeper keeper' = keeper' ≡ keeper
 IsSavedAnew told_jobs plan None digest keeper keeper' = keeper' ≡ keeper
 

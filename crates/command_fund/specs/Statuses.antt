@@ -2,12 +2,12 @@
 use Rattle.std.specs.Prelude.{ℕ, ◌≡◌, ◌⊎◌, List, ◌++◌, codes, Option, Some, None, IsSome}
 use Rattle.fund_shelf.specs.Causes.{ShelfView, SinkView, Rose, HasPart}
 use Rattle.fund_outside.specs.Kept.{KeeperView}
-use Rattle.fund_files.specs.Chain.{held_of}
+use Rattle.fund_files.specs.Chain.{chain_from}
 use Rattle.command_end.specs.Lines.{GotLine, fault_line}
 use Rattle.command_end.specs.Names.{Sources}
 use Rattle.command_end.specs.declared.status.Status.{Status}
 use Rattle.command_end.specs.declared.status.Status.TheVariants as statuses
-use Rattle.command_inputs.specs.Due.{plan_of}
+use Rattle.command_inputs.specs.Outcome.{plan_of}
 use Rattle.command_fund.specs.Jobs.{IsLeft}
 use Rattle.command_inputs.specs.Names.{Payment}
 use Rattle.command_inputs.specs.Results.{IsFunded, IsNotFunded, IsUnfinished, EndsRefused, EndsUnread, IsLogged, IsLogLost}
@@ -27,7 +27,7 @@ EndsNotFunded told_files told s p shelf shelf' sink sink' =
 abbrev pub EndsUnfinished : Type 0 → Type 0 → Type 0 → Sources → Payment → Option (List ℕ) → ShelfView → ShelfView → SinkView → SinkView → KeeperView → KeeperView → Type 0
 EndsUnfinished told_files told told_jobs s p job shelf shelf' sink sink' keeper keeper' =
     (report : List ℕ) × (u : IsUnfinished told_files shelf.files s p report) × (told_files → shelf'.files ≡ shelf.files) × (told → sink'.written ≡ sink.written ++ report)
-    × (told_jobs → IsLeft told_files shelf.files s p (plan_of (held_of u.wallet u.blocks) u.asked) u.asked.tries job keeper keeper')
+    × (told_jobs → IsLeft told_files shelf.files s p (plan_of (chain_from u.wallet u.blocks) u.asked) u.asked.tries job keeper keeper')
 
 -- The run is unfinished, there is a job to keep it as, and the keeper failed.
 abbrev pub EndsUnkept : Type 0 → Type 0 → Sources → Payment → Option (List ℕ) → ShelfView → SinkView → SinkView → KeeperView → KeeperView → Type 0
@@ -44,7 +44,7 @@ IsReport told_files files s p report None = IsUnfinished told_files files s p re
 abbrev pub IsKeptBefore : (told_files told_jobs : Type 0) (files : List ℕ → List ℕ) (s : Sources) (p : Payment) (report : List ℕ) (log : Option (List ℕ)) → IsReport told_files files s p report log → Option (List ℕ) → KeeperView → KeeperView → Type 0
 IsKeptBefore told_files told_jobs files s p report (Some log) is job keeper keeper' = told_jobs → keeper'.jobs ≡ keeper.jobs
 IsKeptBefore told_files told_jobs files s p report None is job keeper keeper' =
-    told_jobs → IsLeft told_files files s p (plan_of (held_of is.wallet is.blocks) is.asked) is.asked.tries job keeper keeper'
+    told_jobs → IsLeft told_files files s p (plan_of (chain_from is.wallet is.blocks) is.asked) is.asked.tries job keeper keeper'
 
 -- Nothing is refused. The log wasn't written, and the line names it; or it was, or none is due, and the sink failed and has
 -- got a part of the report. In the second case a job that was to be kept is kept.

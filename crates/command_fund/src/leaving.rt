@@ -31,11 +31,8 @@ pub fn keep_anew<K: Keeper>(
 {
     match (job, digest) {
         (Some(job), Some(digest)) => {
-            let behind = Behind {
-                parts: 0,
-                length: 0,
-            };
-            keep(alloc, keeper, job, digest, plan, behind)?;
+            let behind = Behind::nothing(alloc);
+            keep(alloc, keeper, job, digest, plan, &behind)?;
             Ok(())
         }
         _ => Ok(()),

@@ -6,4 +6,4 @@ mod laws;
 mod leaving;
 
 pub use command::fund;
-pub use laws::{payments_are_due, payments_replace};
+pub use laws::{payments_are_due, payments_pay_for_packages, payments_replace};

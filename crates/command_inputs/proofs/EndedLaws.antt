@@ -9,7 +9,7 @@ use Rattle.fund_plan.specs.declared.outcome.Outcome.TheVariants as answers
 use Rattle.fund_steps.specs.Plan.{PlainPlan}
 use Rattle.search_run.specs.Found.{PlainFound, taken}
 use Rattle.search_run.specs.Kept.{is_over, log_of, tail_of}
-use Rattle.search_run.specs.Run.{Stand, at_hand, end_by, or_unfinished}
+use Rattle.search_run.specs.Run.{Stand, results_in_column, end_by, or_unfinished}
 use Rattle.search_run.specs.Step.{AreSteps, FitsStage, IsStep, PlainStep}
 use Rattle.search_run.specs.Stands.{IsFromStart}
 use Rattle.search_run.proofs.MadeLaws.{run_stands}
@@ -37,7 +37,7 @@ over_at p s o e = by s.left refl e
 
     by : (left : List PlainStep) → s.left ≡ left → end_by p.request.take p.request.seed s left ≡ ends.Ended o → s.left ≡ []
     by [] is e = is
-    by (x ∷ rest) is e = absurd (open_end p.request.take (taken (at_hand p.request.seed s (x ∷ rest))) e)
+    by (x ∷ rest) is e = absurd (open_end p.request.take (taken (results_in_column p.request.seed s (x ∷ rest))) e)
 
 -- ---- the log
 

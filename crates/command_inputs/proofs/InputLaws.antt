@@ -14,33 +14,33 @@ use Rattle.request_text.specs.PlainRequest.{PlainRequest}
 use Rattle.wallet_text.specs.PlainWallet.{PlainWallet}
 use Rattle.wallet_text.specs.WalletRules.{IsWallet}
 use Rattle.fund_files.proofs.StopLaws.{not_refused}
-use Rattle.fund_files.specs.Behind.{AreHeld}
+use Rattle.fund_files.specs.Joined.{IsChainOf}
 use Rattle.fund_files.specs.Cause.{cause_of}
-use Rattle.fund_files.specs.Chain.{held_of, history_of}
+use Rattle.fund_files.specs.Chain.{chain_from, history_of}
 use Rattle.fund_files.specs.Contents.{HasChain, HasRequest}
 use Rattle.fund_files.specs.FileStops.{StopsAsked, StopsChain}
 use Rattle.fund_files.specs.Refusals.{IsRequestCause}
-use Rattle.fund_files.specs.declared.held.Held.{Held}
+use Rattle.fund_files.specs.declared.chain.Chain.{Chain}
 use Rattle.fund_files.specs.declared.refusal.File.{File}
 use Rattle.fund_files.specs.declared.refusal.File.TheVariants.{Wallet, Blocks, Request}
 use Rattle.fund_files.specs.declared.stop.Stop.{Stop as FileStop}
 use Rattle.fund_files.specs.declared.stop.Stop.TheVariants as stops
 use Rattle.command_end.specs.Names.{Sources}
 use Rattle.command_inputs.specs.Cause.{Bump}
-use Rattle.command_inputs.specs.Due.{bump_fault_in}
+use Rattle.command_inputs.specs.Outcome.{bump_fault_in}
 use Rattle.command_inputs.specs.Inputs.{AreAsked, AreInputs, AsksInOrder, IsUnread, NoneBehind, Reaches}
-use Rattle.command_inputs.specs.Meant.{IsDue, IsMeant}
+use Rattle.command_inputs.specs.Meant.{AreRefusedFor, IsMeant}
 use Rattle.command_inputs.specs.Names.{Payment}
 use Rattle.command_inputs.specs.Stops.{StopsFor, bump_stop_of, lifted}
-use Rattle.command_inputs.proofs.DueLaws.{chain_refused, not_replaced_due, request_refused}
+use Rattle.command_inputs.proofs.OutcomeLaws.{chain_refused, not_replaced_due, request_refused}
 
-pub asked_is : (told : Type 0) (files seen : List ℕ → List ℕ) (s : Sources) (p : Payment) (k : Held) (r : PlainRequest) → AreHeld told (files s.wallet) (files s.blocks) k → (told → seen ≡ files) → (told → HasRequest (seen p.request) r) → bump_fault_in k r ≡ None → AreAsked told files s p k r
+pub asked_is : (told : Type 0) (files seen : List ℕ → List ℕ) (s : Sources) (p : Payment) (k : Chain) (r : PlainRequest) → IsChainOf told (files s.wallet) (files s.blocks) k → (told → seen ≡ files) → (told → HasRequest (seen p.request) r) → bump_fault_in k r ≡ None → AreAsked told files s p k r
 asked_is told files seen s p k r h same asked taken = record {
   held = h.held;
   inputs = λ t. record {
     chain = h.chain t;
     request = subst (λ (f : List ℕ → List ℕ). HasRequest (f p.request) r) (same t) (asked t);
-    taken = subst (λ (x : Held). bump_fault_in x r ≡ None) h.held.is taken;
+    taken = subst (λ (x : Chain). bump_fault_in x r ≡ None) h.held.is taken;
   };
   taken = taken;
 }
@@ -56,7 +56,7 @@ chain_stops told s p old new (stops.Refused refusal) h = λ t.
 chain_stops told s p old new stops.Memory h = tt
 
 -- at the request, which was read after these
-pub asked_stops : (told : Type 0) (s : Sources) (p : Payment) (k : Held) (old middle new : ShelfView) (stop : FileStop) → AreHeld told (old.files s.wallet) (old.files s.blocks) k → OnlyReads told old middle → StopsAsked told p.request middle new stop → StopsFor told s p old new (lifted stop)
+pub asked_stops : (told : Type 0) (s : Sources) (p : Payment) (k : Chain) (old middle new : ShelfView) (stop : FileStop) → IsChainOf told (old.files s.wallet) (old.files s.blocks) k → OnlyReads told old middle → StopsAsked told p.request middle new stop → StopsFor told s p old new (lifted stop)
 asked_stops told s p k old middle new (stops.Read named) h only is =
     (subst (λ (f : File). IsUnread s p f old new) (sym is.0) (rose_earlier _ _ _ (only.reads p.request) is.1), λ t. subst (λ (f : File). Reaches old.files s f) (sym is.0) (k.wallet, h.held.blocks, h.chain t))
 asked_stops told s p k old middle new (stops.Refused refusal) h only is = λ t.
@@ -82,15 +82,15 @@ bump_meant files s p w blocks r fault (Some txid) has rules asked real own e = r
 bump_meant files s p w blocks r fault None has rules asked real own e = absurd (none-some fault e)
 
 bump_is_due : (files : List ℕ → List ℕ) (s : Sources) (p : Payment) (w : PlainWallet) (blocks : List ChainBlock) (r : PlainRequest) (fault : BumpFault) → HasChain (files s.wallet) (files s.blocks) w blocks → IsWallet w → HasRequest (files p.request) r → fault ≢ bumps.Memory
-    → bump_fault_in (held_of w blocks) r ≡ Some fault → IsDue files s p (Bump fault)
+    → bump_fault_in (chain_from w blocks) r ≡ Some fault → AreRefusedFor files s p (Bump fault)
 bump_is_due files s p w blocks r fault has rules asked real e = (not_replaced_due files s p w blocks r fault has asked e, bump_meant files s p w blocks r fault r.bump has rules asked real refl e)
 
 -- at the payment that the request names, after the request was read
-module _ (told : Type 0) (s : Sources) (p : Payment) (k : Held) (r : PlainRequest) (old middle new : ShelfView) (h : AreHeld told (old.files s.wallet) (old.files s.blocks) k) (only : OnlyReads told old middle) (asked : told → HasRequest (middle.files p.request) r) where
-  real_stops : (fault : BumpFault) → fault ≢ bumps.Memory → bump_fault_in k r ≡ Some fault → told → IsDue old.files s p (Bump fault)
+module _ (told : Type 0) (s : Sources) (p : Payment) (k : Chain) (r : PlainRequest) (old middle new : ShelfView) (h : IsChainOf told (old.files s.wallet) (old.files s.blocks) k) (only : OnlyReads told old middle) (asked : told → HasRequest (middle.files p.request) r) where
+  real_stops : (fault : BumpFault) → fault ≢ bumps.Memory → bump_fault_in k r ≡ Some fault → told → AreRefusedFor old.files s p (Bump fault)
   real_stops fault real e t =
       bump_is_due old.files s p k.wallet h.held.blocks r fault (h.chain t) h.held.rules (subst (λ (files : List ℕ → List ℕ). HasRequest (files p.request) r) (only.same t) (asked t)) real
-      (subst (λ (x : Held). bump_fault_in x r ≡ Some fault) h.held.is e)
+      (subst (λ (x : Chain). bump_fault_in x r ≡ Some fault) h.held.is e)
 
   pub bump_stops : (fault : BumpFault) → (fault ≢ bumps.Memory → bump_fault_in k r ≡ Some fault) → StopsFor told s p old new (bump_stop_of fault)
   bump_stops (bumps.NotPending found) is = let real : bumps.NotPending found ≢ bumps.Memory = λ e. absurd cc in real_stops (bumps.NotPending found) real (is real)

@@ -1,8 +1,9 @@
 pub mod AskingLaws
-pub mod DueLaws
 pub mod EndedLaws
 pub mod InputLaws
 pub mod JobLaws
+pub mod OutcomeLaws
+pub mod PackageLaws
 pub mod PlanLaws
 pub mod ReplaceLaws
 pub mod StopLaws

@@ -23,7 +23,7 @@ use Rattle.fund_plan.specs.State.{PlanState, end_in, moved, partial_of, told}
 use Rattle.fund_plan.specs.Steps.{steps_of}
 use Rattle.fund_plan.specs.declared.outcome.Outcome.{Outcome as Answer}
 use Rattle.fund_plan.specs.declared.outcome.Outcome.TheVariants as answers
-use Rattle.fund_steps.specs.Plan.{IsFault, IsPlan, PlainBump, PlainPlan}
+use Rattle.fund_steps.specs.Plan.{IsPlanFault, IsPlan, PlainBump, PlainPlan}
 use Rattle.fund_steps.specs.declared.fault.PlanFault.{PlanFault}
 use Rattle.fund_steps.specs.declared.fault.PlanFault.TheVariants as plans
 use Rattle.fund_report.specs.ReportText.{IsRead, IsReportText}
@@ -37,13 +37,13 @@ use Rattle.search_run.specs.Step.{AreSteps, PlainStep}
 use Rattle.search_run.specs.declared.ending.End.{End}
 use Rattle.wallet_text.specs.PlainWallet.{PlainWallet}
 use Rattle.wallet_text.specs.declared.wallet.Watch.{Watch}
-use Rattle.fund_files.specs.Chain.{IsHeld, held_of}
-use Rattle.fund_files.specs.declared.held.Held.{Held}
+use Rattle.fund_files.specs.Chain.{IsChain, chain_from}
+use Rattle.fund_files.specs.declared.chain.Chain.{Chain}
 use Rattle.fund_payment.specs.Report.{psbt_of, report_of}
 use Rattle.fund_payment.specs.Shown.{ShowsCoins}
 use Rattle.command_end.specs.Names.{Sources}
 use Rattle.command_inputs.specs.Cause.{Cause, Files, Bump, Plan, cause_of}
-use Rattle.command_inputs.specs.Due.{Unfinished, NoSelection, Funded, bump_fault_in, bump_of, candidates_by, log_text_at, none_report, none_report_at, open_report, open_report_at, plan_of, terms_for}
+use Rattle.command_inputs.specs.Outcome.{Unfinished, NoSelection, Funded, bump_fault_in, bump_of, candidates_by, log_text_at, none_report, none_report_at, open_report, open_report_at, plan_of, terms_for}
 use Rattle.command_inputs.specs.Inputs.{AreAsked, AreInputs}
 use Rattle.command_inputs.specs.Meant.{IsMeant}
 use Rattle.command_inputs.specs.Names.{Payment}
@@ -53,8 +53,9 @@ use Rattle.command_inputs.specs.declared.funding.Ending.{Ending}
 use Rattle.command_inputs.specs.declared.funding.Ending.TheVariants as endings
 use Rattle.command_inputs.specs.declared.refusal.Stop.{Stop}
 use Rattle.command_inputs.specs.declared.refusal.Stop.TheVariants as stops
-use Rattle.command_inputs.proofs.DueLaws.{due_is, inputs_due, plan_refused}
+use Rattle.command_inputs.proofs.OutcomeLaws.{due_is, inputs_due, plan_refused}
 use Rattle.command_inputs.proofs.EndedLaws.{log_written, open_stage}
+use Rattle.command_inputs.proofs.PackageLaws.{pays_for_packages}
 use Rattle.command_inputs.proofs.ReplaceLaws.{replaces_named}
 use Rattle.command_inputs.proofs.TermsLaws.{spent_made}
 
@@ -64,21 +65,21 @@ plan_from r change coins bump = record { request = r; change = change; candidate
 
 -- ---- why no plan is made
 
-plan_stops : (k : Held) (r : PlainRequest) (fault : PlanFault) → IsFault (plan_of k r) fault → StopsPlan k r (plan_stop_of fault)
+plan_stops : (k : Chain) (r : PlainRequest) (fault : PlanFault) → IsPlanFault (plan_of k r) fault → StopsPlan k r (plan_stop_of fault)
 plan_stops k r (plans.Total sum) h = let real : plans.Total sum ≢ plans.Memory = λ e. absurd cc in (plan_refused k r (plans.Total sum) h real, (h, real))
 plan_stops k r (plans.NotEligible point) h = let real : plans.NotEligible point ≢ plans.Memory = λ e. absurd cc in (plan_refused k r (plans.NotEligible point) h real, (h, real))
 plan_stops k r (plans.TooMany number n) h = let real : plans.TooMany number n ≢ plans.Memory = λ e. absurd cc in (plan_refused k r (plans.TooMany number n) h real, (h, real))
 plan_stops k r plans.Memory h = tt
 
-pub same_plan : (k : Held) (r : PlainRequest) (change : Watch) (coins : List Candidate) (bump : Option PlainBump) → change ≡ k.wallet.change → coins ≡ candidates_by k (terms_for k r) → bump ≡ option_map bump_of (terms_for k r) → plan_from r change coins bump ≡ plan_of k r
+pub same_plan : (k : Chain) (r : PlainRequest) (change : Watch) (coins : List Candidate) (bump : Option PlainBump) → change ≡ k.wallet.change → coins ≡ candidates_by k r.rate (terms_for k r) → bump ≡ option_map bump_of (terms_for k r) → plan_from r change coins bump ≡ plan_of k r
 same_plan k r change coins bump own all given =
-    ap (λ (w : Watch). plan_from r w coins bump) own ∙ ap (λ (cs : List Candidate). plan_from r k.wallet.change cs bump) all ∙ ap (plan_from r k.wallet.change (candidates_by k (terms_for k r))) given
+    ap (λ (w : Watch). plan_from r w coins bump) own ∙ ap (λ (cs : List Candidate). plan_from r k.wallet.change cs bump) all ∙ ap (plan_from r k.wallet.change (candidates_by k r.rate (terms_for k r))) given
 
-pub plan_stops_at : (k : Held) (r : PlainRequest) (change : Watch) (coins : List Candidate) (bump : Option PlainBump) (fault : PlanFault) → change ≡ k.wallet.change → coins ≡ candidates_by k (terms_for k r) → bump ≡ option_map bump_of (terms_for k r) → IsFault (plan_from r change coins bump) fault → StopsPlan k r (plan_stop_of fault)
+pub plan_stops_at : (k : Chain) (r : PlainRequest) (change : Watch) (coins : List Candidate) (bump : Option PlainBump) (fault : PlanFault) → change ≡ k.wallet.change → coins ≡ candidates_by k r.rate (terms_for k r) → bump ≡ option_map bump_of (terms_for k r) → IsPlanFault (plan_from r change coins bump) fault → StopsPlan k r (plan_stop_of fault)
 plan_stops_at k r change coins bump fault own all given h =
-    plan_stops k r fault (subst (λ (p : PlainPlan). IsFault p fault) (same_plan k r change coins bump own all given) h)
+    plan_stops k r fault (subst (λ (p : PlainPlan). IsPlanFault p fault) (same_plan k r change coins bump own all given) h)
 
-pub new_is : (k : Held) (r : PlainRequest) (change : Watch) (coins : List Candidate) (bump : Option PlainBump) (s : PlanState) → change ≡ k.wallet.change → coins ≡ candidates_by k (terms_for k r) → bump ≡ option_map bump_of (terms_for k r) → s.plan ≡ plan_from r change coins bump → s.stand ≡ beginning_of s.plan → s.partial ≡ None → IsNew k r s
+pub new_is : (k : Chain) (r : PlainRequest) (change : Watch) (coins : List Candidate) (bump : Option PlainBump) (s : PlanState) → change ≡ k.wallet.change → coins ≡ candidates_by k r.rate (terms_for k r) → bump ≡ option_map bump_of (terms_for k r) → s.plan ≡ plan_from r change coins bump → s.stand ≡ beginning_of s.plan → s.partial ≡ None → IsNew k r s
 new_is k r change coins bump s own all given is stand partial = record { plan = is ∙ same_plan k r change coins bump own all given; stand = stand; partial = partial }
 
 -- ---- a plan behind its tries
@@ -119,7 +120,7 @@ gone old new n o stand partial rules steps is says pays fits =
       stands = is ∙ ap (λ (s : PlanState). moved s n) (is_new old stand partial);
     }
 
-pub after : (k : Held) (r : PlainRequest) (old new : PlanState) (n : ℕ) (o : Answer) → IsNew k r old → n ≡ r.tries → IsPlan old.plan → AreSteps (steps_of old.plan) → new ≡ moved old n → o ≡ told new → ArePayments old.plan o → HasSelection old.plan.request o
+pub after : (k : Chain) (r : PlainRequest) (old new : PlanState) (n : ℕ) (o : Answer) → IsNew k r old → n ≡ r.tries → IsPlan old.plan → AreSteps (steps_of old.plan) → new ≡ moved old n → o ≡ told new → ArePayments old.plan o → HasSelection old.plan.request o
     → IsAfter (plan_of k r) r.tries new o
 after k r old new n o h tries rules steps is says pays fits =
     subst (λ (m : ℕ). IsAfter (plan_of k r) m new o) tries (subst (λ (p : PlainPlan). IsAfter p n new o) h.plan (gone old new n o h.stand h.partial rules steps is says pays fits))
@@ -139,7 +140,7 @@ is_open p n s o a is =
     open_left s.stand.left u.step u.rest (a.left ∙ u.left) (open_stage p n u.step u.rest a.steps u.left)
 
 -- what is left can be kept
-left_there : (k : Held) (r : PlainRequest) (s : PlanState) (o : Answer) → IsAfter (plan_of k r) r.tries s o → o ≡ answers.Unfinished → IsLeftAt k r s
+left_there : (k : Chain) (r : PlainRequest) (s : PlanState) (o : Answer) → IsAfter (plan_of k r) r.tries s o → o ≡ answers.Unfinished → IsLeftAt k r s
 left_there k r s o a is =
     let p : PlainPlan = plan_of k r in
     record {
@@ -153,7 +154,7 @@ left_there k r s o a is =
       };
     }
 
-pub concluded_open : (k : Held) (r : PlainRequest) (s : PlanState) (o : Answer) (text : List ℕ) → IsAfter (plan_of k r) r.tries s o → o ≡ answers.Unfinished → text ≡ open_report s.stand.past.tries s.stand.left → IsOpenReport text s.stand.past.tries s.stand.left → IsPlan (plan_of k r) × IsOpen k r text × IsLeftAt k r s
+pub concluded_open : (k : Chain) (r : PlainRequest) (s : PlanState) (o : Answer) (text : List ℕ) → IsAfter (plan_of k r) r.tries s o → o ≡ answers.Unfinished → text ≡ open_report s.stand.past.tries s.stand.left → IsOpenReport text s.stand.past.tries s.stand.left → IsPlan (plan_of k r) × IsOpen k r text × IsLeftAt k r s
 concluded_open k r s o text a is text_is told =
     let p : PlainPlan = plan_of k r in
     let u = used_up p r.tries s o a is in
@@ -181,7 +182,7 @@ logged p n s o log a reads is =
     let same : log ≡ log_text_at p n = is ∙ ap (λ (l : PlainLog). log_text_of l) a.log in
     record { logs = same; reads = subst (λ (t : List ℕ). IsLogText t (log_at p n)) (sym same) reads }
 
-pub concluded_none : (k : Held) (r : PlainRequest) (s : PlanState) (o : Answer) (text log : List ℕ) → IsAfter (plan_of k r) r.tries s o → o ≡ answers.NoSelection → text ≡ none_report s.stand.past.tries → IsReportText text (kinds.NoSelection s.stand.past.tries) → log ≡ log_text_of (log_of (is_partial (end_in s)) s.stand)
+pub concluded_none : (k : Chain) (r : PlainRequest) (s : PlanState) (o : Answer) (text log : List ℕ) → IsAfter (plan_of k r) r.tries s o → o ≡ answers.NoSelection → text ≡ none_report s.stand.past.tries → IsReportText text (kinds.NoSelection s.stand.past.tries) → log ≡ log_text_of (log_of (is_partial (end_in s)) s.stand)
     → IsPlan (plan_of k r) × IsUnpaid k r text log
 concluded_none k r s o text log a is text_is told log_is =
     let p : PlainPlan = plan_of k r in
@@ -205,15 +206,15 @@ concluded_none k r s o text log a is text_is told log_is =
     )
 
 -- the book has the transactions that made the coins of a payment
-pub paid_from : (k : Held) (r : PlainRequest) (s : PlanState) (o : Answer) (f : PlainFunded) → IsHeld k → book_fault k.book ≡ None → IsAfter (plan_of k r) r.tries s o → o ≡ answers.Funded f → All (HasMaker k.book) f.coins
+pub paid_from : (k : Chain) (r : PlainRequest) (s : PlanState) (o : Answer) (f : PlainFunded) → IsChain k → book_fault k.book ≡ None → IsAfter (plan_of k r) r.tries s o → o ≡ answers.Funded f → All (HasMaker k.book) f.coins
 paid_from k r s o f held sound a is =
     let pays : IsPayment (plan_of k r) f = subst (ArePayments (plan_of k r)) is a.pays in
     spent_made k r held sound f.coins pays.candidates
 
-pub paid_fits : (k : Held) (r : PlainRequest) (s : PlanState) (o : Answer) (f : PlainFunded) → IsAfter (plan_of k r) r.tries s o → o ≡ answers.Funded f → IsSelection r f
+pub paid_fits : (k : Chain) (r : PlainRequest) (s : PlanState) (o : Answer) (f : PlainFunded) → IsAfter (plan_of k r) r.tries s o → o ≡ answers.Funded f → IsSelection r f
 paid_fits k r s o f a is = subst (HasSelection r) is a.fits
 
-pub concluded_paid : (k : Held) (r : PlainRequest) (s : PlanState) (o : Answer) (f : PlainFunded) (tries : ℕ) (text log : List ℕ) → IsHeld k → book_fault k.book ≡ None → bump_fault_in k r ≡ None → IsAfter (plan_of k r) r.tries s o → o ≡ answers.Funded f → tries ≡ s.stand.past.tries → text ≡ report_of k.book r k.wallet.change tries f
+pub concluded_paid : (k : Chain) (r : PlainRequest) (s : PlanState) (o : Answer) (f : PlainFunded) (tries : ℕ) (text log : List ℕ) → IsChain k → book_fault k.book ≡ None → bump_fault_in k r ≡ None → IsAfter (plan_of k r) r.tries s o → o ≡ answers.Funded f → tries ≡ s.stand.past.tries → text ≡ report_of k.book r k.wallet.change tries f
     → IsPsbt (psbt_of k.book r k.wallet.change f) → ShowsCoins f.coins (psbt_of k.book r k.wallet.change f) → log ≡ log_text_of (log_of (is_partial (end_in s)) s.stand) → IsPlan (plan_of k r) × IsPaid k r text log
 concluded_paid k r s o f tries text log held sound clear a is tried text_is psbt shows log_is =
     let p : PlainPlan = plan_of k r in
@@ -232,6 +233,7 @@ concluded_paid k r s o f tries text log held sound clear a is tried text_is psbt
         pays = pays;
         eligible = payment_may p f a.rules pays;
         replaces = replaces_named k r f held sound clear a.rules pays;
+        packages = pays_for_packages k r f held.rules pays;
         claims = funded_claims p r.tries f a.rules a.steps out;
         psbt = psbt;
         shows = shows;
@@ -246,7 +248,7 @@ concluded_paid k r s o f tries text log held sound clear a is tried text_is psbt
 -- ---- what the files come to
 
 -- a run with the request's tries can end
-pub can_end : (k : Held) (r : PlainRequest) (s : PlanState) (o : Answer) → IsHeld k → book_fault k.book ≡ None → IsAfter (plan_of k r) r.tries s o → CanEnd k r s o
+pub can_end : (k : Chain) (r : PlainRequest) (s : PlanState) (o : Answer) → IsChain k → book_fault k.book ≡ None → IsAfter (plan_of k r) r.tries s o → CanEnd k r s o
 can_end k r s o held sound a = record {
   goes_on = is_open (plan_of k r) r.tries s o a;
   selects = λ f is. paid_fits k r s o f a is;
@@ -254,7 +256,7 @@ can_end k r s o held sound a = record {
 }
 
 -- how it ends
-pub concluded : (k : Held) (r : PlainRequest) (s : PlanState) (o : Answer) (e : Ending (Unit {0})) → IsHeld k → book_fault k.book ≡ None → bump_fault_in k r ≡ None → IsAfter (plan_of k r) r.tries s o → IsEndOf k r s o tt e → IsConcluded k r e
+pub concluded : (k : Chain) (r : PlainRequest) (s : PlanState) (o : Answer) (e : Ending (Unit {0})) → IsChain k → book_fault k.book ≡ None → bump_fault_in k r ≡ None → IsAfter (plan_of k r) r.tries s o → IsEndOf k r s o tt e → IsConcluded k r e
 concluded k r s o (endings.Unfinished left) held sound clear a h =
     let c = concluded_open k r s o left.report.items a h.0 h.1.reports h.1.told in
     (c.0, c.1, subst (IsLeftAt k r) (sym h.1.plan_is) c.2)
@@ -262,7 +264,7 @@ concluded k r s o (endings.NoSelection texts) held sound clear a h = concluded_n
 concluded k r s o (endings.Funded texts) held sound clear a h =
     concluded_paid k r s o h.0 s.stand.past.tries texts.report.items texts.log.items held sound clear a h.1 refl h.2.reports h.2.psbt h.2.shows h.2.logs
 
-ended_on : (told_files : Type 0) (files : List ℕ → List ℕ) (s : Sources) (p : Payment) (w : PlainWallet) (blocks : List ChainBlock) (r : PlainRequest) (e : Ending (Unit {0})) → (told_files → AreInputs files s p w blocks r) → IsConcluded (held_of w blocks) r e → IsEnded told_files files s p e
+ended_on : (told_files : Type 0) (files : List ℕ → List ℕ) (s : Sources) (p : Payment) (w : PlainWallet) (blocks : List ChainBlock) (r : PlainRequest) (e : Ending (Unit {0})) → (told_files → AreInputs files s p w blocks r) → IsConcluded (chain_from w blocks) r e → IsEnded told_files files s p e
 ended_on told_files files s p w blocks r (endings.Unfinished left) inputs c = (
   record {
     wallet = w;
@@ -307,6 +309,7 @@ ended_on told_files files s p w blocks r (endings.Funded texts) inputs c = recor
   pays = c.1.pays;
   eligible = c.1.eligible;
   replaces = c.1.replaces;
+  packages = c.1.packages;
   claims = c.1.claims;
   psbt = c.1.psbt;
   shows = c.1.shows;
@@ -317,22 +320,22 @@ ended_on told_files files s p w blocks r (endings.Funded texts) inputs c = recor
   comes_to = λ t. inputs_due files s p w blocks r (inputs t) ∙ c.1.due;
 }
 
-meant : (files : List ℕ → List ℕ) (s : Sources) (p : Payment) (w : PlainWallet) (blocks : List ChainBlock) (r : PlainRequest) (cause : Cause) → AreInputs files s p w blocks r → MeansFault (held_of w blocks) r cause → IsMeant files s p cause
+meant : (files : List ℕ → List ℕ) (s : Sources) (p : Payment) (w : PlainWallet) (blocks : List ChainBlock) (r : PlainRequest) (cause : Cause) → AreInputs files s p w blocks r → MeansFault (chain_from w blocks) r cause → IsMeant files s p cause
 meant files s p w blocks r (Files cause) inputs m = absurd m
 meant files s p w blocks r (Bump fault) inputs m = absurd m
 meant files s p w blocks r (Plan fault) inputs m = (w, blocks, r, inputs, m.0, m.1)
 
-pub stops_on : (told_files : Type 0) (s : Sources) (p : Payment) (w : PlainWallet) (blocks : List ChainBlock) (r : PlainRequest) (old new : ShelfView) (stop : Stop) → (told_files → AreInputs old.files s p w blocks r) → StopsPlan (held_of w blocks) r stop → StopsFor told_files s p old new stop
+pub stops_on : (told_files : Type 0) (s : Sources) (p : Payment) (w : PlainWallet) (blocks : List ChainBlock) (r : PlainRequest) (old new : ShelfView) (stop : Stop) → (told_files → AreInputs old.files s p w blocks r) → StopsPlan (chain_from w blocks) r stop → StopsFor told_files s p old new stop
 stops_on told_files s p w blocks r old new (stops.Read file) inputs is = absurd is
 stops_on told_files s p w blocks r old new (stops.Refused refusal) inputs is = λ t.
     (inputs_due old.files s p w blocks r (inputs t) ∙ is.0, meant old.files s p w blocks r (cause_of refusal) (inputs t) is.1)
 stops_on told_files s p w blocks r old new stops.Keep inputs is = absurd is
 stops_on told_files s p w blocks r old new stops.Memory inputs is = tt
 
-pub if_ends : (told_files : Type 0) (files : List ℕ → List ℕ) (s : Sources) (p : Payment) (k : Held) (r : PlainRequest) (result : Result (Ending (Unit {0})) Stop) → AreAsked told_files files s p k r → IfOk result (IsConcluded k r) → IfOk result (IsEnded told_files files s p)
-if_ends told_files files s p k r (Ok e) h c = ended_on told_files files s p k.wallet h.held.blocks r e h.inputs (subst (λ (x : Held). IsConcluded x r e) h.held.is c)
+pub if_ends : (told_files : Type 0) (files : List ℕ → List ℕ) (s : Sources) (p : Payment) (k : Chain) (r : PlainRequest) (result : Result (Ending (Unit {0})) Stop) → AreAsked told_files files s p k r → IfOk result (IsConcluded k r) → IfOk result (IsEnded told_files files s p)
+if_ends told_files files s p k r (Ok e) h c = ended_on told_files files s p k.wallet h.held.blocks r e h.inputs (subst (λ (x : Chain). IsConcluded x r e) h.held.is c)
 if_ends told_files files s p k r (Err stop) h c = tt
 
-pub if_stops : (told_files : Type 0) (s : Sources) (p : Payment) (k : Held) (r : PlainRequest) (old new : ShelfView) (result : Result (Ending (Unit {0})) Stop) → AreAsked told_files old.files s p k r → IfErr result (StopsPlan k r) → IfErr result (StopsFor told_files s p old new)
+pub if_stops : (told_files : Type 0) (s : Sources) (p : Payment) (k : Chain) (r : PlainRequest) (old new : ShelfView) (result : Result (Ending (Unit {0})) Stop) → AreAsked told_files old.files s p k r → IfErr result (StopsPlan k r) → IfErr result (StopsFor told_files s p old new)
 if_stops told_files s p k r old new (Ok e) h is = tt
-if_stops told_files s p k r old new (Err stop) h is = stops_on told_files s p k.wallet h.held.blocks r old new stop h.inputs (subst (λ (x : Held). StopsPlan x r stop) h.held.is is)
+if_stops told_files s p k r old new (Err stop) h is = stops_on told_files s p k.wallet h.held.blocks r old new stop h.inputs (subst (λ (x : Chain). StopsPlan x r stop) h.held.is is)

@@ -12,7 +12,8 @@ use Rattle.fee_bump.proofs.GoesSteps.{heirs_back, heirs_told, kin_then, signals_
 use Rattle.fee_bump.proofs.PayLaws.{pays_fees, pays_rate}
 use Rattle.fee_bump.proofs.PlanLaws.{presets_alone_fit}
 use Rattle.fee_bump.proofs.TermLaws.{preset_only, preset_some, preset_spent}
-use Rattle.fee_bump.specs.Bump.{PlainTerms, bare_load, fee_in, fees_in, incremental, least_vsize, payment_place, replaced_at, terms_of}
+use Rattle.known_fees.specs.Worth.{fee_in}
+use Rattle.fee_bump.specs.Bump.{PlainTerms, bare_load, fees_in, incremental, least_vsize, payment_place, replaced_at, terms_of}
 use Rattle.fee_bump.specs.Faults.{fault_of as bump_fault_of}
 use Rattle.fee_bump.specs.Meant.{CanReplace, GoesWith}
 use Rattle.fee_rates.proofs.FeeLaws.{vsize_below, vsize_least}
@@ -42,10 +43,10 @@ use Rattle.tx_codec.specs.Weight.{weight_of}
 use Rattle.tx_codec.specs.declared.tx.TxIn.{TxIn}
 use Rattle.wallet_text.specs.PlainWallet.{PlainWallet}
 use Rattle.wallet_text.specs.declared.wallet.Watch.{Watch}
-use Rattle.fund_files.specs.Chain.{IsHeld}
-use Rattle.fund_files.specs.declared.held.Held.{Held}
+use Rattle.fund_files.specs.Chain.{IsChain}
+use Rattle.fund_files.specs.declared.chain.Chain.{Chain}
 use Rattle.fund_payment.proofs.ParentLaws.{held_book}
-use Rattle.command_inputs.specs.Due.{bump_fault_in, bump_of, candidates_by, plan_of}
+use Rattle.command_inputs.specs.Outcome.{bump_fault_in, bump_of, candidates_by, plan_of}
 use Rattle.command_inputs.specs.Replacing.{IsConfirmedCoin, IsEvicted, IsOriginal, PaysTheBurden, Replaces, ReplacesIf}
 use Rattle.command_inputs.proofs.TermsLaws.{fault_there}
 
@@ -81,7 +82,7 @@ module _ (r : PlainRequest) (change : Watch) (burden : ℕ) (presets : List Cand
 
 -- ---- the replacement
 
-module _ (k : Held) (r : PlainRequest) (f : PlainFunded) (held : IsHeld k) (sound : book_fault k.book ≡ None) (clear : bump_fault_in k r ≡ None) (rules : IsPlan (plan_of k r)) (pays : PaysTheBurden (plan_of k r) f) (txid : List ℕ) (named : r.bump ≡ Some txid) where
+module _ (k : Chain) (r : PlainRequest) (f : PlainFunded) (held : IsChain k) (sound : book_fault k.book ≡ None) (clear : bump_fault_in k r ≡ None) (rules : IsPlan (plan_of k r)) (pays : PaysTheBurden (plan_of k r) f) (txid : List ℕ) (named : r.bump ≡ Some txid) where
   abbrev w : PlainWallet
   w = k.wallet
 
@@ -112,7 +113,7 @@ module _ (k : Held) (r : PlainRequest) (f : PlainFunded) (held : IsHeld k) (soun
   -- each preset is spent by the payment
   own : All (λ (c : Candidate). Spends c.coin payment) terms.presets
   own =
-      All-weaker (λ (c : Candidate). Spends c.coin payment × (facts_at w h k.tip.height c.coin ≡ Some c)) (λ (c : Candidate). Spends c.coin payment) (λ c both. both.0) terms.presets
+      All-weaker (λ (c : Candidate). Spends c.coin payment × (facts_at w h k.tip.height r.rate c.coin ≡ Some c)) (λ (c : Candidate). Spends c.coin payment) (λ c both. both.0) terms.presets
       (preset_only w h k.tip.height r held.rules book sound)
 
   -- ---- the coins
@@ -121,7 +122,7 @@ module _ (k : Held) (r : PlainRequest) (f : PlainFunded) (held : IsHeld k) (soun
   given = ap (λ (o : Option (List ℕ)). option_map bump_of (option_map (λ (t : List ℕ). terms) o)) named
 
   coins_are : coins_in (plan_of k r) ≡ terms.presets ++ terms.candidates
-  coins_are = ap (λ (o : Option (List ℕ)). coins_with (option_map bump_of (option_map (λ (t : List ℕ). terms) o)) (candidates_by k (option_map (λ (t : List ℕ). terms) o))) named
+  coins_are = ap (λ (o : Option (List ℕ)). coins_with (option_map bump_of (option_map (λ (t : List ℕ). terms) o)) (candidates_by k r.rate (option_map (λ (t : List ℕ). terms) o))) named
 
   presets_are : presets_in (plan_of k r) ≡ in_order terms.presets
   presets_are = ap (λ (o : Option PlainBump). presets_by o (listed_in (plan_of k r))) given
@@ -174,7 +175,7 @@ module _ (k : Held) (r : PlainRequest) (f : PlainFunded) (held : IsHeld k) (soun
 
   confirmed : All (IsConfirmedCoin h) terms.candidates
   unfolding terms_of
-  confirmed = added_high w h k.tip.height held.rules book sound terms.presets terms.replaced
+  confirmed = added_high w h k.tip.height r.rate held.rules book sound terms.presets terms.replaced
 
   from_where : (c : Candidate) → Contains terms.presets c ⊎ Contains terms.candidates c → IsConfirmedCoin h c ⊎ Spends c.coin payment
   from_where c (inl preset) = inr (All-contains (λ (c : Candidate). Spends c.coin payment) terms.presets c own preset)
@@ -232,12 +233,14 @@ module _ (k : Held) (r : PlainRequest) (f : PlainFunded) (held : IsHeld k) (soun
     higher = pays_higher;
   }
 
-pub replaces_paid : (k : Held) (r : PlainRequest) (f : PlainFunded) → IsHeld k → book_fault k.book ≡ None → bump_fault_in k r ≡ None → IsPlan (plan_of k r) → PaysTheBurden (plan_of k r) f → ReplacesIf k.wallet k.book r f
+pub replaces_paid : (k : Chain) (r : PlainRequest) (f : PlainFunded) → IsChain k → book_fault k.book ≡ None → bump_fault_in k r ≡ None → IsPlan (plan_of k r) → PaysTheBurden (plan_of k r) f → ReplacesIf k.wallet k.book r f
 replaces_paid k r f held sound clear rules pays txid named = replaces k r f held sound clear rules pays txid named
 
 -- each payment of a plan does
 pays_burden : (p : PlainPlan) (f : PlainFunded) → IsPlan p → IsPayment p f → PaysTheBurden p f
-pays_burden p f h a = record { coins = a.candidates; presets = a.presets; fee = burden_paid p f a; weight = burden_weight p f h a }
+pays_burden p f h a =
+    let all = burden_paid p f a in
+    record { coins = a.candidates; presets = a.presets; fee = omega (arith, all); weight = burden_weight p f h a }
 
-pub replaces_named : (k : Held) (r : PlainRequest) (f : PlainFunded) → IsHeld k → book_fault k.book ≡ None → bump_fault_in k r ≡ None → IsPlan (plan_of k r) → IsPayment (plan_of k r) f → ReplacesIf k.wallet k.book r f
+pub replaces_named : (k : Chain) (r : PlainRequest) (f : PlainFunded) → IsChain k → book_fault k.book ≡ None → bump_fault_in k r ≡ None → IsPlan (plan_of k r) → IsPayment (plan_of k r) f → ReplacesIf k.wallet k.book r f
 replaces_named k r f held sound clear rules pays = replaces_paid k r f held sound clear rules (pays_burden (plan_of k r) f rules pays)

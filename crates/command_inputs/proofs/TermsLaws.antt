@@ -15,13 +15,13 @@ use Rattle.payment_states.proofs.MakerSteps.{all_made}
 use Rattle.payment_states.specs.BookOf.{IsBookOf}
 use Rattle.payment_states.specs.Makers.{HasMaker}
 use Rattle.request_text.specs.PlainRequest.{PlainRequest}
-use Rattle.fund_files.specs.Chain.{IsHeld}
-use Rattle.fund_files.specs.declared.held.Held.{Held}
+use Rattle.fund_files.specs.Chain.{IsChain}
+use Rattle.fund_files.specs.declared.chain.Chain.{Chain}
 use Rattle.fund_payment.proofs.ParentLaws.{held_book}
-use Rattle.command_inputs.specs.Due.{bump_fault_in, bump_of, candidates_by, plan_of, terms_for}
+use Rattle.command_inputs.specs.Outcome.{bump_fault_in, bump_of, candidates_by, plan_of, terms_for}
 
 -- a request that has no terms names no payment
-pub none_named : (k : Held) (r : PlainRequest) → None ≡ terms_for k r → r.bump ≡ None
+pub none_named : (k : Chain) (r : PlainRequest) → None ≡ terms_for k r → r.bump ≡ None
 none_named k r e = by r.bump e
   where
     terms : PlainTerms
@@ -32,7 +32,7 @@ none_named k r e = by r.bump e
     by (Some txid) same = absurd (none-some terms same)
 
 -- by whether the request names a payment
-module _ (k : Held) (r : PlainRequest) where
+module _ (k : Chain) (r : PlainRequest) where
   abbrev own : List ℕ → PlainTerms
   own txid = terms_of k.wallet k.book k.tip.height r
 
@@ -68,16 +68,16 @@ module _ (k : Held) (r : PlainRequest) where
   fault_is e = fault_by r.bump e
 
 -- where nothing keeps a named payment from being replaced, nothing keeps that one
-pub fault_there : (k : Held) (r : PlainRequest) (txid : List ℕ) → r.bump ≡ Some txid → bump_fault_in k r ≡ None → bump_fault_of k.wallet k.book r ≡ None
+pub fault_there : (k : Chain) (r : PlainRequest) (txid : List ℕ) → r.bump ≡ Some txid → bump_fault_in k r ≡ None → bump_fault_of k.wallet k.book r ≡ None
 fault_there k r txid named clear = sym (ap (λ (o : Option (List ℕ)). option_and_then (λ (t : List ℕ). bump_fault_of k.wallet k.book r) o) named) ∙ clear
 
 -- the terms are those of the payment that is named
-record AreNamed (k : Held) (r : PlainRequest) (t : PlainTerms) : Type 0 where
+record AreNamed (k : Chain) (r : PlainRequest) (t : PlainTerms) : Type 0 where
   txid : List ℕ
   named : r.bump ≡ Some txid
   is : t ≡ terms_of k.wallet k.book k.tip.height r
 
-terms_there : (k : Held) (r : PlainRequest) (t : PlainTerms) → Some t ≡ terms_for k r → AreNamed k r t
+terms_there : (k : Chain) (r : PlainRequest) (t : PlainTerms) → Some t ≡ terms_for k r → AreNamed k r t
 terms_there k r t e = by r.bump refl e
   where
     terms : PlainTerms
@@ -87,7 +87,7 @@ terms_there k r t e = by r.bump refl e
     by None own same = absurd (none-some t (sym same))
     by (Some txid) own same = record { txid = txid; named = own; is = same_Some t terms same }
 
-module _ (k : Held) (r : PlainRequest) (held : IsHeld k) (sound : book_fault k.book ≡ None) where
+module _ (k : Chain) (r : PlainRequest) (held : IsChain k) (sound : book_fault k.book ≡ None) where
   abbrev terms : PlainTerms
   terms = terms_of k.wallet k.book k.tip.height r
 
@@ -118,8 +118,8 @@ module _ (k : Held) (r : PlainRequest) (held : IsHeld k) (sound : book_fault k.b
 
   -- ---- the coins that a plan can spend
 
-  made_by : (o : Option (List ℕ)) → All (HasMaker k.book) (coins_with (option_map bump_of (option_map (λ (txid : List ℕ). terms) o)) (candidates_by k (option_map (λ (txid : List ℕ). terms) o)))
-  made_by None = all_made k.wallet k.book k.tip.height held.rules book sound
+  made_by : (o : Option (List ℕ)) → All (HasMaker k.book) (coins_with (option_map bump_of (option_map (λ (txid : List ℕ). terms) o)) (candidates_by k r.rate (option_map (λ (txid : List ℕ). terms) o)))
+  made_by None = all_made k.wallet k.book k.tip.height r.rate held.rules book sound
   made_by (Some txid) = terms_made k.wallet k.book k.tip.height r held.rules book sound
 
   pub coins_made : All (HasMaker k.book) (coins_in (plan_of k r))

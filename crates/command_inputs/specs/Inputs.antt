@@ -5,14 +5,14 @@ use Rattle.block_feed.specs.Block.{ChainBlock}
 use Rattle.request_text.specs.PlainRequest.{PlainRequest}
 use Rattle.wallet_text.specs.PlainWallet.{PlainWallet}
 use Rattle.fund_files.specs.Cause.{FileCause}
-use Rattle.fund_files.specs.Chain.{IsHeld, held_of}
+use Rattle.fund_files.specs.Chain.{IsChain, chain_from}
 use Rattle.fund_files.specs.Contents.{HasChain, HasRequest, HasWallet}
 use Rattle.fund_files.specs.FileStops.{IsWalletCause}
-use Rattle.fund_files.specs.declared.held.Held.{Held}
+use Rattle.fund_files.specs.declared.chain.Chain.{Chain}
 use Rattle.fund_files.specs.declared.refusal.File.{File}
 use Rattle.fund_files.specs.declared.refusal.File.TheVariants.{Wallet, Blocks, Request}
 use Rattle.command_end.specs.Names.{Sources}
-use Rattle.command_inputs.specs.Due.{bump_fault_in}
+use Rattle.command_inputs.specs.Outcome.{bump_fault_in}
 use Rattle.command_inputs.specs.Names.{Payment}
 
 -- the name of a file that is read
@@ -46,11 +46,11 @@ Reaches files s Request = (w : PlainWallet) × (blocks : List ChainBlock) × Has
 pub record AreInputs (files : List ℕ → List ℕ) (s : Sources) (p : Payment) (w : PlainWallet) (bs : List ChainBlock) (r : PlainRequest) : Type 0 where
   pub chain : HasChain (files s.wallet) (files s.blocks) w bs
   pub request : HasRequest (files p.request) r
-  pub taken : bump_fault_in (held_of w bs) r ≡ None
+  pub taken : bump_fault_in (chain_from w bs) r ≡ None
 
 -- A wallet, its book and its tip, and a request; where that is to replace a payment, nothing keeps that from being replaced.
 -- Where the files are told, they hold these.
-pub record AreAsked (told : Type 0) (files : List ℕ → List ℕ) (s : Sources) (p : Payment) (k : Held) (r : PlainRequest) : Type 0 where
-  pub held : IsHeld k
+pub record AreAsked (told : Type 0) (files : List ℕ → List ℕ) (s : Sources) (p : Payment) (k : Chain) (r : PlainRequest) : Type 0 where
+  pub held : IsChain k
   pub inputs : told → AreInputs files s p k.wallet held.blocks r
   pub taken : bump_fault_in k r ≡ None

@@ -1,10 +1,11 @@
 pub mod Cause
 pub mod Digest
-pub mod Due
 pub mod Inputs
 pub mod Jobs
 pub mod Meant
 pub mod Names
+pub mod Outcome
+pub mod Packages
 pub mod PlanEnds
 pub mod Replacing
 pub mod Results

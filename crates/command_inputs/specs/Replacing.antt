@@ -5,9 +5,11 @@ use Rattle.std.specs.List.{Any}
 use Rattle.coin_book.specs.Coins.{coins_of}
 use Rattle.coin_book.specs.History.{History}
 use Rattle.coin_book.specs.declared.coin.Coin.{Coin}
-use Rattle.fee_bump.specs.Bump.{fee_in, fees_in, replaced_at}
+use Rattle.known_fees.specs.Worth.{fee_in}
+use Rattle.fee_bump.specs.Bump.{fees_in, replaced_at}
 use Rattle.fee_bump.specs.Faults.{points_of}
-use Rattle.fee_bump.specs.Meant.{GoesWith, IsKnown, IsNamed, MayBeReplaced}
+use Rattle.known_fees.specs.Worth.{IsKnown}
+use Rattle.fee_bump.specs.Meant.{GoesWith, IsNamed, MayBeReplaced}
 use Rattle.fee_rates.specs.Fee.{fee_of, vsize_of}
 use Rattle.fee_rates.specs.Terms.{base_of}
 use Rattle.coin_candidates.specs.declared.candidate.Candidate.{Candidate}

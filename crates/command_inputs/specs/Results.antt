@@ -17,7 +17,7 @@ use Rattle.fund_report.specs.declared.report.Report.TheVariants as kinds
 use Rattle.psbt_codec.specs.Psbt.{IsPsbt}
 use Rattle.request_text.specs.PlainRequest.{PlainRequest}
 use Rattle.wallet_text.specs.PlainWallet.{PlainWallet}
-use Rattle.fund_files.specs.Chain.{held_of, history_of}
+use Rattle.fund_files.specs.Chain.{chain_from, history_of}
 use Rattle.fund_files.specs.declared.refusal.File.{File}
 use Rattle.fund_payment.specs.Report.{psbt_of, report_of}
 use Rattle.fund_payment.specs.Shown.{ShowsCoins}
@@ -26,10 +26,11 @@ use Rattle.command_end.specs.Names.{Sources}
 use Rattle.command_end.specs.declared.status.Status.{Status}
 use Rattle.command_end.specs.declared.status.Status.TheVariants as statuses
 use Rattle.command_inputs.specs.Cause.{cause_of, status_of_cause}
-use Rattle.command_inputs.specs.Due.{Outcome, Refused, Unfinished, NoSelection, Funded, due_of, log_text_at, none_report_at, open_text, plan_of}
+use Rattle.command_inputs.specs.Outcome.{Outcome, Refused, Unfinished, NoSelection, Funded, outcome_of, log_text_at, none_report_at, open_text, plan_of}
 use Rattle.command_inputs.specs.Inputs.{AreInputs, IsUnread, Reaches, name_of}
-use Rattle.command_inputs.specs.Meant.{IsDue}
+use Rattle.command_inputs.specs.Meant.{AreRefusedFor}
 use Rattle.command_inputs.specs.Names.{Payment}
+use Rattle.command_inputs.specs.Packages.{PaysForPackages}
 use Rattle.command_inputs.specs.Replacing.{ReplacesIf}
 use Rattle.command_inputs.specs.Words.{refusal_words}
 use Rattle.command_inputs.specs.declared.refusal.Refusal.{Refusal}
@@ -43,8 +44,9 @@ status_of (Funded report log) = statuses.Done
 
 -- A wallet, blocks and a request with a payment: its coins are candidates or those of a payment that is replaced, the presets
 -- among them, and the others are of groups of the pool of the row that it names; the transaction made of them pays each
--- recipient exactly, and at least the fee. Where the request names a payment, it replaces that by the rules of BIP 125. What a
--- signer gets is a PSBT of version 0 (BIP 174) of which each input shows the value and the script of its coin.
+-- recipient exactly, and at least the fee, with the Pending payments that its coins rest on too. Where the request names a
+-- payment, it replaces that by the rules of BIP 125. What a signer gets is a PSBT (BIP 174) of which each input shows the value
+-- and the script of its coin.
 -- An exhausted payment is proved to be the best, by the log. The report and the log tell of it; the log's bytes are a
 -- text of it, which says that it is ended. The searches and draws of its plan keep their rules. Where the files are told, they
 -- hold this wallet, these blocks and this request.
@@ -54,20 +56,21 @@ pub record IsFunded (told_files : Type 0) (files : List ℕ → List ℕ) (s : S
   pub asked : PlainRequest
   pub funded : PlainFunded
   pub inputs : told_files → AreInputs files s p wallet blocks asked
-  pub plan : IsPlan (plan_of (held_of wallet blocks) asked)
-  pub steps : AreSteps (steps_of (plan_of (held_of wallet blocks) asked))
-  pub outcome : outcome_at (plan_of (held_of wallet blocks) asked) asked.tries ≡ answers.Funded funded
-  pub pays : IsPayment (plan_of (held_of wallet blocks) asked) funded
-  pub eligible : All (MaySpend (plan_of (held_of wallet blocks) asked)) funded.coins
+  pub plan : IsPlan (plan_of (chain_from wallet blocks) asked)
+  pub steps : AreSteps (steps_of (plan_of (chain_from wallet blocks) asked))
+  pub outcome : outcome_at (plan_of (chain_from wallet blocks) asked) asked.tries ≡ answers.Funded funded
+  pub pays : IsPayment (plan_of (chain_from wallet blocks) asked) funded
+  pub eligible : All (MaySpend (plan_of (chain_from wallet blocks) asked)) funded.coins
   pub replaces : ReplacesIf wallet (history_of wallet blocks) asked funded
-  pub claims : Claims (plan_of (held_of wallet blocks) asked) asked.tries funded
+  pub packages : PaysForPackages wallet (history_of wallet blocks) asked funded
+  pub claims : Claims (plan_of (chain_from wallet blocks) asked) asked.tries funded
   pub psbt : IsPsbt (psbt_of (history_of wallet blocks) asked wallet.change funded)
   pub shows : ShowsCoins funded.coins (psbt_of (history_of wallet blocks) asked wallet.change funded)
-  pub reports : report ≡ report_of (history_of wallet blocks) asked wallet.change (tries_at (plan_of (held_of wallet blocks) asked) asked.tries) funded
-  pub logs : log ≡ log_text_at (plan_of (held_of wallet blocks) asked) asked.tries
-  pub reads : IsLogText log (log_at (plan_of (held_of wallet blocks) asked) asked.tries)
-  pub ended : (log_at (plan_of (held_of wallet blocks) asked) asked.tries).ended ≡ true
-  pub comes_to : told_files → due_of files s p ≡ Funded report log
+  pub reports : report ≡ report_of (history_of wallet blocks) asked wallet.change (tries_at (plan_of (chain_from wallet blocks) asked) asked.tries) funded
+  pub logs : log ≡ log_text_at (plan_of (chain_from wallet blocks) asked) asked.tries
+  pub reads : IsLogText log (log_at (plan_of (chain_from wallet blocks) asked) asked.tries)
+  pub ended : (log_at (plan_of (chain_from wallet blocks) asked) asked.tries).ended ≡ true
+  pub comes_to : told_files → outcome_of files s p ≡ Funded report log
 
 -- A wallet, blocks and a request for which there is no selection, which the log proves. The log's bytes are a text of it,
 -- which says that it is ended. Where the files are told, they hold this wallet, these blocks and this request.
@@ -76,16 +79,16 @@ pub record IsNotFunded (told_files : Type 0) (files : List ℕ → List ℕ) (s 
   pub blocks : List ChainBlock
   pub asked : PlainRequest
   pub inputs : told_files → AreInputs files s p wallet blocks asked
-  pub plan : IsPlan (plan_of (held_of wallet blocks) asked)
-  pub steps : AreSteps (steps_of (plan_of (held_of wallet blocks) asked))
-  pub outcome : outcome_at (plan_of (held_of wallet blocks) asked) asked.tries ≡ answers.NoSelection
-  pub none : IsProvedNone (plan_of (held_of wallet blocks) asked) (log_at (plan_of (held_of wallet blocks) asked) asked.tries)
-  pub reports : report ≡ none_report_at (plan_of (held_of wallet blocks) asked) asked.tries
-  pub told : IsReportText report (kinds.NoSelection (tries_at (plan_of (held_of wallet blocks) asked) asked.tries))
-  pub logs : log ≡ log_text_at (plan_of (held_of wallet blocks) asked) asked.tries
-  pub reads : IsLogText log (log_at (plan_of (held_of wallet blocks) asked) asked.tries)
-  pub ended : (log_at (plan_of (held_of wallet blocks) asked) asked.tries).ended ≡ true
-  pub comes_to : told_files → due_of files s p ≡ NoSelection report log
+  pub plan : IsPlan (plan_of (chain_from wallet blocks) asked)
+  pub steps : AreSteps (steps_of (plan_of (chain_from wallet blocks) asked))
+  pub outcome : outcome_at (plan_of (chain_from wallet blocks) asked) asked.tries ≡ answers.NoSelection
+  pub none : IsProvedNone (plan_of (chain_from wallet blocks) asked) (log_at (plan_of (chain_from wallet blocks) asked) asked.tries)
+  pub reports : report ≡ none_report_at (plan_of (chain_from wallet blocks) asked) asked.tries
+  pub told : IsReportText report (kinds.NoSelection (tries_at (plan_of (chain_from wallet blocks) asked) asked.tries))
+  pub logs : log ≡ log_text_at (plan_of (chain_from wallet blocks) asked) asked.tries
+  pub reads : IsLogText log (log_at (plan_of (chain_from wallet blocks) asked) asked.tries)
+  pub ended : (log_at (plan_of (chain_from wallet blocks) asked) asked.tries).ended ≡ true
+  pub comes_to : told_files → outcome_of files s p ≡ NoSelection report log
 
 -- A wallet, blocks and a request whose tries are used up while a search is open. Where the files are told, they hold this
 -- wallet, these blocks and this request.
@@ -94,18 +97,18 @@ pub record IsUnfinished (told_files : Type 0) (files : List ℕ → List ℕ) (s
   pub blocks : List ChainBlock
   pub asked : PlainRequest
   pub inputs : told_files → AreInputs files s p wallet blocks asked
-  pub plan : IsPlan (plan_of (held_of wallet blocks) asked)
-  pub steps : AreSteps (steps_of (plan_of (held_of wallet blocks) asked))
-  pub outcome : outcome_at (plan_of (held_of wallet blocks) asked) asked.tries ≡ answers.Unfinished
-  pub used_up : IsUsedUp (plan_of (held_of wallet blocks) asked) asked.tries
-  pub reports : report ≡ open_text (tries_at (plan_of (held_of wallet blocks) asked) asked.tries) used_up.step
-  pub told : IsReportText report (kinds.Unfinished (tries_at (plan_of (held_of wallet blocks) asked) asked.tries) used_up.step.row used_up.step.stage)
-  pub comes_to : told_files → due_of files s p ≡ Unfinished report
+  pub plan : IsPlan (plan_of (chain_from wallet blocks) asked)
+  pub steps : AreSteps (steps_of (plan_of (chain_from wallet blocks) asked))
+  pub outcome : outcome_at (plan_of (chain_from wallet blocks) asked) asked.tries ≡ answers.Unfinished
+  pub used_up : IsUsedUp (plan_of (chain_from wallet blocks) asked) asked.tries
+  pub reports : report ≡ open_text (tries_at (plan_of (chain_from wallet blocks) asked) asked.tries) used_up.step
+  pub told : IsReportText report (kinds.Unfinished (tries_at (plan_of (chain_from wallet blocks) asked) asked.tries) used_up.step.row used_up.step.stage)
+  pub comes_to : told_files → outcome_of files s p ≡ Unfinished report
 
 -- A refusal of this status, whose cause the files come to where they are told, with its line.
 abbrev pub EndsRefused : Status → Type 0 → Type 0 → Sources → Payment → ShelfView → SinkView → SinkView → Type 0
 EndsRefused status told_files told s p shelf sink sink' =
-    (refusal : Refusal) × (status_of_cause (cause_of refusal) ≡ status) × (told_files → IsDue shelf.files s p (cause_of refusal)) × (told → GotLine (fault_line (refusal_words refusal)) sink sink')
+    (refusal : Refusal) × (status_of_cause (cause_of refusal) ≡ status) × (told_files → AreRefusedFor shelf.files s p (cause_of refusal)) × (told → GotLine (fault_line (refusal_words refusal)) sink sink')
 
 -- A file wasn't read, those before it being in order, and the line names it.
 abbrev pub EndsUnread : Type 0 → Type 0 → Sources → Payment → ShelfView → ShelfView → SinkView → SinkView → Type 0

@@ -9,7 +9,7 @@ use Rattle.fund_outside.specs.declared.keeper.KeepFault.TheVariants as keeps
 use Rattle.command_end.specs.Names.{Sources}
 use Rattle.command_inputs.specs.Cause.{cause_of}
 use Rattle.command_inputs.specs.Inputs.{IsUnread, Reaches}
-use Rattle.command_inputs.specs.Meant.{IsDue}
+use Rattle.command_inputs.specs.Meant.{AreRefusedFor}
 use Rattle.command_inputs.specs.Names.{Payment}
 use Rattle.command_inputs.specs.declared.refusal.Refusal.TheVariants as refusals
 use Rattle.command_inputs.specs.declared.refusal.Stop.{Stop}
@@ -21,7 +21,7 @@ lifted (files.Read file) = stops.Read file
 lifted (files.Refused refusal) = stops.Refused (refusals.Files refusal)
 lifted files.Memory = stops.Memory
 
--- the stop of a payment that isn't replaced: want of memory comes from that of its terms alone
+-- the stop of a payment that isn't replaced: being out of memory comes from that of its terms alone
 abbrev pub bump_stop_of : BumpFault → Stop
 bump_stop_of bumps.Memory = stops.Memory
 bump_stop_of fault = stops.Refused (refusals.Bump fault)
@@ -29,7 +29,7 @@ bump_stop_of fault = stops.Refused (refusals.Bump fault)
 -- A read of a file failed, those before it being in order, or the files are refused.
 abbrev pub StopsFor : Type 0 → Sources → Payment → ShelfView → ShelfView → Stop → Type 0
 StopsFor told s p old new (stops.Read file) = IsUnread s p file old new × (told → Reaches old.files s file)
-StopsFor told s p old new (stops.Refused refusal) = told → IsDue old.files s p (cause_of refusal)
+StopsFor told s p old new (stops.Refused refusal) = told → AreRefusedFor old.files s p (cause_of refusal)
 StopsFor told s p old new stops.Keep = ⊥
 StopsFor told s p old new stops.Memory = Unit {0}
 

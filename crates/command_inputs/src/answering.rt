@@ -14,8 +14,8 @@ ghost use Rattle.command_inputs.specs.Words.{IsStopped, refusal_words, stop_stat
 use crate::names::Payment;
 use crate::refusal::{Refusal, Stop};
 use command_end::{
-    Sources, Status, bump_fault_parts, plan_fault_parts, put_fault, refuse_file, refuse_keep,
-    refuse_read, want_of_memory,
+    Sources, Status, bump_fault_parts, out_of_memory, plan_fault_parts, put_fault, refuse_file,
+    refuse_keep, refuse_read,
 };
 use fee_bump::BumpFault;
 use fund_files::File;
@@ -91,6 +91,6 @@ pub fn answer<O: Sink>(sources: &Sources, payment: &Payment, stop: Stop, out: &m
         Stop::Read(file) => refuse_read(name_of(sources, payment, file), out),
         Stop::Refused(refusal) => refuse(&refusal, out),
         Stop::Keep => refuse_keep(out),
-        Stop::Memory => want_of_memory(out),
+        Stop::Memory => out_of_memory(out),
     }
 }

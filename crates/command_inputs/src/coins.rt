@@ -3,13 +3,13 @@
 ghost use Rattle.std.specs.Prelude.{◌≡◌, IfOk, None, option_map};
 ghost use Rattle.coin_candidates.specs.Candidates.{AreCandidates};
 ghost use Rattle.fund_steps.specs.Plan.{IsBumpFor};
-ghost use Rattle.fund_files.specs.Chain.{IsHeld};
-ghost use Rattle.command_inputs.specs.Due.{bump_fault_in, bump_of, candidates_by, terms_for};
+ghost use Rattle.fund_files.specs.Chain.{IsChain};
+ghost use Rattle.command_inputs.specs.Outcome.{bump_fault_in, bump_of, candidates_by, terms_for};
 
 use coin_candidates::Candidate;
 use fee_bump::BumpTerms;
 use fund_base::Memory;
-use fund_files::Held;
+use fund_files::Chain;
 use fund_steps::BumpInput;
 use request_text::Request;
 use std::alloc::Global;
@@ -27,21 +27,20 @@ pub struct PlanCoins {
 /// to be replaced. The error is out of memory.
 pub fn plan_coins(
     alloc: Global,
-    held: &Held,
+    held: &Chain,
     request: &Request,
     terms: Option<BumpTerms>,
 ) -> Result<PlanCoins, Memory>
-    requires held { IsHeld held.now }
+    requires held { IsChain held.now }
     requires terms { terms ≡ terms_for held.now request.now }
     requires taken { bump_fault_in held.now request.now ≡ None }
-    ensures candidates { IfOk result (λ c. c.candidates.items ≡ candidates_by held.now (terms_for held.now request.now)) }
+    ensures candidates { IfOk result (λ c. c.candidates.items ≡ candidates_by held.now request.now.rate (terms_for held.now request.now)) }
     ensures bump { IfOk result (λ c. c.bump ≡ option_map bump_of (terms_for held.now request.now)) }
     ensures fit { IfOk result (λ c. AreCandidates c.candidates.items) }
     ensures asked { IfOk result (λ c. IsBumpFor request.now c.candidates.items c.bump) }
 {
-    let _ = request;
-    // no book has a history with a fault
-    held.book.len();
+    held.book.keeps_rules();
+    let rate = request.rate;
     match terms {
         Some(terms) => {
             let BumpTerms {
@@ -59,7 +58,7 @@ pub fn plan_coins(
             })
         }
         None => {
-            let (_, candidates) = held.states_and_coins(alloc)?;
+            let (_, candidates) = held.states_and_coins(alloc, rate)?;
             Ok(PlanCoins {
                 candidates,
                 bump: None,

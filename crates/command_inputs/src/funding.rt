@@ -9,10 +9,10 @@ ghost use Rattle.search_run.specs.Kept.{log_of};
 ghost use Rattle.fund_report.specs.ReportText.{IsReportText};
 ghost use Rattle.payment_states.specs.Makers.{HasMaker};
 ghost use Rattle.psbt_codec.specs.Psbt.{IsPsbt};
-ghost use Rattle.fund_files.specs.Chain.{IsHeld};
+ghost use Rattle.fund_files.specs.Chain.{IsChain};
 ghost use Rattle.fund_payment.specs.Report.{psbt_of, report_of};
 ghost use Rattle.fund_payment.specs.Shown.{ShowsCoins};
-ghost use Rattle.command_inputs.specs.Due.{bump_fault_in, none_report, open_report, plan_of, terms_for};
+ghost use Rattle.command_inputs.specs.Outcome.{bump_fault_in, none_report, open_report, plan_of, terms_for};
 ghost use Rattle.command_inputs.specs.PlanEnds.{CanEnd, IsAfter, IsConcluded, IsEndOf, IsNew, IsOpenAt, IsOpenReport, StopsPlan};
 
 use crate::coins::{PlanCoins, plan_coins};
@@ -20,7 +20,7 @@ use crate::refusal::Stop;
 use closing_log::write_sections;
 use fee_bump::BumpTerms;
 use fund_base::Memory;
-use fund_files::Held;
+use fund_files::Chain;
 use fund_payment::payment_report;
 use fund_plan::{Funded, Outcome, Plan};
 use fund_report::{Report, write_report};
@@ -69,11 +69,11 @@ struct Run {
 /// payment to be replaced.
 pub fn new_plan(
     alloc: Global,
-    held: &Held,
+    held: &Chain,
     request: &Request,
     terms: Option<BumpTerms>,
 ) -> Result<Plan, Stop>
-    requires held { IsHeld held.now }
+    requires held { IsChain held.now }
     requires terms { terms ≡ terms_for held.now request.now }
     requires taken { bump_fault_in held.now request.now ≡ None }
     ensures plan { IfOk result (IsNew held.now request.now) }
@@ -87,11 +87,11 @@ pub fn new_plan(
 /// A run of the request's plan, with the request's tries.
 fn run_plan(
     alloc: Global,
-    held: &Held,
+    held: &Chain,
     request: &Request,
     terms: Option<BumpTerms>,
 ) -> Result<Run, Stop>
-    requires held { IsHeld held.now }
+    requires held { IsChain held.now }
     requires terms { terms ≡ terms_for held.now request.now }
     requires taken { bump_fault_in held.now request.now ≡ None }
     ensures run { IfOk result (λ r. IsAfter (plan_of held.now request.now) request.now.tries r.plan r.outcome) }
@@ -160,12 +160,12 @@ pub fn none_texts(alloc: Global, plan: &Plan) -> Result<Texts, Memory>
 /// What is printed and written of a payment from coins whose transactions the book has. The error is out of memory.
 pub fn paid_texts(
     alloc: Global,
-    held: &Held,
+    held: &Chain,
     request: &Request,
     plan: &Plan,
     funded: &Funded,
 ) -> Result<Texts, Memory>
-    requires held { IsHeld held.now }
+    requires held { IsChain held.now }
     requires funded { IsSelection request.now funded.now }
     requires makers { All (HasMaker held.now.book) funded.now.coins }
     ensures report { IfOk result (λ t. t.report.items ≡ report_of held.now.book request.now held.now.wallet.change plan.now.stand.past.tries funded.now) }
@@ -181,13 +181,13 @@ pub fn paid_texts(
 /// How a request ends by what a run of its plan came to. The error is out of memory.
 pub fn ends<J: Drop>(
     alloc: Global,
-    held: &Held,
+    held: &Chain,
     request: &Request,
     plan: Plan,
     outcome: Outcome,
     job: J,
 ) -> Result<Ending<J>, Memory>
-    requires held { IsHeld held.now }
+    requires held { IsChain held.now }
     requires can { CanEnd held.now request.now plan outcome }
     ensures { IfOk result (IsEndOf held.now request.now plan outcome job) }
 {
@@ -211,11 +211,11 @@ pub fn ends<J: Drop>(
 /// replacement, where the request names a payment to be replaced.
 pub fn conclude(
     alloc: Global,
-    held: &Held,
+    held: &Chain,
     request: &Request,
     terms: Option<BumpTerms>,
 ) -> Result<Ending<()>, Stop>
-    requires held { IsHeld held.now }
+    requires held { IsChain held.now }
     requires terms { terms ≡ terms_for held.now request.now }
     requires taken { bump_fault_in held.now request.now ≡ None }
     ensures ends { IfOk result (IsConcluded held.now request.now) }
@@ -223,8 +223,7 @@ pub fn conclude(
 {
     let run = run_plan(alloc, held, request, terms)?;
     let Run { plan, outcome } = run;
-    // no book has a history with a fault
-    held.book.len();
+    held.book.keeps_rules();
     let ending = ends(alloc, held, request, plan, outcome, ())?;
     Ok(ending)
 }

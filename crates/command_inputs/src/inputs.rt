@@ -3,11 +3,11 @@
 ghost use Rattle.std.specs.Prelude.{◌≡◌, ◌≢◌, Err, IfErr, IfOk, IsSome, None, OnOk, Some};
 ghost use Rattle.fee_bump.specs.declared.fault.BumpFault.TheVariants as bumps;
 ghost use Rattle.fund_shelf.specs.Causes.{OnlyReads};
-ghost use Rattle.fund_files.specs.Chain.{IsHeld};
+ghost use Rattle.fund_files.specs.Chain.{IsChain};
 ghost use Rattle.fund_files.specs.declared.refusal.File.{File};
 ghost use Rattle.command_end.specs.Names.{plain_sources};
 ghost use Rattle.command_inputs.specs.Digest.{HasDigest, digest_in};
-ghost use Rattle.command_inputs.specs.Due.{bump_fault_in, terms_for};
+ghost use Rattle.command_inputs.specs.Outcome.{bump_fault_in, terms_for};
 ghost use Rattle.command_inputs.specs.Inputs.{AreAsked, AsksInOrder, NoneBehind};
 ghost use Rattle.command_inputs.specs.Names.{plain_job, plain_payment};
 ghost use Rattle.command_inputs.specs.Stops.{StopsFor};
@@ -16,7 +16,7 @@ use crate::names::Payment;
 use crate::refusal::Stop;
 use command_end::Sources;
 use fee_bump::{BumpFault, BumpTerms, bump_terms};
-use fund_files::{Held, read_asked, read_asked_with_digest, read_chain, read_chain_with_digests};
+use fund_files::{Chain, read_asked, read_asked_with_digest, read_chain, read_chain_with_digests};
 use fund_shelf::Shelf;
 use kept_job::job_digest;
 use payment_states::all_states;
@@ -27,7 +27,7 @@ use std::alloc::Global;
 #[derive(Drop)]
 pub struct Inputs {
     /// The wallet, with the book of its coins.
-    pub held: Held,
+    pub held: Chain,
     /// The request.
     pub request: Request,
     /// What a replacement of the payment that the request names is made from, if it names one.
@@ -36,8 +36,8 @@ pub struct Inputs {
 
 /// What a replacement of the payment that the request names is made from, if it names one; or why that isn't replaced. Memory
 /// comes only where it names one.
-fn terms_for(alloc: Global, held: &Held, request: &Request) -> Result<Option<BumpTerms>, BumpFault>
-    requires { IsHeld held.now }
+fn terms_for(alloc: Global, held: &Chain, request: &Request) -> Result<Option<BumpTerms>, BumpFault>
+    requires { IsChain held.now }
     ensures terms { IfOk result (λ terms. terms ≡ terms_for held.now request.now) }
     ensures none { OnOk result (bump_fault_in held.now request.now ≡ None) }
     ensures fault { IfErr result (λ fault. fault ≢ bumps.Memory → bump_fault_in held.now request.now ≡ Some fault) }

@@ -29,18 +29,19 @@ use Rattle.tx_codec.specs.declared.tx.TxIn.{TxIn}
 use Rattle.coin_book.specs.History.{History}
 use Rattle.fee_bump.specs.Bump.{terms_of}
 use Rattle.fund_shelf.specs.Causes.{ShelfView}
-use Rattle.fund_files.specs.Chain.{held_of, history_of}
+use Rattle.fund_files.specs.Chain.{chain_from, history_of}
 use Rattle.fund_payment.specs.Report.{line_of, psbt_of, reported}
 use Rattle.fund_plan.proofs.FigureLaws.{figures_agree}
 use Rattle.fund_plan.specs.Outcome.{tries_at}
 use Rattle.fund_plan.specs.Pays.{payment_from, recipient_output, unsigned_input}
 use Rattle.fund_report.specs.PlainFunded as reports
+use Rattle.psbt_codec.specs.Text.{psbt_text}
 use Rattle.fund_report.specs.declared.report.InLine.{InLine}
 use Rattle.fund_steps.proofs.PresetLaws.{presets_listed}
 use Rattle.fund_steps.specs.Amounts.{value_of}
 use Rattle.fund_steps.specs.Listed.{AreListed, listed_in, presets_by}
 use Rattle.fund_steps.specs.Plan.{PlainBump, PlainPlan}
-use Rattle.command_inputs.specs.Due.{bump_of, plan_of}
+use Rattle.command_inputs.specs.Outcome.{bump_of, plan_of}
 use Rattle.pay_words.specs.declared.asked.Asked.{Asked}
 use Rattle.command_pay.specs.AsAsked.{IsAsAsked}
 use Rattle.command_pay.specs.Money.{IsMoneyOf, IsPaidBy, IsScriptOf, IsSpentBy}
@@ -141,6 +142,7 @@ pub record Parts (ps : List Payment) (words : List (String Global)) (r : PlainRe
   pub recipients : AllZip IsPaidBy ps (map recipient_output r.recipients)
   pub coins : All (IsNamed r.coins) words
   pub bump : r.bump ≡ None
+  pub psbt : r.psbt ≡ 0
 
 pub parts_of : (ps : List Payment) (words : List (String Global)) (s : Settings) (r : PlainRequest) → asked_of ps words s ≡ Ok r → Parts ps words r
 unfolding asked_of
@@ -156,10 +158,12 @@ parts_of ps words s r is =
     let paid : recipients.0 ≡ r.recipients = ap (λ (x : Result PlainRequest Refusal). of_ok (λ (q : PlainRequest). q.recipients) recipients.0 x) locktime.2 in
     let coins : listed.0 ≡ r.coins = ap (λ (x : Result PlainRequest Refusal). of_ok (λ (q : PlainRequest). q.coins) listed.0 x) locktime.2 in
     let bump : None ≡ r.bump = ap (λ (x : Result PlainRequest Refusal). of_ok (λ (q : PlainRequest). q.bump) None x) locktime.2 in
+    let psbt : 0 ≡ r.psbt = ap (λ (x : Result PlainRequest Refusal). of_ok (λ (q : PlainRequest). q.psbt) 0 x) locktime.2 in
     record {
       recipients = subst (λ (x : List Recipient). AllZip IsPaidBy ps (map recipient_output x)) paid (recipients_are ps recipients.0 recipients.1);
       coins = subst (λ (x : List OutPoint). All (IsNamed x) words) coins (coins_are words listed.0 listed.1);
       bump = sym bump;
+      psbt = sym psbt;
     }
   where
     of_ok : {X : Type 0} → (PlainRequest → X) → X → Result PlainRequest Refusal → X
@@ -192,17 +196,17 @@ pub money_of : (a : Asked) (files : ShelfView) (f : reports.PlainFunded) (log : 
 unfolding payment_from psbt_of
 money_of a files f log k =
     let history : History = history_of k.wallet k.blocks in
-    let plan : PlainPlan = plan_of (held_of k.wallet k.blocks) k.request in
+    let plan : PlainPlan = plan_of (chain_from k.wallet k.blocks) k.request in
     let parts = parts_of a.payments.items a.coins.items a.settings k.request k.asks in
     let sums = figures_agree plan k.funded k.pays in
-    let no_bump : plan.bump ≡ None = ap (λ (o : Option (List ℕ)). option_map bump_of (option_map (λ (txid : List ℕ). terms_of k.wallet (held_of k.wallet k.blocks).book (held_of k.wallet k.blocks).tip.height k.request) o)) parts.bump in
+    let no_bump : plan.bump ≡ None = ap (λ (o : Option (List ℕ)). option_map bump_of (option_map (λ (txid : List ℕ). terms_of k.wallet (chain_from k.wallet k.blocks).book (chain_from k.wallet k.blocks).tip.height k.request) o)) parts.bump in
     let listed : All (Contains k.funded.coins) (listed_in plan) = subst (λ (x : List Candidate). All (Contains k.funded.coins) x) (presets_listed_in plan plan.bump no_bump) k.pays.presets in
     let worth : sum_by (λ (c : InLine). c.value) (map line_of k.funded.coins) ≡ value_of k.funded.coins = fold-map (λ (n : ℕ) (c : InLine). n + c.value) line_of 0 k.funded.coins in
     let it : IsMoneyOf a k.wallet.change (reported history k.request k.wallet.change (tries_at plan k.request.tries) k.funded) = record {
       psbt = psbt_of history k.request k.wallet.change k.funded;
       paid = map recipient_output k.request.recipients;
       is = k.psbt;
-      text = refl;
+      text = ap (λ (version : ℕ). psbt_text version (psbt_of history k.request k.wallet.change k.funded)) parts.psbt;
       payments = parts.recipients;
       outputs = refl;
       spends = prevs k.request.replaceable k.funded.coins;

@@ -5,7 +5,7 @@ use Rattle.std.proofs.lemmas.Bool.{false_from_ne_true}
 use Rattle.coin_book.specs.History.{History}
 use Rattle.fund_base.proofs.Lists.{equal_bytes}
 use Rattle.fund_shelf.specs.Causes.{ShelfView}
-use Rattle.fund_files.specs.Chain.{held_of, history_of}
+use Rattle.fund_files.specs.Chain.{chain_from, history_of}
 use Rattle.fund_files.specs.Contents.{HasChain}
 use Rattle.fund_payment.specs.Report.{reported}
 use Rattle.fund_plan.specs.Outcome.{tries_at}
@@ -16,7 +16,7 @@ use Rattle.fund_report.proofs.ToldLaws.{one_report}
 use Rattle.fund_steps.specs.Plan.{PlainPlan}
 use Rattle.command_end.specs.declared.status.Status.{Status}
 use Rattle.command_end.specs.declared.status.Status.TheVariants as statuses
-use Rattle.command_inputs.specs.Due.{plan_of}
+use Rattle.command_inputs.specs.Outcome.{plan_of}
 use Rattle.command_inputs.specs.Results.{IsFunded}
 use Rattle.checked_runs.proofs.CommandLaws.{paid_reads}
 use Rattle.pay_words.specs.declared.asked.Asked.{Asked}
@@ -26,13 +26,13 @@ use Rattle.command_pay.specs.Run.{IsPayment, IsRun, beside, held_names, sources_
 
 -- what is reported of the payment of files
 abbrev told_of : (told : Type 0) (a : Asked) (files : ShelfView) (request report log : List ℕ) → IsFunded told (beside files request).files (sources_of a) held_names report log → PlainFunded
-told_of told a files request report log k = reported (history_of k.wallet k.blocks) k.asked k.wallet.change (tries_at (plan_of (held_of k.wallet k.blocks) k.asked) k.asked.tries) k.funded
+told_of told a files request report log k = reported (history_of k.wallet k.blocks) k.asked k.wallet.change (tries_at (plan_of (chain_from k.wallet k.blocks) k.asked) k.asked.tries) k.funded
 
 -- and its text is a report of it
 reads_of : (told : Type 0) (a : Asked) (files : ShelfView) (request report log : List ℕ) (k : IsFunded told (beside files request).files (sources_of a) held_names report log) → IsReportText report (kinds.Funded (told_of told a files request report log k))
 reads_of told a files request report log k =
     let history : History = history_of k.wallet k.blocks in
-    let plan : PlainPlan = plan_of (held_of k.wallet k.blocks) k.asked in
+    let plan : PlainPlan = plan_of (chain_from k.wallet k.blocks) k.asked in
     subst (λ (t : List ℕ). IsReportText t (kinds.Funded (told_of told a files request report log k))) (sym k.reports) (paid_reads history plan k.asked.tries k.funded k.plan k.steps k.outcome k.pays k.psbt)
 
 pub report_of_run : (told : Type 0) (a : Asked) (files after : ShelfView) (said log : List ℕ) → IsRun told a files after statuses.Done said log → (f : PlainFunded) × IsReportText said (kinds.Funded f)
@@ -85,6 +85,7 @@ as_asked a files after f log wallet_other blocks_other payment =
       plan = k.plan;
       pays = k.pays;
       eligible = k.eligible;
+      packages = k.packages;
       claims = k.claims;
       psbt = k.psbt;
       report = same_funded f told (one_report ends.0 (kinds.Funded f) (kinds.Funded told) read (reads_of (Unit {0}) a files run.request ends.0 ends.1 k));

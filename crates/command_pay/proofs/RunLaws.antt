@@ -14,7 +14,7 @@ use Rattle.command_end.specs.declared.status.Status.TheVariants as statuses
 use Rattle.command_inputs.specs.Names.{Payment}
 use Rattle.command_fund.specs.Statuses.{EndsFunded}
 use Rattle.fund_top.specs.Asked.{AsksFor}
-use Rattle.fund_top.specs.Due.{ComesTo, IsRefusal, IsTold, Outcome}
+use Rattle.fund_top.specs.Outcome.{ComesTo, IsRefusal, IsTold, Outcome}
 use Rattle.fund_top.specs.Outside.{Outside, outside}
 use Rattle.fund_top.specs.Run.{EndsByStatus, LeavesOthers, ReadsInOrder, RefusesFirst, TellsDue, TellsFailures, TellsUsage}
 use Rattle.fund_top.specs.Statuses.{Ends, EndsBroken, EndsInput, EndsLimited, EndsNotFunded, EndsNotKept, EndsUnfinished, EndsUnkept, EndsUnread, EndsUnwritten, EndsWithoutMemory, KeepsOthers, NoneFailed, NoneUnkept, NoneUnread, WhereFunding, status_of}

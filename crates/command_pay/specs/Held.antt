@@ -1,6 +1,5 @@
 -- Files of which two are held in memory: a request that was made, and a log.
-use Rattle.std.specs.Prelude.{ℕ, ◌≡◌, List, ◌∷◌, codes, map, String, string_bytes, bytes_eq, if◌then◌else◌}
-use Rattle.std.specs.declared.alloc.Global.{Global}
+use Rattle.std.specs.Prelude.{ℕ, ◌≡◌, List, ◌∷◌, codes, bytes_eq, if◌then◌else◌}
 use Rattle.fund_shelf.specs.Causes.{ShelfView}
 
 -- The names of the two. They begin with a NUL, as the name of no file of the system does.

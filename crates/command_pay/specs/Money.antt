@@ -32,14 +32,14 @@ pub record IsPaidBy (p : Payment) (o : TxOut) : Type 0 where
 abbrev pub IsSpentBy : List TxIn → String Global → Type 0
 IsSpentBy inputs word = (input : TxIn) × Contains inputs input × (coin_in (string_bytes word) ≡ Some input.prev)
 
--- Where the money of a payment goes. Its PSBT is that of a transaction of which the first outputs are the payments that are asked
--- for, one each, in order; the only other output is the change, where there is any, to this script. Its inputs spend the coins
+-- Where the money of a payment goes. Its PSBT is of version 0 (BIP 174), and that of a transaction of which the first outputs are
+-- the payments that are asked for, one each, in order; the only other output is the change, where there is any, to this script. Its inputs spend the coins
 -- that are reported, and each coin that is listed. What these coins are worth goes to the outputs and the fee, in satoshi.
 pub record IsMoneyOf (a : Asked) (change : Watch) (f : PlainFunded) : Type 0 where
   pub psbt : PartialTransaction
   pub paid : List TxOut
   pub is : IsPsbt psbt
-  pub text : f.text ≡ psbt_text psbt
+  pub text : f.text ≡ psbt_text 0 psbt
   pub payments : AllZip IsPaidBy a.payments.items paid
   pub outputs : psbt.tx.outputs ≡ paid ++ change_outputs change f.change
   pub spends : map (λ (i : TxIn). i.prev) psbt.tx.inputs ≡ map (λ (c : InLine). c.coin) f.coins

@@ -8,20 +8,20 @@ use Rattle.command_pay.specs.Fees.{fee_ceiling}
 use Rattle.command_pay.specs.Run.{IsPayment, IsRun}
 use Rattle.command_pay.specs.Written.{HasFileIf, IsStill, IsUnwritten}
 use Rattle.command_pay.specs.declared.outcome.Ending.{Ending}
-use Rattle.command_pay.specs.declared.outcome.Ending.TheVariants.{Paid, HighFee, NotPaid, Unwritten, Memory}
+use Rattle.command_pay.specs.declared.outcome.Ending.TheVariants.{Paid, FeeAboveMaximum, NotPaid, Unwritten, Memory}
 use Rattle.command_pay.specs.declared.outcome.NewFile.{NewFile}
 use Rattle.command_pay.specs.declared.outcome.NewFile.TheVariants.{Log, Psbt}
 use Rattle.command_pay.specs.declared.written.PutFault.{PutFault}
 use Rattle.command_pay.specs.declared.written.PutFault.TheVariants as puts
 
 -- the greatest fee that is taken
-abbrev pub most_for : Asked → ℕ
-most_for a = fee_ceiling a.max_fee a.payments.items
+abbrev pub greatest_fee : Asked → ℕ
+greatest_fee a = fee_ceiling a.max_fee a.payments.items
 
 -- A payment whose fee is taken.
 pub record IsTaken (told : Type 0) (a : Asked) (files after : ShelfView) (f : PlainFunded) (log : List ℕ) : Type 0 where
   pub payment : IsPayment told a files after f log
-  pub fee : f.fee ≤ most_for a
+  pub fee : f.fee ≤ greatest_fee a
 
 -- the log of a payment is written, where it is asked for
 abbrev pub HasLog : (told : Type 0) → Asked → List ℕ → ShelfView → ShelfView → Type 0
@@ -63,8 +63,8 @@ PutStops told a log old new puts.Memory = HasLogAtMost told a log old new
 abbrev pub Pays : (told told_new : Type 0) → Asked → (files after : ShelfView) → (old new : ShelfView) → Ending → Type 0
 Pays told told_new a files after old new (Paid report log) =
     IsTaken told a files after report log.items × HasBoth told_new a report log.items old new
-Pays told told_new a files after old new (HighFee fee most) =
-    (f : PlainFunded) × (log : List ℕ) × IsPayment told a files after f log × (fee ≡ f.fee) × (most ≡ most_for a) × (most < fee) × (new ≡ old)
+Pays told told_new a files after old new (FeeAboveMaximum fee most) =
+    (f : PlainFunded) × (log : List ℕ) × IsPayment told a files after f log × (fee ≡ f.fee) × (most ≡ greatest_fee a) × (most < fee) × (new ≡ old)
 Pays told told_new a files after old new (NotPaid status said) = (log : List ℕ) × IsRun told a files after status said.items log × (status ≢ statuses.Done) × (new ≡ old)
 Pays told told_new a files after old new (Unwritten file) = (f : PlainFunded) × (log : List ℕ) × IsTaken told a files after f log × IsLost told_new a log file old new
 Pays told told_new a files after old new Memory =

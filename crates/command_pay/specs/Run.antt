@@ -16,7 +16,7 @@ use Rattle.command_end.specs.declared.status.Status.TheVariants as statuses
 use Rattle.command_inputs.specs.Names.{Payment}
 use Rattle.command_inputs.specs.Results.{IsBeforeTheLog}
 use Rattle.fund_top.specs.Asked.{AsksFor}
-use Rattle.fund_top.specs.Due.{ComesTo, IsRefusal, Outcome}
+use Rattle.fund_top.specs.Outcome.{ComesTo, IsRefusal, Outcome}
 use Rattle.fund_top.specs.Statuses.{Ends, KeepsOthers, NoneFailed, NoneUnkept, NoneUnread, status_of}
 use Rattle.fund_top.specs.Words.{Command, Fund, names_stand}
 use Rattle.pay_words.specs.declared.asked.Asked.{Asked}

@@ -7,7 +7,7 @@ ghost use Rattle.fund_report.specs.PlainFunded.{PlainFunded};
 ghost use Rattle.pay_words.specs.declared.asked.Asked.{Asked};
 ghost use Rattle.command_pay.specs.AsAsked.{IsAsAsked, IsOther};
 ghost use Rattle.command_pay.specs.Money.{IsMoneyOf};
-ghost use Rattle.command_pay.specs.Pays.{IsTaken, most_for};
+ghost use Rattle.command_pay.specs.Pays.{IsTaken, greatest_fee};
 ghost use Rattle.command_pay.specs.Run.{IsPayment, IsRun};
 
 /// The law of what is paid: where the files are told, a payment is one of the plan to which the wallet, the blocks and exactly
@@ -20,7 +20,7 @@ pub fn payments_are_as_asked()
 /// in order, before the change; each coin that is listed among its inputs; and a fee of at most the greatest that is taken, which
 /// is what its coins are worth beyond its outputs. The change goes to the wallet's script. A call does nothing.
 pub fn money_goes_as_asked()
-    ensures { (a : Asked) (files after : ShelfView) (f : PlainFunded) (log : List ℕ) → IsOther (string_bytes a.names.wallet) → IsOther (string_bytes a.names.blocks) → IsTaken (Unit {0}) a files after f log → (k : IsAsAsked a files f log) × IsMoneyOf a k.wallet.change f × (f.fee ≤ most_for a) }
+    ensures { (a : Asked) (files after : ShelfView) (f : PlainFunded) (log : List ℕ) → IsOther (string_bytes a.names.wallet) → IsOther (string_bytes a.names.blocks) → IsTaken (Unit {0}) a files after f log → (k : IsAsAsked a files f log) × IsMoneyOf a k.wallet.change f × (f.fee ≤ greatest_fee a) }
 {}
 
 /// The law of failed reads: where the files are told, a run that ends with a failed read has raised the count of the wallet's or of

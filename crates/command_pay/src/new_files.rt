@@ -53,7 +53,7 @@ fn write_new<R: Files>(rt: &R, name: &str, bytes: &[u8]) -> io::Result<()> {
 }
 
 /// An answer of the system, told to whoever asked: whatever its error is, it is a failure, which is counted. It is never told
-/// as want of memory.
+/// as out of memory.
 fn told(answer: io::Result<()>, failures: &mut u64) -> Result<(), Fault>
     ensures given { IfOk answer (λ given. result ≡ Ok given) }
     ensures uncounted { OnOk answer (failures.new ≡ failures.old) }

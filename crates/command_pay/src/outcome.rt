@@ -19,7 +19,7 @@ pub enum Ending {
     Paid(FundedReport, Vec<u8>),
     /// There is a payment, of which the first is the fee and the second the greatest that is taken, in satoshi. No file is
     /// written.
-    HighFee(u64, u64),
+    FeeAboveMaximum(u64, u64),
     /// There is none: the status, and the lines that say why. No file is written.
     NotPaid(Status, Vec<u8>),
     /// This file wasn't written. There is one of its name, or the system refuses it.

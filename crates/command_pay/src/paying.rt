@@ -1,13 +1,14 @@
 //! The command that pays.
 
-ghost use Rattle.std.specs.Prelude.{◌≡◌, ◌≤◌, ◌↔◌, IfErr, IfOk, IsTrue};
+ghost use Rattle.std.specs.Prelude.{◌≡◌, ◌≤◌, ◌↔◌, Err, IfErr, IfOk, IsTrue};
 ghost use Rattle.fund_base.specs.Parsing.{YieldsAll};
 ghost use Rattle.fund_report.specs.PlainFunded.{PlainFunded};
 ghost use Rattle.fund_report.specs.ReportText.{IsReportText};
 ghost use Rattle.fund_report.specs.declared.report.Report.TheVariants as kinds;
 ghost use Rattle.pay_words.specs.Asked.{asked_in, plain_asked};
+ghost use Rattle.pay_words.specs.Given.{BeginsWithFlag};
 ghost use Rattle.pay_words.specs.declared.fault.WordFault.TheVariants.{Memory as OutOfMemory};
-ghost use Rattle.command_pay.specs.Pays.{HasTwoNames, Pays, most_for};
+ghost use Rattle.command_pay.specs.Pays.{HasTwoNames, Pays, greatest_fee};
 ghost use Rattle.command_pay.specs.Written.{KeepsFiles};
 
 use crate::fees::{fee_ceiling, is_fee_taken};
@@ -43,17 +44,17 @@ fn is_done(status: Status) -> bool
 }
 
 /// Whether the fee of a payment is taken.
-fn takes(asked: &Asked, report: &FundedReport) -> bool
-    ensures { IsTrue result ↔ (report.now.fee ≤ most_for asked.now) }
+fn accepts_fee(asked: &Asked, report: &FundedReport) -> bool
+    ensures { IsTrue result ↔ (report.now.fee ≤ greatest_fee asked.now) }
 {
     is_fee_taken(report.fee, asked.max_fee, &asked.payments)
 }
 
 /// That the fee of a payment is too high: the fee, and the greatest that is taken.
 fn high_fee(asked: &Asked, report: &FundedReport) -> Ending
-    ensures { result ≡ Ending.HighFee report.now.fee (most_for asked.now) }
+    ensures { result ≡ Ending.FeeAboveMaximum report.now.fee (greatest_fee asked.now) }
 {
-    Ending::HighFee(report.fee, fee_ceiling(asked.max_fee, &asked.payments))
+    Ending::FeeAboveMaximum(report.fee, fee_ceiling(asked.max_fee, &asked.payments))
 }
 
 /// Pays what is asked. The wallet and the blocks are read at `files`, which is answered too: no file of it is changed. Where the
@@ -83,7 +84,7 @@ pub fn pay_asked<H: Shelf + Drop, N: Shelf>(
         Ok(report) => report,
         Err(Memory) => return (Ending::Memory, files),
     };
-    if !takes(asked, &report) {
+    if !accepts_fee(asked, &report) {
         return (high_fee(asked, &report), files);
     }
     match put_files(asked, &report, &log, new_files) {
@@ -104,6 +105,7 @@ pub fn pay<H: Shelf + Drop, N: Shelf>(
     new_files: &mut N,
 ) -> (Result<(Asked, Ending), WordFault>, H)
     ensures words { YieldsAll OutOfMemory (λ r. plain_asked r.0) result.0 (asked_in drawn words.now) }
+    ensures short { result.0 ≡ Err OutOfMemory → BeginsWithFlag words.now }
     ensures unasked { IfErr result.0 (λ fault. (N.view new_files.new) ≡ (N.view new_files.old)) }
     ensures unread { IfErr result.0 (λ fault. (H.view result.1) ≡ (H.view files)) }
     ensures pays { IfOk result.0 (λ r. Pays H.tells N.tells r.0 (H.view files) (H.view result.1) (N.view new_files.old) (N.view new_files.new) r.1) }

@@ -8,7 +8,7 @@ use Rattle.fund_plan.specs.Selection.{PlainFunded}
 use Rattle.fund_plan.specs.State.{PlanState}
 use Rattle.fund_plan.specs.declared.outcome.Outcome.TheVariants as answers
 use Rattle.fund_steps.specs.Plan.{PlainPlan}
-use Rattle.kept_job.specs.Gone.{ClaimsNoneOn, ClaimsOn, ClaimsOnBy}
+use Rattle.kept_job.specs.Continued.{ClaimsNoneOn, ClaimsOn, ClaimsOnBy}
 
 by_mark : (m : Mark) (p : PlainPlan) (from tries : ℕ) (s : PlanState) (f : PlainFunded) → (m ≢ mark.Partial) → ClaimsOnBy m p from tries s f → IsAnswerOf p (answers.Funded f)
 by_mark mark.Exhausted p from tries s f some h = h.1

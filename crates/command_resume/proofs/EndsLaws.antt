@@ -3,8 +3,8 @@ use Rattle.std.proofs.Common.{◌≡◌, ◌∙◌, ℕ, List, Option, Some, Non
 use Rattle.std.specs.Prelude.{◌⊎◌}
 use Rattle.fund_shelf.specs.Causes.{Rose, ShelfView, SinkView}
 use Rattle.block_feed.specs.Block.{ChainBlock}
-use Rattle.fund_files.specs.Chain.{held_of}
-use Rattle.fund_files.specs.declared.held.Held.{Held}
+use Rattle.fund_files.specs.Chain.{chain_from}
+use Rattle.fund_files.specs.declared.chain.Chain.{Chain}
 use Rattle.fund_files.specs.declared.refusal.File.{File}
 use Rattle.fund_outside.specs.Kept.{KeeperView, KeptJob}
 use Rattle.fund_plan.specs.State.{PlanState}
@@ -13,22 +13,22 @@ use Rattle.fund_plan.specs.declared.outcome.Outcome.TheVariants as answers
 use Rattle.fund_steps.specs.Plan.{IsPlan}
 use Rattle.request_text.specs.PlainRequest.{PlainRequest}
 use Rattle.wallet_text.specs.PlainWallet.{PlainWallet}
-use Rattle.kept_job.specs.Gone.{HasGoneOn}
+use Rattle.kept_job.specs.Continued.{HasContinued}
 use Rattle.command_end.specs.Names.{Sources}
 use Rattle.command_end.specs.declared.status.Status.{Status}
 use Rattle.command_end.specs.declared.status.Status.TheVariants as statuses
 use Rattle.command_inputs.specs.Cause.{Cause, cause_of, status_of_cause}
 use Rattle.command_inputs.specs.Digest.{digest_in}
-use Rattle.command_inputs.specs.Due as payments
-use Rattle.command_inputs.specs.Due.{plan_of}
+use Rattle.command_inputs.specs.Outcome as payments
+use Rattle.command_inputs.specs.Outcome.{plan_of}
 use Rattle.command_inputs.specs.Inputs.{AreInputs, IsUnread}
-use Rattle.command_inputs.specs.Meant.{IsDue}
+use Rattle.command_inputs.specs.Meant.{AreRefusedFor}
 use Rattle.command_inputs.specs.Names.{Payment}
 use Rattle.command_inputs.specs.Results as payment_ends
 use Rattle.command_inputs.specs.Results.{IsLogLost}
 use Rattle.command_resume.proofs.OneLaws.{gone_due, gone_not_kept, one_cause, one_fault, ready_not_refused}
 use Rattle.command_resume.proofs.UninterruptedLaws.{told_gone}
-use Rattle.command_resume.specs.Due.{AreReady, ComesTo, Gone, IsGone, NotKept, Outcome, Refused, by_answer_on, status_of}
+use Rattle.command_resume.specs.Outcome.{AreReady, ComesTo, Gone, IsGone, NotKept, Outcome, Refused, by_answer_on, status_of}
 use Rattle.command_resume.specs.Resumed.{HasGone}
 use Rattle.command_resume.specs.Statuses.{Ends, EndsLimited, EndsNotKept, EndsUnwritten, IsReport}
 use Rattle.command_resume.specs.Words.{kept_status}
@@ -41,17 +41,17 @@ pub record NoneFailed (s : Sources) (p : Payment) (shelf shelf' : ShelfView) (si
   pub keepers : Rose keeper.faults keeper'.faults → ⊥
 
 -- what a plan comes to that goes on is no refusal of the files
-answer_on_not : (k : Held) (r : PlainRequest) (st : PlanState) (a : Answer) (cause : Cause) → by_answer_on k r st a ≡ payments.Refused cause → ⊥
+answer_on_not : (k : Chain) (r : PlainRequest) (st : PlanState) (a : Answer) (cause : Cause) → by_answer_on k r st a ≡ payments.Refused cause → ⊥
 answer_on_not k r st answers.Unfinished cause e = absurd (cc)
 answer_on_not k r st answers.NoSelection cause e = absurd (cc)
 answer_on_not k r st (answers.Funded f) cause e = absurd (cc)
 
 pub gone_not : (files : List ℕ → List ℕ) (s : Sources) (p : Payment) (o : Option KeptJob) (due : payments.Outcome) → IsGone files s p o due → (cause : Cause) → due ≡ payments.Refused cause → ⊥
-gone_not files s p o due h cause is = answer_on_not (held_of h.wallet h.blocks) h.asked h.state h.answer cause (sym h.due_is ∙ is)
+gone_not files s p o due h cause is = answer_on_not (chain_from h.wallet h.blocks) h.asked h.state h.answer cause (sym h.due_is ∙ is)
 
 -- ---- files that are in order
 
-ready_not : (files : List ℕ → List ℕ) (s : Sources) (p : Payment) (cause : Cause) → AreReady files s p → IsDue files s p cause → ⊥
+ready_not : (files : List ℕ → List ℕ) (s : Sources) (p : Payment) (cause : Cause) → AreReady files s p → AreRefusedFor files s p cause → ⊥
 ready_not files s p cause h due = ready_not_refused files s p h.wallet h.blocks h.asked cause h.inputs h.plan due
 
 report_ready : (told_files told_jobs : Type 0) (files : List ℕ → List ℕ) (s : Sources) (p : Payment) (o : Option KeptJob) (report : List ℕ) (log : Option (List ℕ)) → told_files → IsReport told_files told_jobs files s p o report log → AreReady files s p
@@ -66,11 +66,11 @@ log_lost p None shelf shelf' h = absurd h
 
 -- ---- where the files are refused and none wasn't read
 
-refused_so : (status : Status) (told_files told : Type 0) (s : Sources) (p : Payment) (shelf : ShelfView) (sink sink' : SinkView) → payment_ends.EndsRefused status told_files told s p shelf sink sink' → told_files → (cause : Cause) → IsDue shelf.files s p cause → status ≡ status_of_cause cause
+refused_so : (status : Status) (told_files told : Type 0) (s : Sources) (p : Payment) (shelf : ShelfView) (sink sink' : SinkView) → payment_ends.EndsRefused status told_files told s p shelf sink sink' → told_files → (cause : Cause) → AreRefusedFor shelf.files s p cause → status ≡ status_of_cause cause
 refused_so status told_files told s p shelf sink sink' h t cause due = sym h.1 ∙ ap status_of_cause (one_cause shelf.files s p (cause_of h.0) cause (h.2 t) due)
 
 pub resume_refused : (told_files told told_jobs : Type 0) (s : Sources) (p : Payment) (job : List ℕ) (shelf shelf' : ShelfView) (sink sink' : SinkView) (keeper keeper' : KeeperView) (status : Status)
-    → Ends told_files told told_jobs s p job shelf shelf' sink sink' keeper keeper' status → told_files → ((file : File) → IsUnread s p file shelf shelf' → ⊥) → (cause : Cause) → IsDue shelf.files s p cause
+    → Ends told_files told told_jobs s p job shelf shelf' sink sink' keeper keeper' status → told_files → ((file : File) → IsUnread s p file shelf shelf' → ⊥) → (cause : Cause) → AreRefusedFor shelf.files s p cause
     → (status ≡ status_of_cause cause) ⊎ (status ≡ statuses.Memory)
 resume_refused tf told tj s p job shelf shelf' sink sink' keeper keeper' statuses.Done h t none cause due = absurd (ready_not shelf.files s p cause (report_ready tf tj shelf.files s p (keeper.jobs job) h.0 (Some h.1) t (inl h.2)) due)
 resume_refused tf told tj s p job shelf shelf' sink sink' keeper keeper' statuses.NoSelection h t none cause due = absurd (ready_not shelf.files s p cause (report_ready tf tj shelf.files s p (keeper.jobs job) h.0 (Some h.1) t (inr h.2)) due)
@@ -92,14 +92,14 @@ resume_refused tf told tj s p job shelf shelf' sink sink' keeper keeper' statuse
 -- ---- where nothing failed
 
 -- where all is told, the plan went on from the job of the files
-pub gone_there : (told_files told_jobs : Type 0) (files : List ℕ → List ℕ) (s : Sources) (p : Payment) (o : Option KeptJob) (k : Held) (r : PlainRequest) (st : PlanState) (a : Answer) → told_files → told_jobs → HasGone told_files told_jobs files s p o k r st a
-    → HasGoneOn (Unit {0}) (plan_of k r) (digest_in files s p) o r.tries st a
+pub gone_there : (told_files told_jobs : Type 0) (files : List ℕ → List ℕ) (s : Sources) (p : Payment) (o : Option KeptJob) (k : Chain) (r : PlainRequest) (st : PlanState) (a : Answer) → told_files → told_jobs → HasGone told_files told_jobs files s p o k r st a
+    → HasContinued (Unit {0}) (plan_of k r) (digest_in files s p) o r.tries st a
 gone_there told_files told_jobs files s p o k r st a t u g =
-    subst (λ (d : List ℕ). HasGoneOn (Unit {0}) (plan_of k r) d o r.tries st a) (g.named t) (told_gone told_jobs (plan_of k r) g.digest o r.tries st a u g.gone)
+    subst (λ (d : List ℕ). HasContinued (Unit {0}) (plan_of k r) d o r.tries st a) (g.named t) (told_gone told_jobs (plan_of k r) g.digest o r.tries st a u g.gone)
 
 -- a plan that went on ends with the status of what is due
-gone_so : (files : List ℕ → List ℕ) (s : Sources) (p : Payment) (o : Option KeptJob) (w : PlainWallet) (blocks : List ChainBlock) (r : PlainRequest) (st : PlanState) (a : Answer) → AreInputs files s p w blocks r → IsPlan (plan_of (held_of w blocks) r)
-    → HasGoneOn (Unit {0}) (plan_of (held_of w blocks) r) (digest_in files s p) o r.tries st a → (due : Outcome) → ComesTo files s p o due → payment_ends.status_of (by_answer_on (held_of w blocks) r st a) ≡ status_of due
+gone_so : (files : List ℕ → List ℕ) (s : Sources) (p : Payment) (o : Option KeptJob) (w : PlainWallet) (blocks : List ChainBlock) (r : PlainRequest) (st : PlanState) (a : Answer) → AreInputs files s p w blocks r → IsPlan (plan_of (chain_from w blocks) r)
+    → HasContinued (Unit {0}) (plan_of (chain_from w blocks) r) (digest_in files s p) o r.tries st a → (due : Outcome) → ComesTo files s p o due → payment_ends.status_of (by_answer_on (chain_from w blocks) r st a) ≡ status_of due
 gone_so files s p o w blocks r st a inputs rules g (Refused cause) is = absurd (ready_not_refused files s p w blocks r cause inputs rules is)
 gone_so files s p o w blocks r st a inputs rules g (NotKept fault) is = absurd (gone_not_kept files s p o fault w blocks r st a inputs g is)
 gone_so files s p o w blocks r st a inputs rules g (Gone d) is = ap (λ (x : payments.Outcome). payment_ends.status_of x) (sym (gone_due files s p o d w blocks r st a inputs g is))
@@ -127,13 +127,13 @@ pub resume_complete : (told_files told told_jobs : Type 0) (s : Sources) (p : Pa
     → (status ≡ status_of due) ⊎ (status ≡ statuses.Memory)
 resume_complete tf told tj s p job shelf shelf' sink sink' keeper keeper' statuses.Done h t u none due is =
     let f = h.2 in
-    inl (gone_so shelf.files s p (keeper.jobs job) f.wallet f.blocks f.asked f.state (answers.Funded f.funded) (f.inputs t) f.gone.rules (gone_there tf tj shelf.files s p (keeper.jobs job) (held_of f.wallet f.blocks) f.asked f.state (answers.Funded f.funded) t u f.gone) due is)
+    inl (gone_so shelf.files s p (keeper.jobs job) f.wallet f.blocks f.asked f.state (answers.Funded f.funded) (f.inputs t) f.gone.rules (gone_there tf tj shelf.files s p (keeper.jobs job) (chain_from f.wallet f.blocks) f.asked f.state (answers.Funded f.funded) t u f.gone) due is)
 resume_complete tf told tj s p job shelf shelf' sink sink' keeper keeper' statuses.NoSelection h t u none due is =
     let f = h.2 in
-    inl (gone_so shelf.files s p (keeper.jobs job) f.wallet f.blocks f.asked f.state answers.NoSelection (f.inputs t) f.gone.rules (gone_there tf tj shelf.files s p (keeper.jobs job) (held_of f.wallet f.blocks) f.asked f.state answers.NoSelection t u f.gone) due is)
+    inl (gone_so shelf.files s p (keeper.jobs job) f.wallet f.blocks f.asked f.state answers.NoSelection (f.inputs t) f.gone.rules (gone_there tf tj shelf.files s p (keeper.jobs job) (chain_from f.wallet f.blocks) f.asked f.state answers.NoSelection t u f.gone) due is)
 resume_complete tf told tj s p job shelf shelf' sink sink' keeper keeper' statuses.Unfinished h t u none due is =
     let f = h.1 in
-    inl (gone_so shelf.files s p (keeper.jobs job) f.wallet f.blocks f.asked f.state answers.Unfinished (f.inputs t) f.gone.rules (gone_there tf tj shelf.files s p (keeper.jobs job) (held_of f.wallet f.blocks) f.asked f.state answers.Unfinished t u f.gone) due is)
+    inl (gone_so shelf.files s p (keeper.jobs job) f.wallet f.blocks f.asked f.state answers.Unfinished (f.inputs t) f.gone.rules (gone_there tf tj shelf.files s p (keeper.jobs job) (chain_from f.wallet f.blocks) f.asked f.state answers.Unfinished t u f.gone) due is)
 resume_complete tf told tj s p job shelf shelf' sink sink' keeper keeper' statuses.Usage h t u none due is = absurd h
 resume_complete tf told tj s p job shelf shelf' sink sink' keeper keeper' statuses.CheckRefused h t u none due is = absurd h
 resume_complete tf told tj s p job shelf shelf' sink sink' keeper keeper' statuses.Input h t u none due is = inl (refusal_so statuses.Input tf told s p (keeper.jobs job) shelf sink sink' h t due is)

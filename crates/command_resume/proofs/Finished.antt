@@ -1,11 +1,11 @@
 -- How the writing, the saving and the printing end is how the command ends.
-use Rattle.std.proofs.Common.{◌≡◌, ◌∙◌, ◌++◌, ℕ, ◌≤◌, ◌+◌, List, Option, Some, None, length, inl, inr, sym, ap, subst}
+use Rattle.std.proofs.Common.{◌≡◌, ◌∙◌, ◌++◌, ℕ, ◌≤◌, ◌+◌, List, Option, Some, None, inl, inr, sym, ap, subst}
 use Rattle.std.specs.Prelude.{◌⊎◌}
 use Rattle.fund_shelf.proofs.Outside.{rose_earlier}
 use Rattle.fund_shelf.specs.Causes.{Rose, ShelfView, SinkView}
 use Rattle.fund_outside.specs.Kept.{KeeperView, KeptJob, SameForOthers}
 use Rattle.fund_plan.specs.State.{PlanState}
-use Rattle.fund_files.specs.Chain.{held_of}
+use Rattle.fund_files.specs.Chain.{chain_from}
 use Rattle.kept_job.proofs.SavingLaws.{longer, more_kept}
 use Rattle.kept_job.specs.Kept.{IsKeptAt}
 use Rattle.kept_job.specs.Saving.{IsSavedBehind}
@@ -13,11 +13,11 @@ use Rattle.command_end.specs.Names.{Sources}
 use Rattle.command_end.specs.Printed.{IsEnd, IsPut, IsUnwritten, IsWithoutMemory}
 use Rattle.command_end.specs.declared.status.Status.{Status}
 use Rattle.command_end.specs.declared.status.Status.TheVariants as statuses
-use Rattle.command_inputs.specs.Due.{plan_of}
+use Rattle.command_inputs.specs.Outcome.{plan_of}
 use Rattle.command_inputs.specs.Jobs.{KeepsJobs}
 use Rattle.command_inputs.specs.Names.{Payment}
 use Rattle.command_resume.proofs.UninterruptedLaws.{told_gone}
-use Rattle.command_resume.specs.Due.{AreReady}
+use Rattle.command_resume.specs.Outcome.{AreReady}
 use Rattle.command_resume.specs.Endings.{IsLeftBy}
 use Rattle.command_resume.specs.Leaving.{HasLeft, IsNotLeft, IsSavedOn}
 use Rattle.command_resume.specs.Resumed.{IsLeftOn}
@@ -59,7 +59,7 @@ module _ (told_files told told_jobs : Type 0) (s : Sources) (p : Payment) (job :
   -- what was saved behind the job as it was read was saved behind it as it was before
   saved_from : told_jobs → IsSavedOn job left middle keeper' → IsSavedOn job left keeper keeper'
   saved_from t saved = record {
-    saved = subst (λ (o : Option KeptJob). IsSavedBehind left.job.digest left.plan left.job.behind.parts left.job.behind.length o (keeper'.jobs job)) (ap (λ (jobs : List ℕ → Option KeptJob). jobs job) (as_kept t)) saved.saved;
+    saved = subst (λ (o : Option KeptJob). IsSavedBehind left.job.digest left.plan left.job.behind.parts left.job.behind.bytes o (keeper'.jobs job)) (ap (λ (jobs : List ℕ → Option KeptJob). jobs job) (as_kept t)) saved.saved;
     others = subst (λ (jobs : List ℕ → Option KeptJob). SameForOthers job jobs keeper'.jobs) (as_kept t) saved.others;
   }
 
@@ -67,17 +67,17 @@ module _ (told_files told told_jobs : Type 0) (s : Sources) (p : Payment) (job :
   left_on : told_jobs → IsSavedOn job left keeper keeper' → IsLeftOn told_files told_jobs shelf.files s p job left.report.items keeper keeper' h.unfinished
   left_on t saved =
       let u = h.unfinished in
-      let behind : IsSavedBehind u.gone.digest u.state u.gone.gone.saved.parts (length u.gone.gone.bytes) (keeper.jobs job) (keeper'.jobs job) =
-      subst (λ (n : ℕ). IsSavedBehind u.gone.digest u.state u.gone.gone.saved.parts n (keeper.jobs job) (keeper'.jobs job)) (h.length_is t)
-      (subst (λ (n : ℕ). IsSavedBehind u.gone.digest u.state n left.job.behind.length (keeper.jobs job) (keeper'.jobs job)) h.parts_are
-      (subst (λ (d : List ℕ). IsSavedBehind d u.state left.job.behind.parts left.job.behind.length (keeper.jobs job) (keeper'.jobs job)) h.digest_is
-      (subst (λ (x : PlanState). IsSavedBehind left.job.digest x left.job.behind.parts left.job.behind.length (keeper.jobs job) (keeper'.jobs job)) h.plan_is saved.saved))) in
+      let behind : IsSavedBehind u.gone.digest u.state u.gone.gone.saved.parts u.gone.gone.bytes (keeper.jobs job) (keeper'.jobs job) =
+      subst (λ (bytes : List ℕ). IsSavedBehind u.gone.digest u.state u.gone.gone.saved.parts bytes (keeper.jobs job) (keeper'.jobs job)) h.bytes_are
+      (subst (λ (n : ℕ). IsSavedBehind u.gone.digest u.state n left.job.behind.bytes (keeper.jobs job) (keeper'.jobs job)) h.parts_are
+      (subst (λ (d : List ℕ). IsSavedBehind d u.state left.job.behind.parts left.job.behind.bytes (keeper.jobs job) (keeper'.jobs job)) h.digest_is
+      (subst (λ (x : PlanState). IsSavedBehind left.job.digest x left.job.behind.parts left.job.behind.bytes (keeper.jobs job) (keeper'.jobs job)) h.plan_is saved.saved))) in
       record {
         others = saved.others;
         saved = behind;
-        longer = longer u.gone.digest u.state u.gone.gone.saved.parts (length u.gone.gone.bytes) (keeper.jobs job) (keeper'.jobs job) behind;
+        longer = longer u.gone.digest u.state u.gone.gone.saved.parts u.gone.gone.bytes (keeper.jobs job) (keeper'.jobs job) behind;
         kept = λ f n k.
-            let plan = plan_of (held_of u.wallet u.blocks) u.asked in
+            let plan = plan_of (chain_from u.wallet u.blocks) u.asked in
             let was : IsKeptAt plan u.gone.digest n (keeper.jobs job) = subst (λ (d : List ℕ). IsKeptAt plan d n (keeper.jobs job)) (sym (u.gone.named f)) k in
             let now : IsKeptAt plan u.gone.digest (n + u.asked.tries) (keeper'.jobs job) =
             more_kept plan n u.asked.tries u.gone.digest (keeper.jobs job) (keeper'.jobs job) u.state _ (told_gone told_jobs plan u.gone.digest (keeper.jobs job) u.asked.tries u.state _ t u.gone.gone) u.gone.steps was behind in

@@ -1,8 +1,8 @@
 -- What is read of the files and of the job, joined; and why going on stops.
 use Rattle.std.proofs.Common.{◌≡◌, ◌∙◌, ℕ, List, Option, refl, sym, ap, subst}
 use Rattle.fund_shelf.specs.Causes.{Rose, ShelfView}
-use Rattle.fund_files.specs.Chain.{held_of}
-use Rattle.fund_files.specs.declared.held.Held.{Held}
+use Rattle.fund_files.specs.Chain.{chain_from}
+use Rattle.fund_files.specs.declared.chain.Chain.{Chain}
 use Rattle.fund_outside.specs.Kept.{KeeperView, KeptJob}
 use Rattle.fund_plan.specs.Answer.{ArePayments, HasSelection}
 use Rattle.fund_plan.specs.Steps.{steps_of}
@@ -16,14 +16,14 @@ use Rattle.search_run.specs.Step.{AreSteps}
 use Rattle.command_end.specs.Names.{Sources}
 use Rattle.command_inputs.proofs.PlanLaws.{stops_on}
 use Rattle.command_inputs.specs.Digest.{digest_in}
-use Rattle.command_inputs.specs.Due.{plan_of}
+use Rattle.command_inputs.specs.Outcome.{plan_of}
 use Rattle.command_inputs.specs.Inputs.{AreAsked}
 use Rattle.command_inputs.specs.Names.{Payment}
 use Rattle.command_inputs.specs.PlanEnds.{StopsPlan}
 use Rattle.command_inputs.specs.Stops as fund_stops
 use Rattle.command_inputs.specs.declared.refusal.Stop as funds
 use Rattle.command_resume.proofs.LeavingLaws.{ended_on, untold}
-use Rattle.command_resume.specs.Due.{AreReady, IsNotKept}
+use Rattle.command_resume.specs.Outcome.{AreReady, IsNotKept}
 use Rattle.command_resume.specs.Endings.{IsEnded}
 use Rattle.command_resume.specs.Ready.{HasEnded, IsPlanned, IsReady}
 use Rattle.command_resume.specs.Runs.{IsConcluded, IsRunOn, Run}
@@ -32,17 +32,17 @@ use Rattle.command_inputs.specs.declared.funding.Ending.{Ending}
 use Rattle.command_resume.specs.declared.resuming.LoadedJob.{LoadedJob}
 use Rattle.command_resume.specs.declared.resuming.Ready.{Ready}
 
-module _ (told_files : Type 0) (s : Sources) (p : Payment) (k : Held) (r : PlainRequest) (old : ShelfView) (asked : AreAsked told_files old.files s p k r) where
+module _ (told_files : Type 0) (s : Sources) (p : Payment) (k : Chain) (r : PlainRequest) (old : ShelfView) (asked : AreAsked told_files old.files s p k r) where
   -- ---- why it stops
 
   pub plan_stopped : (new : ShelfView) (stop : funds.Stop) → StopsPlan k r stop → fund_stops.StopsFor told_files s p old new stop
-  plan_stopped new stop is = stops_on told_files s p k.wallet asked.held.blocks r old new stop asked.inputs (subst (λ (x : Held). StopsPlan x r stop) asked.held.is is)
+  plan_stopped new stop is = stops_on told_files s p k.wallet asked.held.blocks r old new stop asked.inputs (subst (λ (x : Chain). StopsPlan x r stop) asked.held.is is)
 
   -- ---- the job
 
   module _ (told_jobs : Type 0) (job : List ℕ) (keeper keeper' : KeeperView) (plan : PlainPlan) (is : plan ≡ plan_of k r) (rules : IsPlan plan) (are : AreSteps (steps_of plan)) (digest : List ℕ) (named : told_files → digest ≡ digest_in old.files s p) (n : ℕ) (tries : n ≡ r.tries) where
-    own : plan ≡ plan_of (held_of k.wallet asked.held.blocks) r
-    own = is ∙ ap (λ (x : Held). plan_of x r) asked.held.is
+    own : plan ≡ plan_of (chain_from k.wallet asked.held.blocks) r
+    own = is ∙ ap (λ (x : Chain). plan_of x r) asked.held.is
 
     ready : told_files → AreReady old.files s p
     ready t = record { wallet = k.wallet; blocks = asked.held.blocks; asked = r; inputs = asked.inputs t; plan = subst IsPlan own rules }
@@ -57,8 +57,8 @@ module _ (told_files : Type 0) (s : Sources) (p : Payment) (k : Held) (r : Plain
       steps = subst (λ (x : PlainPlan). AreSteps (steps_of x)) own are;
       own = of_job;
       fault_is =
-          subst (λ (d : List ℕ). IsNotResumed (plan_of (held_of k.wallet asked.held.blocks) r) d (keeper.jobs job) r.tries fault) (named t)
-          (subst (λ (m : ℕ). IsNotResumed (plan_of (held_of k.wallet asked.held.blocks) r) digest (keeper.jobs job) m fault) tries
+          subst (λ (d : List ℕ). IsNotResumed (plan_of (chain_from k.wallet asked.held.blocks) r) d (keeper.jobs job) r.tries fault) (named t)
+          (subst (λ (m : ℕ). IsNotResumed (plan_of (chain_from k.wallet asked.held.blocks) r) digest (keeper.jobs job) m fault) tries
           (subst (λ (x : PlainPlan). IsNotResumed x digest (keeper.jobs job) n fault) own h));
     }
 
@@ -71,6 +71,7 @@ module _ (told_files : Type 0) (s : Sources) (p : Payment) (k : Held) (r : Plain
     kept_stopped faults.Spent rose h = (λ t u. not_kept faults.Spent tt (h u) t, ready)
     kept_stopped (faults.Part number) rose h = (λ t u. not_kept (faults.Part number) tt (h u) t, ready)
     kept_stopped faults.LongLog rose h = (λ t u. not_kept faults.LongLog tt (h u) t, ready)
+    kept_stopped (faults.Parts a b) rose h = (λ t u. not_kept (faults.Parts a b) tt (h u) t, ready)
     kept_stopped (faults.Section i) rose h = (λ t u. not_kept (faults.Section i) tt (h u) t, ready)
     kept_stopped faults.IllFormed rose h = (λ t u. not_kept faults.IllFormed tt (h u) t, ready)
     kept_stopped (faults.Log i f) rose h = (λ t u. not_kept (faults.Log i f) tt (h u) t, ready)
@@ -87,8 +88,8 @@ module _ (told_files : Type 0) (s : Sources) (p : Payment) (k : Held) (r : Plain
       pub run_ends : (e : Ending LoadedJob) → IsConcluded k r run e → IsEnded told_files told_jobs old.files s p (keeper.jobs job) e
       run_ends e c =
           ended_on told_files told_jobs old.files s p (keeper.jobs job) k.wallet asked.held.blocks r run asked.inputs (subst IsPlan own rules) (subst (λ (x : PlainPlan). AreSteps (steps_of x)) own are)
-          (λ t. same ∙ named t) (subst (λ (x : Held). HasResumed told_jobs (plan_of x r) run.digest (keeper.jobs job) r.tries run.plan run.resumed) asked.held.is there)
-          (subst (λ (x : PlainPlan). ArePayments x run.resumed.outcome) own pays) e (subst (λ (x : Held). IsConcluded x r run e) asked.held.is c)
+          (λ t. same ∙ named t) (subst (λ (x : Chain). HasResumed told_jobs (plan_of x r) run.digest (keeper.jobs job) r.tries run.plan run.resumed) asked.held.is there)
+          (subst (λ (x : PlainPlan). ArePayments x run.resumed.outcome) own pays) e (subst (λ (x : Chain). IsConcluded x r run e) asked.held.is c)
 
 -- ---- the fault of a run
 

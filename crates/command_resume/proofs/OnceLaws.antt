@@ -26,16 +26,16 @@ use Rattle.search_run.specs.Run.{Stand, beginning, go_on}
 use Rattle.search_run.specs.Step.{PlainStep}
 use Rattle.search_run.specs.declared.ending.End.{End}
 use Rattle.search_run.specs.declared.ending.End.TheVariants as ends
-use Rattle.fund_files.specs.declared.held.Held.{Held}
+use Rattle.fund_files.specs.declared.chain.Chain.{Chain}
 use Rattle.fund_payment.specs.Report.{psbt_of, report_of}
-use Rattle.command_inputs.specs.Due.{by_cause, by_plan_after, none_report, open_report, plan_by, plan_cause, planned, planned_after, terms_for}
-use Rattle.command_inputs.specs.Due as payments
+use Rattle.command_inputs.specs.Outcome.{by_cause, by_plan_after, none_report, open_report, plan_by, plan_cause, planned, planned_after, terms_for}
+use Rattle.command_inputs.specs.Outcome as payments
 
 -- the same request with so many tries
 abbrev pub asking : PlainRequest → ℕ → PlainRequest
 asking r n = record r { tries = n }
 
-module _ (k : Held) (r : PlainRequest) (n : ℕ) (terms : Option PlainTerms) where
+module _ (k : Chain) (r : PlainRequest) (n : ℕ) (terms : Option PlainTerms) where
   abbrev own : PlainPlan
   own = plan_by k r terms
 
@@ -103,10 +103,10 @@ module _ (k : Held) (r : PlainRequest) (n : ℕ) (terms : Option PlainTerms) whe
       ∙ ap (λ (l : PlainLog). payments.Funded (report_of k.book r k.wallet.change (tries_at own m) f) (logs.text_of l)) (log_same m))
 
 -- what is due of a plan for a request after so many tries
-abbrev due_by : Held → PlainRequest → ℕ → PlainPlan → payments.Outcome
+abbrev due_by : Chain → PlainRequest → ℕ → PlainPlan → payments.Outcome
 due_by k r n p = by_cause (plan_cause (fault_of p)) (by_plan_after k r p n (outcome_at p n))
 
-due_same : (k : Held) (r : PlainRequest) (n : ℕ) (terms : Option PlainTerms) → due_by k (asking r n) n (plan_by k (asking r n) terms) ≡ due_by k r n (plan_by k r terms)
+due_same : (k : Chain) (r : PlainRequest) (n : ℕ) (terms : Option PlainTerms) → due_by k (asking r n) n (plan_by k (asking r n) terms) ≡ due_by k r n (plan_by k r terms)
 due_same k r n terms =
     let own : PlainPlan = plan_by k r terms in
     let other : PlainPlan = plan_by k (asking r n) terms in
@@ -115,10 +115,10 @@ due_same k r n terms =
     ∙ ap (λ (o : payments.Outcome). by_cause (plan_cause (fault_of own)) o) (answer_same k r n terms n (outcome_at own n)))
 
 -- no terms of a replacement speak of tries
-terms_same : (k : Held) (r : PlainRequest) (n : ℕ) → terms_for k (asking r n) ≡ terms_for k r
+terms_same : (k : Chain) (r : PlainRequest) (n : ℕ) → terms_for k (asking r n) ≡ terms_for k r
 unfolding terms_of least_vsize
 terms_same k r n = refl
 
-pub same_at_once : (k : Held) (r : PlainRequest) (n : ℕ) → planned k (asking r n) ≡ planned_after k r n
+pub same_at_once : (k : Chain) (r : PlainRequest) (n : ℕ) → planned k (asking r n) ≡ planned_after k r n
 unfolding planned planned_after
 same_at_once k r n = ap (λ (terms : Option PlainTerms). due_by k (asking r n) n (plan_by k (asking r n) terms)) (terms_same k r n) ∙ due_same k r n (terms_for k r)

@@ -19,14 +19,14 @@ use Rattle.command_end.specs.declared.status.Status.{Status}
 use Rattle.command_end.specs.declared.status.Status.TheVariants as statuses
 use Rattle.command_inputs.proofs.StopLaws as fund_laws
 use Rattle.command_inputs.specs.Cause.{Cause, Files, Bump, Plan, cause_of, status_of_cause, status_of_plan}
-use Rattle.command_inputs.specs.Meant.{IsDue}
+use Rattle.command_inputs.specs.Meant.{AreRefusedFor}
 use Rattle.command_inputs.specs.Names.{Payment}
 use Rattle.command_inputs.specs.Stops as fund_stops
 use Rattle.command_inputs.specs.Words as fund_words
 use Rattle.command_inputs.specs.declared.refusal.Refusal.{Refusal}
 use Rattle.command_inputs.specs.declared.refusal.Stop as funds
 use Rattle.command_inputs.specs.declared.refusal.Stop.TheVariants as fund_variants
-use Rattle.command_resume.specs.Due.{AreReady, IsNotKept}
+use Rattle.command_resume.specs.Outcome.{AreReady, IsNotKept}
 use Rattle.command_resume.specs.Statuses.{Ends}
 use Rattle.command_resume.specs.Stops.{StopsFor, StopsKept}
 use Rattle.command_resume.specs.Words.{IsStopped, kept_status, kept_words}
@@ -59,7 +59,7 @@ module _ (told_files told told_jobs : Type 0) (s : Sources) (p : Payment) (job :
   wanting_ends shelf shelf' sink sink' keeper keeper' result same kept w =
       subst (λ (x : Status). Ends told_files told told_jobs s p job shelf shelf' sink sink' keeper keeper' x) (sym w.0) (inl (w.1, kept, same))
 
-  refused_ends : (refusal : Refusal) (shelf shelf' : ShelfView) (sink sink' : SinkView) (keeper keeper' : KeeperView) → (told_files → IsDue shelf.files s p (cause_of refusal)) → (told → GotLine (fault_line (fund_words.refusal_words refusal)) sink sink')
+  refused_ends : (refusal : Refusal) (shelf shelf' : ShelfView) (sink sink' : SinkView) (keeper keeper' : KeeperView) → (told_files → AreRefusedFor shelf.files s p (cause_of refusal)) → (told → GotLine (fault_line (fund_words.refusal_words refusal)) sink sink')
       → (status_of_cause (cause_of refusal) ≡ statuses.Input) ⊎ (status_of_cause (cause_of refusal) ≡ statuses.Limit) → Ends told_files told told_jobs s p job shelf shelf' sink sink' keeper keeper' (status_of_cause (cause_of refusal))
   refused_ends refusal shelf shelf' sink sink' keeper keeper' due line (inl e) = subst (λ (x : Status). Ends told_files told told_jobs s p job shelf shelf' sink sink' keeper keeper' x) (sym e) (refusal, e, due, line)
   refused_ends refusal shelf shelf' sink sink' keeper keeper' due line (inr e) = subst (λ (x : Status). Ends told_files told told_jobs s p job shelf shelf' sink sink' keeper keeper' x) (sym e) (inl (refusal, e, due, line))
@@ -81,6 +81,7 @@ module _ (told_files told told_jobs : Type 0) (s : Sources) (p : Payment) (job :
   own_ends faults.Spent shelf shelf' sink sink' keeper keeper' own h line = inr (faults.Spent, refl, own, h.0, line, h.1)
   own_ends (faults.Part n) shelf shelf' sink sink' keeper keeper' own h line = (faults.Part n, refl, own, h.0, line, h.1)
   own_ends faults.LongLog shelf shelf' sink sink' keeper keeper' own h line = inr (faults.LongLog, refl, own, h.0, line, h.1)
+  own_ends (faults.Parts a b) shelf shelf' sink sink' keeper keeper' own h line = (faults.Parts a b, refl, own, h.0, line, h.1)
   own_ends (faults.Section i) shelf shelf' sink sink' keeper keeper' own h line = (faults.Section i, refl, own, h.0, line, h.1)
   own_ends faults.IllFormed shelf shelf' sink sink' keeper keeper' own h line = (faults.IllFormed, refl, own, h.0, line, h.1)
   own_ends (faults.Log i f) shelf shelf' sink sink' keeper keeper' own h line = (faults.Log i f, refl, own, h.0, line, h.1)
@@ -98,6 +99,7 @@ module _ (told_files told told_jobs : Type 0) (s : Sources) (p : Payment) (job :
   kept_by faults.Spent shelf shelf' sink sink' keeper keeper' h same kept line = own_ends faults.Spent shelf shelf' sink sink' keeper keeper' tt h line
   kept_by (faults.Part n) shelf shelf' sink sink' keeper keeper' h same kept line = own_ends (faults.Part n) shelf shelf' sink sink' keeper keeper' tt h line
   kept_by faults.LongLog shelf shelf' sink sink' keeper keeper' h same kept line = own_ends faults.LongLog shelf shelf' sink sink' keeper keeper' tt h line
+  kept_by (faults.Parts a b) shelf shelf' sink sink' keeper keeper' h same kept line = own_ends (faults.Parts a b) shelf shelf' sink sink' keeper keeper' tt h line
   kept_by (faults.Section i) shelf shelf' sink sink' keeper keeper' h same kept line = own_ends (faults.Section i) shelf shelf' sink sink' keeper keeper' tt h line
   kept_by faults.IllFormed shelf shelf' sink sink' keeper keeper' h same kept line = own_ends faults.IllFormed shelf shelf' sink sink' keeper keeper' tt h line
   kept_by (faults.Log i f) shelf shelf' sink sink' keeper keeper' h same kept line = own_ends (faults.Log i f) shelf shelf' sink sink' keeper keeper' tt h line
@@ -117,6 +119,7 @@ kept_untold (faults.JobElse a b) whole = whole
 kept_untold faults.Spent whole = whole
 kept_untold (faults.Part n) whole = whole
 kept_untold faults.LongLog whole = whole
+kept_untold (faults.Parts a b) whole = whole
 kept_untold (faults.Section i) whole = whole
 kept_untold faults.IllFormed whole = whole
 kept_untold (faults.Log i f) whole = whole

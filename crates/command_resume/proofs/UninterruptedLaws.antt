@@ -19,25 +19,25 @@ use Rattle.search_run.specs.Run.{Stand}
 use Rattle.search_run.specs.Step.{PlainStep}
 use Rattle.search_run.specs.declared.ending.End.{End}
 use Rattle.search_run.specs.declared.ending.End.TheVariants as ends
-use Rattle.fund_files.specs.declared.held.Held.{Held}
+use Rattle.fund_files.specs.declared.chain.Chain.{Chain}
 use Rattle.fund_payment.specs.Report.{report_of}
 use Rattle.kept_job.proofs.SameLaws.{goes_alike}
-use Rattle.kept_job.specs.Gone.{HasGoneOn}
+use Rattle.kept_job.specs.Continued.{HasContinued}
 use Rattle.kept_job.specs.Kept.{IsAsAfter}
 use Rattle.command_end.specs.Names.{Sources}
 use Rattle.command_inputs.specs.Digest.{digest_in}
-use Rattle.command_inputs.specs.Due.{Funded, NoSelection, Unfinished, by_answer_after, by_cause, none_report, open_report, plan_cause, plan_of, planned_after}
-use Rattle.command_inputs.specs.Due as payments
+use Rattle.command_inputs.specs.Outcome.{Funded, NoSelection, Unfinished, by_answer_after, by_cause, none_report, open_report, plan_cause, plan_of, planned_after}
+use Rattle.command_inputs.specs.Outcome as payments
 use Rattle.command_inputs.specs.Names.{Payment}
-use Rattle.command_resume.specs.Due.{by_answer_on}
+use Rattle.command_resume.specs.Outcome.{by_answer_on}
 use Rattle.command_resume.specs.Resumed.{HasGone, IsUninterrupted}
 
 -- where the jobs are told, what was loaded is the job's
-abbrev pub told_gone : (told_jobs : Type 0) (p : PlainPlan) (now : List ℕ) (o : Option KeptJob) (m : ℕ) (s : PlanState) (a : Answer) → told_jobs → HasGoneOn told_jobs p now o m s a → HasGoneOn (Unit {0}) p now o m s a
+abbrev pub told_gone : (told_jobs : Type 0) (p : PlainPlan) (now : List ℕ) (o : Option KeptJob) (m : ℕ) (s : PlanState) (a : Answer) → told_jobs → HasContinued told_jobs p now o m s a → HasContinued (Unit {0}) p now o m s a
 told_gone told_jobs p now o m s a t g = record { saved = g.saved; log = g.log; bytes = g.bytes; loaded = λ u. g.loaded t; can = g.can; stands = g.stands; comes_to = g.comes_to; accepted = g.accepted }
 
 -- what is due of a plan that keeps its rules
-planned_is : (k : Held) (r : PlainRequest) (n : ℕ) → IsPlan (plan_of k r) → planned_after k r n ≡ by_answer_after k r n (outcome_at (plan_of k r) n)
+planned_is : (k : Chain) (r : PlainRequest) (n : ℕ) → IsPlan (plan_of k r) → planned_after k r n ≡ by_answer_after k r n (outcome_at (plan_of k r) n)
 unfolding planned_after
 planned_is k r n h = ap (λ (f : Option PlanFault). by_cause (plan_cause f) (by_answer_after k r n (outcome_at (plan_of k r) n))) (none_found (plan_of k r) h)
 
@@ -65,7 +65,7 @@ unfolding outcome_at log_at
 tail_at p n e = tail_open (is_partial (end_at p (stand_after p n))) (stand_after p n) (not_partial p (end_at p (stand_after p n)) e)
 
 -- what a plan comes to where it stands is what comes after so many tries
-same_due : (k : Held) (r : PlainRequest) (n : ℕ) (s : PlanState) (a : Answer) → a ≡ told s → s.plan ≡ plan_of k r → IsAsAfter (plan_of k r) n s a → by_answer_after k r n a ≡ by_answer_on k r s a
+same_due : (k : Chain) (r : PlainRequest) (n : ℕ) (s : PlanState) (a : Answer) → a ≡ told s → s.plan ≡ plan_of k r → IsAsAfter (plan_of k r) n s a → by_answer_after k r n a ≡ by_answer_on k r s a
 same_due k r n s answers.Unfinished is own alike =
     let here : (log_in s).tail ≡ tail_of s.stand s.stand.left = tail_open (is_partial (end_in s)) s.stand (not_partial s.plan (end_in s) (sym is)) in
     let there : (log_at (plan_of k r) n).tail ≡ tail_of (stand_after (plan_of k r) n) (stand_after (plan_of k r) n).left = tail_at (plan_of k r) n (sym alike.outcome) in
@@ -83,11 +83,11 @@ same_due k r n s (answers.Funded f) is own alike =
     ap (λ (m : ℕ). Funded (report_of k.book r k.wallet.change m f) (logs.text_of (log_at (plan_of k r) n))) (sym alike.tries)
     ∙ ap (λ (l : PlainLog). Funded (report_of k.book r k.wallet.change s.stand.past.tries f) (logs.text_of l)) (sym alike.log)
 
-pub uninterrupted : (told_files told_jobs : Type 0) (files : List ℕ → List ℕ) (s : Sources) (p : Payment) (o : Option KeptJob) (k : Held) (r : PlainRequest) (st : PlanState) (a : Answer) → HasGone told_files told_jobs files s p o k r st a
+pub uninterrupted : (told_files told_jobs : Type 0) (files : List ℕ → List ℕ) (s : Sources) (p : Payment) (o : Option KeptJob) (k : Chain) (r : PlainRequest) (st : PlanState) (a : Answer) → HasGone told_files told_jobs files s p o k r st a
     → (due : payments.Outcome) → due ≡ by_answer_on k r st a → IsUninterrupted told_files told_jobs files s p o k r due
 uninterrupted told_files told_jobs files s p o k r st a g due is = λ f t n kept.
-    let gone : HasGoneOn (Unit {0}) (plan_of k r) (digest_in files s p) o r.tries st a =
-    subst (λ (d : List ℕ). HasGoneOn (Unit {0}) (plan_of k r) d o r.tries st a) (g.named f) (told_gone told_jobs (plan_of k r) g.digest o r.tries st a t g.gone) in
+    let gone : HasContinued (Unit {0}) (plan_of k r) (digest_in files s p) o r.tries st a =
+    subst (λ (d : List ℕ). HasContinued (Unit {0}) (plan_of k r) d o r.tries st a) (g.named f) (told_gone told_jobs (plan_of k r) g.digest o r.tries st a t g.gone) in
     let alike = goes_alike (plan_of k r) g.steps n r.tries (digest_in files s p) o kept st a gone in
     let own : st.plan ≡ plan_of k r = ap (λ (x : PlanState). x.plan) gone.stands in
     planned_is k r (n + r.tries) g.rules

@@ -1,5 +1,5 @@
 -- How a job that is gone on with ends, as the code tells it.
-use Rattle.std.specs.Prelude.{ℕ, ◌≡◌, ◌<◌, ◌+◌, List, length, Option}
+use Rattle.std.specs.Prelude.{ℕ, ◌≡◌, ◌<◌, ◌+◌, List, Option}
 use Rattle.fund_outside.specs.Kept.{KeptJob}
 use Rattle.kept_job.specs.SavingRules.{CanBeKept}
 use Rattle.command_end.specs.Names.{Sources}
@@ -21,7 +21,7 @@ pub record IsLeftBy (told_files told_jobs : Type 0) (files : List ℕ → List �
   pub plan_is : l.plan ≡ unfinished.state
   pub digest_is : l.job.digest ≡ unfinished.gone.digest
   pub parts_are : l.job.behind.parts ≡ unfinished.gone.gone.saved.parts
-  pub length_is : told_jobs → l.job.behind.length ≡ length unfinished.gone.gone.bytes
+  pub bytes_are : l.job.behind.bytes ≡ unfinished.gone.gone.bytes
   pub can : CanBeLeft l
 
 -- this is how it ends

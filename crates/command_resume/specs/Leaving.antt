@@ -12,7 +12,7 @@ use Rattle.command_resume.specs.declared.resuming.LoadedJob.{LoadedJob}
 
 -- the job is saved behind what was kept of it, and the others are as before
 pub record IsSavedOn (job : List ℕ) (left : Left LoadedJob) (keeper keeper' : KeeperView) : Type 0 where
-  pub saved : IsSavedBehind left.job.digest left.plan left.job.behind.parts left.job.behind.length (keeper.jobs job) (keeper'.jobs job)
+  pub saved : IsSavedBehind left.job.digest left.plan left.job.behind.parts left.job.behind.bytes (keeper.jobs job) (keeper'.jobs job)
   pub others : SameForOthers job keeper.jobs keeper'.jobs
 
 -- Nothing was kept: the keeper failed, or there was not enough memory; with its line.

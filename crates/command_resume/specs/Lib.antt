@@ -1,6 +1,6 @@
-pub mod Due
 pub mod Endings
 pub mod Leaving
+pub mod Outcome
 pub mod Ready
 pub mod Resumed
 pub mod Runs

@@ -8,7 +8,7 @@ use Rattle.search_run.specs.Step.{AreSteps}
 use Rattle.kept_job.specs.Resuming.{HasResumed}
 use Rattle.command_end.specs.Names.{Sources}
 use Rattle.command_inputs.specs.Digest.{digest_in}
-use Rattle.command_inputs.specs.Due.{plan_of}
+use Rattle.command_inputs.specs.Outcome.{plan_of}
 use Rattle.command_inputs.specs.Inputs.{AreAsked}
 use Rattle.command_inputs.specs.Names.{Payment}
 use Rattle.command_resume.specs.Runs.{IsConcluded, Run}

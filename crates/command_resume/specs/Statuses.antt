@@ -11,7 +11,7 @@ use Rattle.command_end.specs.declared.status.Status.TheVariants as statuses
 use Rattle.command_inputs.specs.Names.{Payment}
 use Rattle.command_inputs.specs.Results as payments
 use Rattle.command_inputs.specs.Results.{IsLogLost, IsLogged}
-use Rattle.command_resume.specs.Due.{AreReady, IsNotKept}
+use Rattle.command_resume.specs.Outcome.{AreReady, IsNotKept}
 use Rattle.command_resume.specs.Resumed.{IsFunded, IsLeftOn, IsNotFunded, IsUnfinished}
 use Rattle.command_resume.specs.Words.{kept_status, kept_words}
 

@@ -7,7 +7,7 @@ use Rattle.kept_job.specs.declared.fault.KeptFault.TheVariants.{Failed, Memory}
 use Rattle.command_end.specs.Names.{Sources}
 use Rattle.command_inputs.specs.Names.{Payment}
 use Rattle.command_inputs.specs.Stops as payments
-use Rattle.command_resume.specs.Due.{AreReady, IsNotKept}
+use Rattle.command_resume.specs.Outcome.{AreReady, IsNotKept}
 use Rattle.command_resume.specs.declared.stop.Stop.{Stop}
 use Rattle.command_resume.specs.declared.stop.Stop.TheVariants as stops
 

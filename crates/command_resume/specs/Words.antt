@@ -5,7 +5,7 @@ use Rattle.command_end.specs.Words.{log_fault_words}
 use Rattle.fund_shelf.specs.Causes.{SinkView}
 use Rattle.hex.specs.Hex.{encode_lower}
 use Rattle.kept_job.specs.declared.fault.KeptFault.{KeptFault}
-use Rattle.kept_job.specs.declared.fault.KeptFault.TheVariants.{NoJob, Form, JobElse, Spent, Part, LongLog, Section, IllFormed, Log, Failed, Memory}
+use Rattle.kept_job.specs.declared.fault.KeptFault.TheVariants.{NoJob, Form, JobElse, Spent, Part, LongLog, Parts, Section, IllFormed, Log, Failed, Memory}
 use Rattle.command_end.specs.AnswerLines.{IsAnswered}
 use Rattle.command_end.specs.Names.{Sources}
 use Rattle.command_end.specs.declared.status.Status.{Status}
@@ -23,6 +23,7 @@ kept_words (JobElse kept now) = codes "saved JobElse " ++ (encode_lower kept ++ 
 kept_words Spent = codes "limit tries"
 kept_words (Part number) = codes "saved SavedFalse Part " ++ decimal number
 kept_words LongLog = codes "limit log"
+kept_words (Parts kept now) = codes "saved SavedFalse Parts " ++ (encode_lower kept ++ (32 ∷ encode_lower now))
 kept_words (Section i) = codes "saved SavedFalse Section " ++ decimal i
 kept_words IllFormed = codes "saved SavedFalse IllFormed"
 kept_words (Log i fault) = codes "saved SavedFalse Log " ++ (decimal i ++ (32 ∷ log_fault_words fault))

@@ -14,7 +14,7 @@ ghost use Rattle.command_resume.specs.Statuses.{Ends};
 
 use crate::answer::answer;
 use crate::resuming::{LoadedJob, go_on};
-use command_end::{Sources, Status, finish, put_report, refuse_keep, want_of_memory};
+use command_end::{Sources, Status, finish, out_of_memory, put_report, refuse_keep};
 use command_inputs::{Ending, Left, Payment};
 use fund_outside::{KeepFault, Keeper};
 use fund_shelf::{Shelf, Sink};
@@ -38,10 +38,17 @@ fn leave<O: Sink, K: Keeper>(
     ensures faults { (K.view keeper.old).faults ≤ (K.view keeper.new).faults }
 {
     let loaded = &left.job;
-    match keep(alloc, keeper, job, loaded.digest, &left.plan, loaded.behind) {
+    match keep(
+        alloc,
+        keeper,
+        job,
+        loaded.digest,
+        &left.plan,
+        &loaded.behind,
+    ) {
         Ok(()) => put_report(&left.report, Status::Unfinished, out),
         Err(KeepFault::Failed) => refuse_keep(out),
-        Err(KeepFault::Memory) => want_of_memory(out),
+        Err(KeepFault::Memory) => out_of_memory(out),
     }
 }
 

@@ -14,17 +14,17 @@ ghost use Rattle.fund_steps.specs.Plan.{IsPlan, PlainPlan};
 ghost use Rattle.request_text.specs.PlainRequest.{PlainRequest};
 ghost use Rattle.search_run.specs.Step.{AreSteps};
 ghost use Rattle.wallet_text.specs.PlainWallet.{PlainWallet};
-ghost use Rattle.fund_files.specs.Chain.{held_of};
-ghost use Rattle.kept_job.specs.Gone.{ClaimsNoneOn, ClaimsOn};
+ghost use Rattle.fund_files.specs.Chain.{chain_from};
+ghost use Rattle.kept_job.specs.Continued.{ClaimsNoneOn, ClaimsOn};
 ghost use Rattle.kept_job.specs.Kept.{IsKeptAt};
 ghost use Rattle.kept_job.specs.declared.fault.KeptFault.{KeptFault};
 ghost use Rattle.command_end.specs.Names.{Sources};
 ghost use Rattle.command_inputs.specs.Digest.{digest_in};
-ghost use Rattle.command_inputs.specs.Due as payments;
-ghost use Rattle.command_inputs.specs.Due.{plan_of, planned, planned_after};
+ghost use Rattle.command_inputs.specs.Outcome as payments;
+ghost use Rattle.command_inputs.specs.Outcome.{plan_of, planned, planned_after};
 ghost use Rattle.command_inputs.specs.Inputs.{AreInputs};
 ghost use Rattle.command_inputs.specs.Names.{Payment};
-ghost use Rattle.command_resume.specs.Due.{ComesTo, IsGone, IsNotKept, Outcome};
+ghost use Rattle.command_resume.specs.Outcome.{ComesTo, IsGone, IsNotKept, Outcome};
 
 /// The law of stopped runs: where a job was left by an unfinished run of some files after n tries, they and the job come to
 /// what the files come to with n tries and the request's together, and that is what the same files come to at once, where
@@ -33,16 +33,16 @@ ghost use Rattle.command_resume.specs.Due.{ComesTo, IsGone, IsNotKept, Outcome};
 /// does nothing.
 pub fn stopped_runs_go_on()
     ensures goes { (files : List ℕ → List ℕ) (s : Sources) (p : Payment) (w : PlainWallet) (blocks : List ChainBlock) (r : PlainRequest) (n : ℕ) (job : Option KeptJob) (due : payments.Outcome) →
-        AreInputs files s p w blocks r → IsPlan (plan_of (held_of w blocks) r) → IsKeptAt (plan_of (held_of w blocks) r) (digest_in files s p) n job →
-        IsGone files s p job due → due ≡ planned_after (held_of w blocks) r (n + r.tries) }
+        AreInputs files s p w blocks r → IsPlan (plan_of (chain_from w blocks) r) → IsKeptAt (plan_of (chain_from w blocks) r) (digest_in files s p) n job →
+        IsGone files s p job due → due ≡ planned_after (chain_from w blocks) r (n + r.tries) }
     ensures kept { (files : List ℕ → List ℕ) (s : Sources) (p : Payment) (w : PlainWallet) (blocks : List ChainBlock) (r : PlainRequest) (n : ℕ) (job : Option KeptJob) →
-        AreInputs files s p w blocks r → IsPlan (plan_of (held_of w blocks) r) → AreSteps (steps_of (plan_of (held_of w blocks) r)) → IsKeptAt (plan_of (held_of w blocks) r) (digest_in files s p) n job →
-        tries_at (plan_of (held_of w blocks) r) n < most_tries → (due : payments.Outcome) × IsGone files s p job due }
+        AreInputs files s p w blocks r → IsPlan (plan_of (chain_from w blocks) r) → AreSteps (steps_of (plan_of (chain_from w blocks) r)) → IsKeptAt (plan_of (chain_from w blocks) r) (digest_in files s p) n job →
+        tries_at (plan_of (chain_from w blocks) r) n < most_tries → (due : payments.Outcome) × IsGone files s p job due }
     ensures refused { (files : List ℕ → List ℕ) (s : Sources) (p : Payment) (w : PlainWallet) (blocks : List ChainBlock) (r : PlainRequest) (n : ℕ) (job : Option KeptJob) (fault : KeptFault) →
-        AreInputs files s p w blocks r → IsKeptAt (plan_of (held_of w blocks) r) (digest_in files s p) n job →
-        IsNotKept files s p job fault → (fault ≡ KeptFault.Spent) × (most_tries ≤ tries_at (plan_of (held_of w blocks) r) n) }
+        AreInputs files s p w blocks r → IsKeptAt (plan_of (chain_from w blocks) r) (digest_in files s p) n job →
+        IsNotKept files s p job fault → (fault ≡ KeptFault.Spent) × (most_tries ≤ tries_at (plan_of (chain_from w blocks) r) n) }
     ensures at_once { (w : PlainWallet) (blocks : List ChainBlock) (r : PlainRequest) (n : ℕ) →
-        planned (held_of w blocks) (record r { tries = n }) ≡ planned_after (held_of w blocks) r n }
+        planned (chain_from w blocks) (record r { tries = n }) ≡ planned_after (chain_from w blocks) r n }
     ensures one { (files : List ℕ → List ℕ) (s : Sources) (p : Payment) (job : Option KeptJob) (a b : Outcome) → ComesTo files s p job a → ComesTo files s p job b → a ≡ b }
 {}
 

@@ -2,10 +2,10 @@
 
 ghost use Rattle.std.specs.Prelude.{◌≡◌, ◌≢◌, ◌≤◌, Err, IfErr, IfOk, IsErrOf, None};
 ghost use Rattle.fund_shelf.specs.Causes.{OnlyReads, Rose};
-ghost use Rattle.fund_files.specs.Chain.{IsHeld};
+ghost use Rattle.fund_files.specs.Chain.{IsChain};
 ghost use Rattle.fund_files.specs.declared.refusal.File.{File};
 ghost use Rattle.command_end.specs.Names.{plain_sources};
-ghost use Rattle.command_inputs.specs.Due.{bump_fault_in};
+ghost use Rattle.command_inputs.specs.Outcome.{bump_fault_in};
 ghost use Rattle.command_inputs.specs.Inputs.{AsksInOrder, NoneBehind};
 ghost use Rattle.command_inputs.specs.Names.{plain_payment};
 ghost use Rattle.command_inputs.specs.Stops as payments;
@@ -19,7 +19,7 @@ use command_end::Sources;
 use command_inputs::{
     Ending, Inputs, Payment, Stop as FundStop, ends, new_plan, read_inputs_with_digest,
 };
-use fund_files::Held;
+use fund_files::Chain;
 use fund_outside::Keeper;
 use fund_plan::Plan;
 use fund_shelf::Shelf;
@@ -39,7 +39,7 @@ pub struct LoadedJob {
 /// The files of a command, read: what is asked, the plan of it, and the digest of its job.
 #[derive(Drop)]
 struct Ready {
-    held: Held,
+    held: Chain,
     request: Request,
     plan: Plan,
     digest: [u8; 32],
@@ -83,7 +83,7 @@ fn run_on<K: Keeper>(
     keeper: &mut K,
     job: &str,
 ) -> Result<Ending<LoadedJob>, KeptFault>
-    requires held { IsHeld ready.held }
+    requires held { IsChain ready.held }
     requires taken { bump_fault_in ready.held ready.request ≡ None }
     requires plan { IsPlanned ready }
     ensures ends { IfOk result (HasEnded K.tells ready ((K.view keeper.old).jobs job.now)) }
@@ -100,17 +100,9 @@ fn run_on<K: Keeper>(
         digest,
     } = ready;
     let resumed = kept_job::resume(alloc, &mut plan, keeper, job, &digest, request.tries)?;
-    let Resumed {
-        outcome,
-        parts,
-        length,
-    } = resumed;
-    // no book has a history with a fault
-    held.book.len();
-    let loaded = LoadedJob {
-        digest,
-        behind: Behind { parts, length },
-    };
+    let Resumed { outcome, behind } = resumed;
+    held.book.keeps_rules();
+    let loaded = LoadedJob { digest, behind };
     let ending = ends(alloc, &held, &request, plan, outcome, loaded)?;
     Ok(ending)
 }

@@ -30,6 +30,11 @@ pub fn kept_parts(fault: &KeptFault) -> [Part; 3]
         KeptFault::Spent => alone(Part::Text("limit tries")),
         KeptFault::Part(n) => alone(Part::Number("saved SavedFalse Part ", u64::from(*n))),
         KeptFault::LongLog => alone(Part::Text("limit log")),
+        KeptFault::Parts(kept, now) => [
+            Part::Digest("saved SavedFalse Parts ", kept),
+            Part::Digest(" ", now),
+            Part::Nothing,
+        ],
         KeptFault::Section(index) => alone(Part::Number("saved SavedFalse Section ", *index)),
         KeptFault::IllFormed => alone(Part::Text("saved SavedFalse IllFormed")),
         KeptFault::Log(index, fault) => [

@@ -26,7 +26,7 @@ use Rattle.payment_states.proofs.FitSteps.{all_flat}
 use Rattle.command_work.proofs.CoinLaws.{value_most}
 use Rattle.command_work.specs.Kinds.{watches}
 use Rattle.command_work.specs.Load.{earlier_at, earlier_of, maker_of}
-use Rattle.command_work.specs.Due.{load_of}
+use Rattle.command_work.specs.Outcome.{load_of}
 
 -- ---- lists of outpoints
 

@@ -14,10 +14,10 @@ use Rattle.command_inputs.specs.Words.{refusal_words}
 use Rattle.command_inputs.specs.declared.refusal.Refusal.{Refusal}
 use Rattle.command_inputs.specs.declared.refusal.Stop.{Stop}
 use Rattle.command_inputs.specs.declared.refusal.Stop.TheVariants as stops
-use Rattle.command_work.specs.Due.{IsCollision}
+use Rattle.command_work.specs.Outcome.{IsCollision}
 use Rattle.command_work.specs.Statuses.{Ends, IsSummary}
 use Rattle.command_work.specs.Stops.{IsStopped, ReadsNone, StopsLoad}
-use Rattle.command_work.proofs.DueLaws.{collision_due}
+use Rattle.command_work.proofs.OutcomeLaws.{collision_due}
 
 -- ---- a summary
 

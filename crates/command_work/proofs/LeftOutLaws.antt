@@ -17,7 +17,7 @@ filled d q amount out is recipients rate seed =
     let r : said [] recipients_at (get (codes "recipients") d) ≡ (request_with amount).recipients = sym (ap (λ (p : PlainRequest). p.recipients) is) ∙ recipients in
     let s : said 0 (rate_at (codes "rate")) (get (codes "rate") d) ≡ 25_000 = sym (ap (λ (p : PlainRequest). p.rate) is) ∙ rate in
     let t : said (replicate 32 0) (λ m. field (seed_at m)) (get (codes "seed") d) ≡ replicate 32 0 = sym (ap (λ (p : PlainRequest). p.seed) is) ∙ seed in
-    rw (r, s, t, out 0 [] (omega arith), out 1 [] (omega arith), out 2 [] (omega arith), out 3 [] (omega arith), out 4 [] (omega arith), out 5 [] (omega arith), out 6 [] (omega arith), out 7 [] (omega arith), out 8 [] (omega arith), out 9 [] (omega arith), out 10 [] (omega arith), out 11 [] (omega arith), out 12 [] (omega arith)) refl
+    rw (r, s, t, out 0 [] (omega arith), out 1 [] (omega arith), out 2 [] (omega arith), out 3 [] (omega arith), out 4 [] (omega arith), out 5 [] (omega arith), out 6 [] (omega arith), out 7 [] (omega arith), out 8 [] (omega arith), out 9 [] (omega arith), out 10 [] (omega arith), out 11 [] (omega arith), out 12 [] (omega arith), out 13 [] (omega arith)) refl
 
 pub left_out : (d : Data) (q : PlainRequest) (amount : ℕ) → LeavesRestOut d → request_at d ≡ Ok q → q.recipients ≡ (request_with amount).recipients → q.rate ≡ 25_000 → q.seed ≡ replicate 32 0 → q ≡ request_with amount
 left_out d q amount out reads recipients rate seed = let is = values d q reads in is ∙ filled d q amount out is recipients rate seed

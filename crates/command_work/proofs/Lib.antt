@@ -1,12 +1,12 @@
 pub mod BookLaws
 pub mod CoinLaws
-pub mod DueLaws
 pub mod EndLaws
 pub mod KeptLaws
 pub mod KindLaws
 pub mod LeftOutLaws
 pub mod LineLaws
 pub mod MakerLaws
+pub mod OutcomeLaws
 pub mod PlanLaws
 pub mod RepeatLaws
 pub mod RuleLaws

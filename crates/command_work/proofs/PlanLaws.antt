@@ -27,7 +27,7 @@ use Rattle.request_text.specs.PlainRequest.{IsRequest}
 use Rattle.fund_steps.proofs.FaultLaws.{fault_found, none_found}
 use Rattle.fund_steps.specs.Amounts.{value_of}
 use Rattle.fund_steps.specs.Faults as faults
-use Rattle.fund_steps.specs.Plan.{HasEligible, IsFault, IsPlan, IsRoomy, IsWithin, ladder_in}
+use Rattle.fund_steps.specs.Plan.{HasEligible, IsPlanFault, IsPlan, IsRoomy, IsWithin, ladder_in}
 use Rattle.fund_steps.specs.Selection.{is_listed, unlisted}
 use Rattle.fund_steps.specs.declared.fault.PlanFault.{PlanFault}
 use Rattle.fund_steps.specs.declared.fault.PlanFault.TheVariants as plans
@@ -38,34 +38,34 @@ use Rattle.command_work.proofs.MakerLaws.{earlier_are}
 use Rattle.command_work.proofs.RuleLaws.{request_is, wallet_is}
 use Rattle.command_work.specs.Coins.{total_of}
 use Rattle.command_work.specs.Load.{earlier_of, request_of, wallet_of}
-use Rattle.command_work.specs.Due.{load_of, load_plan}
+use Rattle.command_work.specs.Outcome.{load_of, load_plan}
 use Rattle.command_work.proofs.BookLaws.{IsCheap, load_cheap, load_few, load_sound}
 
 -- ---- candidates
 
-kept_value : (w : PlainWallet) (h : History) (tip : ℕ) (c : Coin) → (candidate_of w h tip c).value ≡ c.value
-kept_value w h tip c = by c.height (place_in w.pending c.coin.txid)
+kept_value : (w : PlainWallet) (h : History) (tip rate : ℕ) (c : Coin) → (candidate_of w h tip rate c).value ≡ c.value
+kept_value w h tip rate c = by c.height (place_in w.pending c.coin.txid)
   where
-    by : (height place : Option ℕ) → (candidate_at w h tip c height place).value ≡ c.value
+    by : (height place : Option ℕ) → (candidate_at w h tip rate c height place).value ≡ c.value
     by None place = refl
     by (Some height) place = refl
 
 abbrev IsSmallCoin : Candidate → Type 0
 IsSmallCoin c = c.value ≤ 5_009_999
 
-cheap_candidates : (w : PlainWallet) (h : History) (tip : ℕ) → All IsCheap (made_of h) → All IsSmallCoin (candidates_of w h tip)
+cheap_candidates : (w : PlainWallet) (h : History) (tip rate : ℕ) → All IsCheap (made_of h) → All IsSmallCoin (candidates_of w h tip rate)
 unfolding candidates_of
-cheap_candidates w h tip cheap =
-    All-map IsSmallCoin (candidate_of w h tip) (filter (is_candidate w h tip) (coins_of h))
-    (All-filter (is_candidate w h tip) (λ (c : Coin). IsSmallCoin (candidate_of w h tip c)) (coins_of h)
-    (All-map (λ (c : Coin). IsSmallCoin (candidate_of w h tip c)) (λ (m : Made). m.coin) (made_of h)
-    (All-weaker IsCheap (λ (m : Made). IsSmallCoin (candidate_of w h tip m.coin)) (λ m le. subst (λ (v : ℕ). v ≤ 5_009_999) (sym (kept_value w h tip m.coin)) le) (made_of h) cheap)))
+cheap_candidates w h tip rate cheap =
+    All-map IsSmallCoin (candidate_of w h tip rate) (filter (is_candidate w h tip) (coins_of h))
+    (All-filter (is_candidate w h tip) (λ (c : Coin). IsSmallCoin (candidate_of w h tip rate c)) (coins_of h)
+    (All-map (λ (c : Coin). IsSmallCoin (candidate_of w h tip rate c)) (λ (m : Made). m.coin) (made_of h)
+    (All-weaker IsCheap (λ (m : Made). IsSmallCoin (candidate_of w h tip rate m.coin)) (λ m le. subst (λ (v : ℕ). v ≤ 5_009_999) (sym (kept_value w h tip rate m.coin)) le) (made_of h) cheap)))
 
-few_candidates : (w : PlainWallet) (h : History) (tip : ℕ) → length (candidates_of w h tip) ≤ length (coins_of h)
+few_candidates : (w : PlainWallet) (h : History) (tip rate : ℕ) → length (candidates_of w h tip rate) ≤ length (coins_of h)
 unfolding candidates_of
-few_candidates w h tip =
+few_candidates w h tip rate =
     let a = filter_le (is_candidate w h tip) (coins_of h) in
-    let b = length-map (filter (is_candidate w h tip) (coins_of h)) (candidate_of w h tip) in
+    let b = length-map (filter (is_candidate w h tip) (coins_of h)) (candidate_of w h tip rate) in
     omega arith
 
 within : (cs : List Candidate) → All IsSmallCoin cs → length cs ≤ 10_000 → value_of cs ≤ 2_100_000_000_000_000
@@ -105,18 +105,18 @@ load_book number count = record { blocks = []; texts = All-nil (λ (b : ChainBlo
 
 load_candidates : (number count : ℕ) → count ≤ 10_000 → AreDistinctEarlier (earlier_of number count) → AreCandidates (load_plan number count).candidates
 load_candidates number count most distinct =
-    fit (wallet_of number count) (load_of number count).book (load_wallet number count distinct) (load_book number count) (load_sound number count most distinct) (load_of number count).tip.height
+    fit (wallet_of number count) (load_of number count).book (load_wallet number count distinct) (load_book number count) (load_sound number count most distinct) (load_of number count).tip.height 25_000
 
 load_count : (number count : ℕ) → length (load_plan number count).candidates ≤ count
 load_count number count =
-    let a = few_candidates (wallet_of number count) (load_of number count).book (load_of number count).tip.height in
+    let a = few_candidates (wallet_of number count) (load_of number count).book (load_of number count).tip.height 25_000 in
     let b = load_few number count in
     omega arith
 
 load_within : (number count : ℕ) → count ≤ 10_000 → IsWithin (load_plan number count)
 load_within number count most =
     let few = load_count number count in
-    within (load_plan number count).candidates (cheap_candidates (wallet_of number count) (load_of number count).book (load_of number count).tip.height (load_cheap number count)) (omega arith)
+    within (load_plan number count).candidates (cheap_candidates (wallet_of number count) (load_of number count).book (load_of number count).tip.height 25_000 (load_cheap number count)) (omega arith)
 
 load_roomy : (number count : ℕ) → count ≤ 10_000 → (row : Row) → IsRoomy (load_plan number count) row
 load_roomy number count most row = λ n keeps.
@@ -137,7 +137,7 @@ load_keeps number count some most distinct = record {
 }
 
 -- so it has no fault
-pub load_unrefused : (number count : ℕ) (fault : PlanFault) → 1 ≤ count → count ≤ 10_000 → AreDistinctEarlier (earlier_of number count) → IsFault (load_plan number count) fault → fault ≢ plans.Memory → ⊥
+pub load_unrefused : (number count : ℕ) (fault : PlanFault) → 1 ≤ count → count ≤ 10_000 → AreDistinctEarlier (earlier_of number count) → IsPlanFault (load_plan number count) fault → fault ≢ plans.Memory → ⊥
 load_unrefused number count fault some most distinct is real =
     let a : faults.fault_of (load_plan number count) ≡ Some fault = fault_found (load_plan number count) fault is real in
     let b : faults.fault_of (load_plan number count) ≡ None = none_found (load_plan number count) (load_keeps number count some most distinct) in

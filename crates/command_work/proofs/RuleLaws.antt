@@ -1,5 +1,5 @@
 -- The wallet and the request keep their rules.
-use Rattle.std.proofs.Common.{◌≡◌, ℕ, ◌<◌, ◌≤◌, List, [], ◌∷◌, length, refl, arith}
+use Rattle.std.proofs.Common.{◌≡◌, ℕ, ◌<◌, ◌≤◌, List, [], ◌∷◌, length, inl, refl, arith}
 use Rattle.std.specs.Prelude.{All, replicate}
 use Rattle.std.proofs.lemmas.List.{length-replicate}
 use Rattle.std.proofs.lemmas.List.Elements.{All-cons, All-nil, All-replicate}
@@ -75,4 +75,5 @@ request_is amount least most = record {
   bump = tt;
   alone = λ is. absurd cc;
   locktime = omega arith;
+  psbt = inl refl;
 }

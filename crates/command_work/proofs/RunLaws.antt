@@ -6,7 +6,7 @@ use Rattle.coin_book.specs.declared.fault.BookFault.{BookFault}
 use Rattle.fund_base.specs.declared.memory.Memory.{Memory}
 use Rattle.request_text.specs.PlainRequest.{PlainRequest}
 use Rattle.wallet_text.specs.PlainWallet.{PlainWallet}
-use Rattle.wallet_text.specs.Told.{refusal_of}
+use Rattle.wallet_text.specs.Reported.{refusal_of}
 use Rattle.wallet_text.specs.WalletRules.{AreDistinctEarlier, IsWallet}
 use Rattle.wallet_text.specs.declared.fault.Refusal.TheVariants as wallets
 use Rattle.wallet_text.specs.declared.fault.WalletFault.{WalletFault}
@@ -17,7 +17,7 @@ use Rattle.command_work.specs.Summary.{summary_text}
 use Rattle.fund_files.specs.Alone.{StopsAlone}
 use Rattle.fund_files.specs.Cause as causes
 use Rattle.fund_files.specs.Chain.{history_of}
-use Rattle.fund_files.specs.declared.held.Held.{Held}
+use Rattle.fund_files.specs.declared.chain.Chain.{Chain}
 use Rattle.fund_files.specs.declared.refusal.FileRefusal.TheVariants as file_refusals
 use Rattle.fund_files.specs.declared.stop.Stop.{Stop as FileStop}
 use Rattle.fund_files.specs.declared.stop.Stop.TheVariants as file_stops
@@ -32,7 +32,7 @@ use Rattle.command_inputs.specs.declared.refusal.Refusal.{Refusal}
 use Rattle.command_inputs.specs.declared.refusal.Refusal.TheVariants as refusals
 use Rattle.command_inputs.specs.declared.refusal.Stop.{Stop}
 use Rattle.command_inputs.specs.declared.refusal.Stop.TheVariants as stops
-use Rattle.command_work.specs.Due.{IsCollision, Summed, due_of, load_of, load_plan, summed}
+use Rattle.command_work.specs.Outcome.{IsCollision, Summed, outcome_of, load_of, load_plan, summed}
 use Rattle.command_work.specs.Statuses.{IsFunded, IsNotFunded, IsSummary, IsUnfinished}
 use Rattle.command_work.specs.Stops.{IsRun, StopsLoad}
 use Rattle.command_work.specs.declared.running.Run.{Run}
@@ -40,7 +40,7 @@ use Rattle.command_work.proofs.BookLaws.{load_sound}
 use Rattle.std.proofs.lemmas.List.Elements.{All-weaker}
 use Rattle.fund_steps.proofs.BumpLaws.{may_plain}
 use Rattle.fund_steps.specs.Listed.{MaySpend}
-use Rattle.command_work.proofs.DueLaws.{distinct_due}
+use Rattle.command_work.proofs.OutcomeLaws.{distinct_due}
 use Rattle.command_work.proofs.PlanLaws.{load_unrefused}
 
 -- ---- its summary
@@ -145,13 +145,13 @@ stops_at number count (stops.Refused refusal) some most distinct h = absurd (no_
 stops_at number count stops.Keep some most distinct h = absurd h
 stops_at number count stops.Memory some most distinct h = tt
 
-pub if_stops : (number count : ℕ) (k : Held) (r : PlainRequest) (result : Result (Ending (Unit {0})) Stop) → 1 ≤ count → count ≤ 10_000 → AreDistinctEarlier (earlier_of number count) → k ≡ load_of number count → r ≡ request_of number count → IfErr result (StopsPlan k r) → IfErr result (StopsLoad number count)
+pub if_stops : (number count : ℕ) (k : Chain) (r : PlainRequest) (result : Result (Ending (Unit {0})) Stop) → 1 ≤ count → count ≤ 10_000 → AreDistinctEarlier (earlier_of number count) → k ≡ load_of number count → r ≡ request_of number count → IfErr result (StopsPlan k r) → IfErr result (StopsLoad number count)
 if_stops number count k r (Ok e) some most distinct held asked h = tt
 if_stops number count k r (Err stop) some most distinct held asked h =
     stops_at number count stop some most distinct
-    (subst (λ (x : PlainRequest). StopsPlan (load_of number count) x stop) asked (subst (λ (x : Held). StopsPlan x r stop) held h))
+    (subst (λ (x : PlainRequest). StopsPlan (load_of number count) x stop) asked (subst (λ (x : Chain). StopsPlan x r stop) held h))
 
-pub if_ends : (number count : ℕ) (k : Held) (r : PlainRequest) (result : Result (Ending (Unit {0})) Stop) → k ≡ load_of number count → r ≡ request_of number count → IfOk result (IsConcluded k r) → IfOk result (IsConcluded (load_of number count) (request_of number count))
+pub if_ends : (number count : ℕ) (k : Chain) (r : PlainRequest) (result : Result (Ending (Unit {0})) Stop) → k ≡ load_of number count → r ≡ request_of number count → IfOk result (IsConcluded k r) → IfOk result (IsConcluded (load_of number count) (request_of number count))
 if_ends number count k r (Ok e) held asked h =
-    subst (λ (x : PlainRequest). IsConcluded (load_of number count) x e) asked (subst (λ (x : Held). IsConcluded x r e) held h)
+    subst (λ (x : PlainRequest). IsConcluded (load_of number count) x e) asked (subst (λ (x : Chain). IsConcluded x r e) held h)
 if_ends number count k r (Err stop) held asked h = tt

@@ -1,9 +1,9 @@
 pub mod Coins
-pub mod Due
 pub mod Kinds
 pub mod LeftOut
 pub mod Lines
 pub mod Load
+pub mod Outcome
 pub mod Outline
 pub mod Refused
 pub mod Statuses

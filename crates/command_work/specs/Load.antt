@@ -83,6 +83,7 @@ request_with amount = record {
   bump = None;
   replaceable = true;
   locktime = 0;
+  psbt = 0;
 }
 
 -- the request of a number and a count: a twentieth of what all coins are worth, rounded down

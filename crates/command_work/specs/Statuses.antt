@@ -1,7 +1,6 @@
 -- How a workload ends, by its status.
 use Rattle.std.specs.Prelude.{ℕ, ◌≡◌, ◌⊎◌, List, ◌++◌, All, codes}
 use Rattle.fund_shelf.specs.Causes.{SinkView, Rose, HasPart}
-use Rattle.fund_files.specs.Chain.{history_of}
 use Rattle.fund_payment.specs.Report.{psbt_of, report_of}
 use Rattle.fund_payment.specs.Shown.{ShowsCoins}
 use Rattle.fund_plan.specs.Answer.{IsPayment}
@@ -21,10 +20,9 @@ use Rattle.command_end.specs.Lines.{GotLine, fault_line}
 use Rattle.command_end.specs.declared.status.Status.{Status}
 use Rattle.command_end.specs.declared.status.Status.TheVariants as statuses
 use Rattle.command_inputs.specs.Cause.{cause_of, status_of_cause}
-use Rattle.command_inputs.specs.Due.{none_report_at, open_text}
 use Rattle.command_inputs.specs.Words.{refusal_words}
 use Rattle.command_inputs.specs.declared.refusal.Refusal.{Refusal}
-use Rattle.command_work.specs.Due.{IsCollision, Outcome, Refused, Summed, due_of, load_of, load_plan}
+use Rattle.command_work.specs.Outcome.{IsCollision, Outcome, Refused, Summed, outcome_of, load_of, load_plan}
 
 -- the status of what a workload comes to, where nothing fails
 abbrev pub status_of : Outcome → Status
@@ -48,7 +46,7 @@ pub record IsFunded (number count : ℕ) (summary : List ℕ) : Type 0 where
   pub psbt : IsPsbt (psbt_of (load_of number count).book (request_of number count) (wallet_of number count).change funded)
   pub shows : ShowsCoins funded.coins (psbt_of (load_of number count).book (request_of number count) (wallet_of number count).change funded)
   pub sums : summary ≡ summary_text number count (report_of (load_of number count).book (request_of number count) (wallet_of number count).change (tries_at (load_plan number count) 100_000) funded)
-  pub comes_to : due_of number count ≡ Summed statuses.Done summary
+  pub comes_to : outcome_of number count ≡ Summed statuses.Done summary
 
 -- The summary of a run that found that nothing pays, which its log proves.
 pub record IsNotFunded (number count : ℕ) (summary : List ℕ) : Type 0 where
@@ -58,7 +56,7 @@ pub record IsNotFunded (number count : ℕ) (summary : List ℕ) : Type 0 where
   pub none : IsProvedNone (load_plan number count) (log_at (load_plan number count) 100_000)
   pub told : IsReportText report (kinds.NoSelection (tries_at (load_plan number count) 100_000))
   pub sums : summary ≡ summary_text number count report
-  pub comes_to : due_of number count ≡ Summed statuses.NoSelection summary
+  pub comes_to : outcome_of number count ≡ Summed statuses.NoSelection summary
 
 -- The summary of a run whose tries are used up while a search is open.
 pub record IsUnfinished (number count : ℕ) (summary : List ℕ) : Type 0 where
@@ -68,7 +66,7 @@ pub record IsUnfinished (number count : ℕ) (summary : List ℕ) : Type 0 where
   pub used_up : IsUsedUp (load_plan number count) 100_000
   pub told : IsReportText report (kinds.Unfinished (tries_at (load_plan number count) 100_000) used_up.step.row used_up.step.stage)
   pub sums : summary ≡ summary_text number count report
-  pub comes_to : due_of number count ≡ Summed statuses.Unfinished summary
+  pub comes_to : outcome_of number count ≡ Summed statuses.Unfinished summary
 
 -- by the status of the run
 abbrev pub IsSummary : ℕ → ℕ → Status → List ℕ → Type 0
@@ -86,7 +84,7 @@ EndsSummed told number count status sink sink' = (summary : List ℕ) × IsSumma
 -- two of the workload's transactions have one txid, and the line says which
 abbrev pub EndsCollided : Type 0 → ℕ → ℕ → SinkView → SinkView → Type 0
 EndsCollided told number count sink sink' =
-    (refusal : Refusal) × IsCollision number count (cause_of refusal) × (due_of number count ≡ Refused (cause_of refusal)) × (told → GotLine (fault_line (refusal_words refusal)) sink sink')
+    (refusal : Refusal) × IsCollision number count (cause_of refusal) × (outcome_of number count ≡ Refused (cause_of refusal)) × (told → GotLine (fault_line (refusal_words refusal)) sink sink')
 
 -- a refusal of this status: there is no other
 abbrev pub EndsRefused : Status → Type 0 → ℕ → ℕ → SinkView → SinkView → Type 0

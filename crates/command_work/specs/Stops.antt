@@ -8,7 +8,7 @@ use Rattle.command_inputs.specs.Cause.{cause_of, status_of_cause}
 use Rattle.command_inputs.specs.Words.{refusal_words}
 use Rattle.command_inputs.specs.declared.refusal.Stop.{Stop}
 use Rattle.command_inputs.specs.declared.refusal.Stop.TheVariants as stops
-use Rattle.command_work.specs.Due.{IsCollision}
+use Rattle.command_work.specs.Outcome.{IsCollision}
 use Rattle.command_work.specs.Statuses.{IsSummary}
 use Rattle.command_work.specs.declared.running.Run.{Run}
 

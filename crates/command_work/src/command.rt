@@ -8,7 +8,7 @@ ghost use Rattle.command_work.specs.Statuses.{Ends};
 ghost use Rattle.command_work.specs.Stops.{IsStopped, ReadsNone, stop_status, stop_words};
 
 use crate::running::run_load;
-use command_end::{Status, put_report, want_of_memory};
+use command_end::{Status, out_of_memory, put_report};
 use command_inputs::{Stop, refuse};
 use fund_shelf::Sink;
 use std::alloc::Global;
@@ -25,7 +25,7 @@ fn answer<O: Sink>(stop: Stop, out: &mut O) -> Status
         Stop::Read(_) => unreachable!(),
         Stop::Refused(refusal) => refuse(&refusal, out),
         Stop::Keep => unreachable!(),
-        Stop::Memory => want_of_memory(out),
+        Stop::Memory => out_of_memory(out),
     }
 }
 

@@ -82,6 +82,7 @@ fn request_with(alloc: Global, amount: u64) -> Result<Request, Memory>
         bump: None,
         replaceable: true,
         locktime: 0,
+        psbt: 0,
     })
 }
 

@@ -5,7 +5,7 @@ ghost use Rattle.wallet_text.specs.WalletRules.{AreDistinctEarlier, IsWallet};
 ghost use Rattle.command_work.specs.Load.{earlier_of, request_of, wallet_of};
 ghost use Rattle.command_work.specs.Summary.{summary_text};
 ghost use Rattle.command_inputs.specs.PlanEnds.{IsConcluded};
-ghost use Rattle.command_work.specs.Due.{load_of};
+ghost use Rattle.command_work.specs.Outcome.{load_of};
 ghost use Rattle.command_work.specs.Stops.{IsRun, StopsLoad};
 
 use crate::load::Workload;
@@ -13,7 +13,7 @@ use crate::summary::summarize;
 use command_end::Status;
 use command_inputs::{Ending, Refusal, Stop, conclude};
 use fund_base::Memory;
-use fund_files::{FileRefusal, hold};
+use fund_files::{FileRefusal, chain_of_wallet};
 use std::alloc::Global;
 use wallet_text::WalletFault;
 
@@ -38,7 +38,7 @@ fn load_stop(fault: WalletFault) -> Stop
 }
 
 /// The workload. It is refused exactly where two of its transactions have one txid, as a wallet file would be that holds
-/// them; or for want of memory.
+/// them; or for being out of memory.
 fn load(alloc: Global, number: u64, count: u32) -> Result<Workload, Stop>
     requires some { 1 ≤ count }
     requires most { count ≤ 10_000 }
@@ -64,7 +64,7 @@ fn conclude_load(alloc: Global, number: u64, count: u32) -> Result<Ending<()>, S
     ensures stop { IfErr result (StopsLoad number count) }
 {
     let Workload { wallet, request } = load(alloc, number, count)?;
-    let held = hold(alloc, wallet)?;
+    let held = chain_of_wallet(alloc, wallet)?;
     conclude(alloc, &held, &request, None)
 }
 

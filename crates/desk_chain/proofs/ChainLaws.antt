@@ -11,9 +11,9 @@ use Rattle.std.proofs.lemmas.Slice.Eq.{bytes_eq-Decides}
 use Rattle.block_feed.specs.Block.{ChainBlock}
 use Rattle.coin_book.specs.History as histories
 use Rattle.coin_book.specs.History.{Confirmed, History, confirmed_before, confirmed_in}
-use Rattle.fund_files.specs.Chain.{IsHeld, held_of, tip_behind}
-use Rattle.fund_files.specs.declared.held.Held.{Held}
-use Rattle.fund_files.specs.declared.held.Tip.{Tip}
+use Rattle.fund_files.specs.Chain.{IsChain, chain_from, tip_behind}
+use Rattle.fund_files.specs.declared.chain.Chain.{Chain}
+use Rattle.fund_files.specs.declared.chain.Tip.{Tip}
 use Rattle.tx_codec.specs.Transaction.{Transaction}
 use Rattle.tx_codec.specs.TransactionText.{IsTransaction}
 use Rattle.tx_codec.specs.Txid.{txid_of}
@@ -34,10 +34,10 @@ chain_grown chain blocks block =
     ∙ ap (λ (c : List Confirmed). chain ++ (flat_map confirmed_in blocks ++ c)) (sym (append-nil (confirmed_in block)))
     ∙ ap (λ (c : List Confirmed). chain ++ c) (sym (flat_map-append confirmed_in blocks (block ∷ [])))
 
-abbrev with_chain : PlainWallet → List Confirmed → Tip → Held
+abbrev with_chain : PlainWallet → List Confirmed → Tip → Chain
 with_chain w chain tip = record { wallet = w; book = record { scripts = w.scripts; confirmed = chain; pending = w.pending }; tip = tip }
 
-block_behind : (w : PlainWallet) (blocks : List ChainBlock) (block : ChainBlock) → with_block (held_of w blocks) block ≡ held_of w (blocks ++ block ∷ [])
+block_behind : (w : PlainWallet) (blocks : List ChainBlock) (block : ChainBlock) → with_block (chain_from w blocks) block ≡ chain_from w (blocks ++ block ∷ [])
 block_behind w blocks block =
     ap (λ (c : List Confirmed). with_chain w c (record { height = block.height; hash = block.hash })) (chain_grown (map confirmed_before w.earlier) blocks block)
     ∙ ap (λ (t : Tip). with_chain w (map confirmed_before w.earlier ++ flat_map confirmed_in (blocks ++ block ∷ [])) t) (tip_last (record { height = w.height; hash = w.hash }) blocks block)
@@ -45,10 +45,10 @@ block_behind w blocks block =
 abbrev HasText : ChainBlock → Type 0
 HasText b = All IsTransaction b.txs
 
-pub held_block : (k : Held) (block : ChainBlock) → IsHeld k → All IsTransaction block.txs → block.height < 4294967295 → IsHeld (with_block k block)
+pub held_block : (k : Chain) (block : ChainBlock) → IsChain k → All IsTransaction block.txs → block.height < 4294967295 → IsChain (with_block k block)
 held_block k block h texts height = record {
   blocks = h.blocks ++ block ∷ [];
-  is = ap (λ (x : Held). with_block x block) h.is ∙ block_behind k.wallet h.blocks block;
+  is = ap (λ (x : Chain). with_block x block) h.is ∙ block_behind k.wallet h.blocks block;
   rules = h.rules;
   texts = All-push HasText h.blocks block h.texts texts;
   height = height;
@@ -131,18 +131,18 @@ wallet_waits w t rules text fresh first = record {
   locked = rules.locked;
 }
 
-pub held_pending : (k : Held) (t : Transaction) → IsHeld k → IsTransaction t → is_repeat k.wallet.pending (txid_of t) ≡ false → is_later k.wallet.pending t ≡ false → IsHeld (with_pending k t)
+pub held_pending : (k : Chain) (t : Transaction) → IsChain k → IsTransaction t → is_repeat k.wallet.pending (txid_of t) ≡ false → is_later k.wallet.pending t ≡ false → IsChain (with_pending k t)
 held_pending k t h text fresh first = record {
   blocks = h.blocks;
-  is = ap (λ (x : Held). with_pending x t) h.is;
+  is = ap (λ (x : Chain). with_pending x t) h.is;
   rules = wallet_waits k.wallet t h.rules text fresh first;
   texts = h.texts;
   height = h.height;
 }
 
 -- what waits in the book is what waits in the wallet
-pub book_pending : (k : Held) → IsHeld k → k.book.pending ≡ k.wallet.pending
-book_pending k h = ap (λ (x : Held). x.book.pending) h.is
+pub book_pending : (k : Chain) → IsChain k → k.book.pending ≡ k.wallet.pending
+book_pending k h = ap (λ (x : Chain). x.book.pending) h.is
 
 -- a wallet with these transactions that wait
 abbrev pub with_waiting : PlainWallet → List Transaction → PlainWallet
@@ -169,25 +169,25 @@ pub fresh_book : (waiting pending : List Transaction) (txid : List ℕ) → wait
 fresh_book waiting pending txid same fresh = subst (λ (ts : List Transaction). All (λ (t : Transaction). txid_of t ≢ txid) ts) (sym same) (fresh_in pending txid fresh)
 
 -- a chain with this wallet and this book
-abbrev pub chain_with : Held → PlainWallet → History → Held
+abbrev pub chain_with : Chain → PlainWallet → History → Chain
 chain_with k w book = record { wallet = w; book = book; tip = k.tip }
 
-pub chain_more : (k : Held) (w : PlainWallet) (t : Transaction) (book : History) → w ≡ waiting k.wallet t → book ≡ histories.with_pending k.book t → chain_with k w book ≡ with_pending k t
+pub chain_more : (k : Chain) (w : PlainWallet) (t : Transaction) (book : History) → w ≡ waiting k.wallet t → book ≡ histories.with_pending k.book t → chain_with k w book ≡ with_pending k t
 chain_more k w t book same is = ap (λ (x : PlainWallet). chain_with k x book) same ∙ ap (chain_with k (waiting k.wallet t)) is
 
-pub chain_same : (k : Held) (w : PlainWallet) (book : History) → w ≡ k.wallet → book ≡ k.book → chain_with k w book ≡ k
+pub chain_same : (k : Chain) (w : PlainWallet) (book : History) → w ≡ k.wallet → book ≡ k.book → chain_with k w book ≡ k
 chain_same k w book same is = ap (λ (x : PlainWallet). chain_with k x book) same ∙ ap (chain_with k k.wallet) is
 
 -- whether it was added or not
-pub held_either : {A E : Type 0} (r : Result A E) (k : Held) (w : PlainWallet) (t : Transaction) (book : History) → OnOk r (w ≡ waiting k.wallet t) → OnOk r (book ≡ histories.with_pending k.book t) → OnErr r (w ≡ k.wallet) → OnErr r (book ≡ k.book)
-    → IsHeld k → IsTransaction t → is_repeat k.wallet.pending (txid_of t) ≡ false → is_later k.wallet.pending t ≡ false → IsHeld (chain_with k w book)
-held_either (Ok a) k w t book more is kept still h text fresh first = subst IsHeld (sym (chain_more k w t book more is)) (held_pending k t h text fresh first)
-held_either (Err e) k w t book more is kept still h text fresh first = subst IsHeld (sym (chain_same k w book kept still)) h
+pub held_either : {A E : Type 0} (r : Result A E) (k : Chain) (w : PlainWallet) (t : Transaction) (book : History) → OnOk r (w ≡ waiting k.wallet t) → OnOk r (book ≡ histories.with_pending k.book t) → OnErr r (w ≡ k.wallet) → OnErr r (book ≡ k.book)
+    → IsChain k → IsTransaction t → is_repeat k.wallet.pending (txid_of t) ≡ false → is_later k.wallet.pending t ≡ false → IsChain (chain_with k w book)
+held_either (Ok a) k w t book more is kept still h text fresh first = subst IsChain (sym (chain_more k w t book more is)) (held_pending k t h text fresh first)
+held_either (Err e) k w t book more is kept still h text fresh first = subst IsChain (sym (chain_same k w book kept still)) h
 
-pub added_either : {A E : Type 0} (r : Result A E) (k : Held) (w : PlainWallet) (t : Transaction) (book : History) → OnOk r (w ≡ waiting k.wallet t) → OnOk r (book ≡ histories.with_pending k.book t) → OnOk r (chain_with k w book ≡ with_pending k t)
+pub added_either : {A E : Type 0} (r : Result A E) (k : Chain) (w : PlainWallet) (t : Transaction) (book : History) → OnOk r (w ≡ waiting k.wallet t) → OnOk r (book ≡ histories.with_pending k.book t) → OnOk r (chain_with k w book ≡ with_pending k t)
 added_either (Ok a) k w t book more is = chain_more k w t book more is
 added_either (Err e) k w t book more is = tt
 
-pub kept_either : {A E : Type 0} (r : Result A E) (k : Held) (w : PlainWallet) (book : History) → OnErr r (w ≡ k.wallet) → OnErr r (book ≡ k.book) → OnErr r (chain_with k w book ≡ k)
+pub kept_either : {A E : Type 0} (r : Result A E) (k : Chain) (w : PlainWallet) (book : History) → OnErr r (w ≡ k.wallet) → OnErr r (book ≡ k.book) → OnErr r (chain_with k w book ≡ k)
 kept_either (Ok a) k w book same is = tt
 kept_either (Err e) k w book same is = chain_same k w book same is

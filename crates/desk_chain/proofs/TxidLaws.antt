@@ -9,7 +9,7 @@ use Rattle.tx_codec.specs.Txid.{txid_of}
 use Rattle.tx_codec.specs.declared.tx.TxIn.{TxIn}
 use Rattle.wallet_text.specs.PlainWallet.{PlainWallet}
 use Rattle.desk_machine.specs.Machine.{is_repeat, spends_txid, waiting}
-use Rattle.desk_chain.specs.Kept.{AreTxidsOf, HasRoomFor, has_parent}
+use Rattle.desk_chain.specs.PendingTxids.{AreTxidsOf, HasRoomFor, has_parent}
 use Rattle.desk_chain.specs.declared.pending_txids.PendingTxids.{PendingTxids}
 
 -- ---- those of none

@@ -3,28 +3,28 @@
 ghost use Rattle.std.specs.Prelude.{◌≡◌, ◌<◌, ◌++◌, ◌∷◌, [], List, All, OnErr, OnOk, bytes_eq, false};
 ghost use Rattle.coin_book.specs.Faults.{Answers};
 ghost use Rattle.coin_book.specs.History as histories;
-ghost use Rattle.fund_files.specs.Chain.{IsHeld};
+ghost use Rattle.fund_files.specs.Chain.{IsChain};
 ghost use Rattle.tx_codec.specs.Transaction.{Transaction};
 ghost use Rattle.tx_codec.specs.TransactionText.{IsTransaction};
 ghost use Rattle.tx_codec.specs.Txid.{txid_of};
 ghost use Rattle.desk_machine.specs.Machine.{is_later, is_repeat, spends_txid, waiting, with_block, with_pending};
-ghost use Rattle.desk_chain.specs.Kept.{AreTxidsOf};
+ghost use Rattle.desk_chain.specs.PendingTxids.{AreTxidsOf};
 
 use crate::pending_txids::PendingTxids;
 use block_feed::Block;
 use coin_book::{Book, BookFault};
 use fund_base::Txid;
-use fund_files::{Held, Tip};
+use fund_files::{Chain, Tip};
 use tx_codec::{Tx, TxIn};
 use wallet_text::Wallet;
 
 /// Adds a block behind the tip. The fault is that of the book; the chain is then as before.
-pub fn add_block(held: &mut Held, block: &Block) -> Result<(), BookFault>
-    requires held { IsHeld held.old }
+pub fn add_block(held: &mut Chain, block: &Block) -> Result<(), BookFault>
+    requires held { IsChain held.old }
     requires texts { All IsTransaction block.now.txs }
     requires height { block.now.height < 4294967295 }
     ensures added { OnOk result (held.new ≡ with_block held.old block.now) }
-    ensures held { IsHeld held.new }
+    ensures held { IsChain held.new }
     ensures exact { Answers result (histories.with_block held.old.book block.now) }
     ensures kept { OnErr result (held.new ≡ held.old) }
 {
@@ -101,19 +101,19 @@ fn add_waiting(
 /// Adds a transaction of this txid behind those that wait, and to the txids of those. None of them has its txid, and neither
 /// one of them nor itself spends an output of it. The fault is that of the book; the chain is then as before.
 pub fn add_pending(
-    held: &mut Held,
+    held: &mut Chain,
     txids: &mut PendingTxids,
     tx: Tx,
     id: Txid,
 ) -> Result<(), BookFault>
-    requires held { IsHeld held.old }
+    requires held { IsChain held.old }
     requires text { IsTransaction tx }
     requires id { id ≡ txid_of tx }
     requires txids { AreTxidsOf held.old.wallet.pending txids.old }
     requires fresh { is_repeat held.old.wallet.pending (txid_of tx) ≡ false }
     requires first { is_later held.old.wallet.pending tx ≡ false }
     ensures added { OnOk result (held.new ≡ with_pending held.old tx) }
-    ensures held { IsHeld held.new }
+    ensures held { IsChain held.new }
     ensures exact { Answers result (histories.with_pending held.old.book tx) }
     ensures kept { OnErr result (held.new ≡ held.old) }
     ensures txids { AreTxidsOf held.new.wallet.pending txids.new }

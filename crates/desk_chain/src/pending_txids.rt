@@ -7,7 +7,7 @@ ghost use Rattle.indexmap.specs.IndexSet.{contains, spare};
 ghost use Rattle.tx_codec.specs.Transaction.{Transaction};
 ghost use Rattle.tx_codec.specs.Txid.{txid_of};
 ghost use Rattle.desk_machine.specs.Machine.{is_repeat, spends_txid};
-ghost use Rattle.desk_chain.specs.Kept.{AreTxidsOf, HasRoomFor, has_parent};
+ghost use Rattle.desk_chain.specs.PendingTxids.{AreTxidsOf, HasRoomFor, has_parent};
 
 use fund_base::{Memory, Txid};
 use indexmap::IndexSet;

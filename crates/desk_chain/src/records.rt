@@ -2,7 +2,7 @@
 
 ghost use Rattle.std.specs.Prelude.{ℕ, ◌≡◌, ◌≢◌, ◌≤◌, IfOk, OnErr, OnOk, None, codes, length, take};
 ghost use Rattle.fund_shelf.specs.SureShelf.{view_of};
-ghost use Rattle.fund_files.specs.Chain.{IsHeld};
+ghost use Rattle.fund_files.specs.Chain.{IsChain};
 ghost use Rattle.desk_machine.specs.Machine.{add_blocks, add_records, records_at};
 ghost use Rattle.desk_machine.specs.Replies.{BadBlocks, BadBook, IsOfBytes, Refused, plain_reply};
 
@@ -11,7 +11,7 @@ use block_feed::{Feed, FeedFault};
 use coin_book::BookFault;
 use desk_machine::{Refusal, Reply};
 use fund_base::Memory;
-use fund_files::Held;
+use fund_files::Chain;
 use fund_shelf::SureShelf;
 use std::alloc::Global;
 
@@ -54,12 +54,12 @@ pub fn refuse_book(fault: BookFault) -> Result<Reply, Memory>
 /// Reads the blocks of these bytes one by one behind the tip, and adds each to the chain. The first that is refused, by the
 /// fault of its record or by the book, gives the reply, and those before it are kept. The error is out of memory: some of
 /// the blocks are then added.
-pub fn add_blocks(alloc: Global, held: &mut Held, bytes: &[u8]) -> Result<Reply, Memory>
-    requires held { IsHeld held.old }
+pub fn add_blocks(alloc: Global, held: &mut Chain, bytes: &[u8]) -> Result<Reply, Memory>
+    requires held { IsChain held.old }
     requires fits { length bytes.now ≤ 67_108_864 }
     ensures reply { IfOk result (λ r. plain_reply r ≡ (add_records held.old (records_at held.old bytes.now)).reply) }
     ensures next { OnOk result (held.new ≡ (add_records held.old (records_at held.old bytes.now)).held) }
-    ensures held { IsHeld held.new }
+    ensures held { IsChain held.new }
     ensures wallet { held.new.wallet ≡ held.old.wallet }
     ensures own { IfOk result (λ r. IsOfBytes (plain_reply r)) }
     ensures memory { OnErr result ((n : ℕ) × (held.new ≡ (add_blocks held.old (take n (records_at held.old bytes.now).blocks) None).held)) }

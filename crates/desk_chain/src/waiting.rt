@@ -1,34 +1,34 @@
 //! A pending transaction of a command, read and added.
 
 ghost use Rattle.std.specs.Prelude.{◌≡◌, ◌≢◌, ◌%◌, IfOk, Ok, OnErr, OnOk, false, length};
-ghost use Rattle.fund_files.specs.Chain.{IsHeld};
+ghost use Rattle.fund_files.specs.Chain.{IsChain};
 ghost use Rattle.tx_codec.specs.TransactionText.{IsTransaction};
 ghost use Rattle.tx_codec.specs.Txid.{txid_of};
 ghost use Rattle.desk_machine.specs.Machine.{add_pending, is_later, is_repeat, pending_by_tx, whole_tx};
 ghost use Rattle.desk_machine.specs.Replies.{BadHex, BadTx, Refused, plain_reply};
-ghost use Rattle.desk_chain.specs.Kept.{AreTxidsOf};
+ghost use Rattle.desk_chain.specs.PendingTxids.{AreTxidsOf};
 
 use crate::chain::{add_pending, is_later};
 use crate::pending_txids::PendingTxids;
 use crate::records::refuse_book;
 use desk_machine::{Refusal, Reply};
 use fund_base::Memory;
-use fund_files::Held;
+use fund_files::Chain;
 use hex::FromHexError;
 use std::alloc::Global;
 use tx_codec::{Tx, TxFault, read_whole_tx, txid};
 
 /// Adds a transaction behind those that wait, which have these txids, unless it or the book refuses. The error is out of
 /// memory.
-fn add_tx(held: &mut Held, txids: &mut PendingTxids, tx: Tx) -> Result<Reply, Memory>
-    requires held { IsHeld held.old }
+fn add_tx(held: &mut Chain, txids: &mut PendingTxids, tx: Tx) -> Result<Reply, Memory>
+    requires held { IsChain held.old }
     requires txids { AreTxidsOf held.old.wallet.pending txids.old }
     requires text { IsTransaction tx }
     ensures fresh { OnErr result (is_repeat held.old.wallet.pending (txid_of tx) ≡ false) }
     ensures first { OnErr result (is_later held.old.wallet.pending tx ≡ false) }
     ensures reply { IfOk result (λ r. plain_reply r ≡ (pending_by_tx held.old (Ok tx)).reply) }
     ensures next { OnOk result (held.new ≡ (pending_by_tx held.old (Ok tx)).held) }
-    ensures held { IsHeld held.new }
+    ensures held { IsChain held.new }
     ensures change { held.new.wallet.change ≡ held.old.wallet.change }
     ensures memory { OnErr result (held.new ≡ held.old) }
     ensures txids { AreTxidsOf held.new.wallet.pending txids.new }
@@ -71,15 +71,15 @@ fn refuse_hex(error: FromHexError) -> Result<Reply, Memory>
 /// Adds the transaction of these bytes, all of them.
 fn add_bytes(
     alloc: Global,
-    held: &mut Held,
+    held: &mut Chain,
     txids: &mut PendingTxids,
     bytes: &[u8],
 ) -> Result<Reply, Memory>
-    requires held { IsHeld held.old }
+    requires held { IsChain held.old }
     requires txids { AreTxidsOf held.old.wallet.pending txids.old }
     ensures reply { IfOk result (λ r. plain_reply r ≡ (pending_by_tx held.old (whole_tx bytes.now)).reply) }
     ensures next { OnOk result (held.new ≡ (pending_by_tx held.old (whole_tx bytes.now)).held) }
-    ensures held { IsHeld held.new }
+    ensures held { IsChain held.new }
     ensures change { held.new.wallet.change ≡ held.old.wallet.change }
     ensures memory { OnErr result (held.new ≡ held.old) }
     ensures txids { AreTxidsOf held.new.wallet.pending txids.new }
@@ -96,15 +96,15 @@ fn add_bytes(
 #[tactic(auto, unfolding(desk_machine::specs::Machine::add_pending))]
 pub fn add_hex(
     alloc: Global,
-    held: &mut Held,
+    held: &mut Chain,
     txids: &mut PendingTxids,
     digits: &[u8],
 ) -> Result<Reply, Memory>
-    requires held { IsHeld held.old }
+    requires held { IsChain held.old }
     requires txids { AreTxidsOf held.old.wallet.pending txids.old }
     ensures reply { IfOk result (λ r. plain_reply r ≡ (add_pending held.old digits.now).reply) }
     ensures next { OnOk result (held.new ≡ (add_pending held.old digits.now).held) }
-    ensures held { IsHeld held.new }
+    ensures held { IsChain held.new }
     ensures change { held.new.wallet.change ≡ held.old.wallet.change }
     ensures memory { OnErr result (held.new ≡ held.old) }
     ensures even { OnErr result ((length digits.now % 2 ≡ 1) → ⊥) }

@@ -4,7 +4,7 @@ use Rattle.std.proofs.Common.{refl, sym, ap, ◌∙◌, subst, inl, inr, arith}
 use Rattle.std.proofs.lemmas.List.Elements.{All-contains, All-contains_itself, All-nil}
 use Rattle.fund_base.specs.Cursor.{IsBytes}
 use Rattle.coin_candidates.specs.declared.candidate.Candidate.{Candidate}
-use Rattle.fund_files.specs.declared.held.Held.{Held}
+use Rattle.fund_files.specs.declared.chain.Chain.{Chain}
 use Rattle.fund_plan.specs.Selection.{PlainFunded}
 use Rattle.fund_plan.specs.declared.outcome.Outcome.{Outcome}
 use Rattle.fund_plan.specs.declared.outcome.Outcome.TheVariants as answers
@@ -43,10 +43,10 @@ all_kept d new (s ∷ rest) bytes runs h =
     all_kept runs.0 new rest bytes.1 runs.2
     (record { held = one_booked d runs.0 s.command s.reply runs.1 bytes.0 h.held; jobs = one_claimed d runs.0 s.command s.reply runs.1 bytes.0 (opens_well d h.held) h.jobs })
 
-pub new_kept : (k : Held) (d : PlainDesk) (said : List Said) → IsBooked k → HaveBytes said → Runs (new_desk k) said d → IsKept d
+pub new_kept : (k : Chain) (d : PlainDesk) (said : List Said) → IsBooked k → HaveBytes said → Runs (new_desk k) said d → IsKept d
 new_kept k d said h bytes runs = all_kept (new_desk k) d said bytes runs (record { held = h; jobs = All-nil IsClaimed })
 
-pub jobs_claimed : (k : Held) (d : PlainDesk) (said : List Said) → IsBooked k → HaveBytes said → Runs (new_desk k) said d → All IsClaimed d.jobs
+pub jobs_claimed : (k : Chain) (d : PlainDesk) (said : List Said) → IsBooked k → HaveBytes said → Runs (new_desk k) said d → All IsClaimed d.jobs
 jobs_claimed k d said h bytes runs = (new_kept k d said h bytes runs).jobs
 
 -- ---- a commit
@@ -63,7 +63,7 @@ as_claimed j f claimed answer =
     let come = subst (λ (o : Option Outcome). IfSome o (IsComeTo j.state.plan claimed.tries)) answer claimed.answered in
     record { tries = come.tries; comes = come.comes; claims = come.claims }
 
-pub commit_shown : (k : Held) (d new : PlainDesk) (said : List Said) (name txid psbt : List ℕ) → IsBooked k → HaveBytes said → Runs (new_desk k) said d → (c : IsCommit d name txid psbt new) → IsClaimed c.job × IsPaidAsClaimed c.job.state.plan c.funded
+pub commit_shown : (k : Chain) (d new : PlainDesk) (said : List Said) (name txid psbt : List ℕ) → IsBooked k → HaveBytes said → Runs (new_desk k) said d → (c : IsCommit d name txid psbt new) → IsClaimed c.job × IsPaidAsClaimed c.job.state.plan c.funded
 commit_shown k d new said name txid psbt h bytes runs c =
     let claimed = All-contains IsClaimed d.jobs c.job (jobs_claimed k d said h bytes runs) c.stands in
     (claimed, as_claimed c.job c.funded claimed c.answers)
@@ -105,7 +105,7 @@ given_out d name txid psbt e = by_job (job_at d.jobs name) refl e
 none_committed : AreApart []
 none_committed = λ i j p lt below. absurd (omega (arith, below))
 
-pub commit_due : (k : Held) (d new : PlainDesk) (said : List Said) (name txid psbt : List ℕ) → IsBooked k → HaveBytes said → Runs (new_desk k) said d → Does d (Commit name) (Committed txid psbt) new → IsDueCommit d name txid psbt new
+pub commit_due : (k : Chain) (d new : PlainDesk) (said : List Said) (name txid psbt : List ℕ) → IsBooked k → HaveBytes said → Runs (new_desk k) said d → Does d (Commit name) (Committed txid psbt) new → IsDueCommit d name txid psbt new
 commit_due k d new said name txid psbt h bytes runs (inr s) = let e = s.reply_is in absurd cc
 commit_due k d new said name txid psbt h bytes runs (inl s) =
     let g = given_out d name txid psbt s.reply_is in

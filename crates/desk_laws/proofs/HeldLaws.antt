@@ -16,7 +16,7 @@ use Rattle.fund_base.proofs.Laws.{whole_takes}
 use Rattle.fund_base.specs.Cursor.{IsBytes}
 use Rattle.coin_candidates.specs.declared.candidate.Candidate.{Candidate}
 use Rattle.desk_chain.proofs.ChainLaws.{held_block, held_pending}
-use Rattle.fund_files.specs.declared.held.Held.{Held}
+use Rattle.fund_files.specs.declared.chain.Chain.{Chain}
 use Rattle.fund_plan.specs.Selection.{PlainFunded}
 use Rattle.fund_steps.specs.Plan.{PlainPlan}
 use Rattle.tx_codec.proofs.Laws.{tx_reads}
@@ -54,7 +54,7 @@ read_good file hash height fits =
     let f = fronts_of file hash height (All-take (λ b. b < 256) 1_073_741_824 file fits) in
     begun_good hash height (records_of file hash height).blocks file f.0 f.1
 
-blocks_booked : (k : Held) (blocks : List ChainBlock) (fault : Option FeedFault) → IsBooked k → All IsGood blocks → IsBooked (add_blocks k blocks fault).held
+blocks_booked : (k : Chain) (blocks : List ChainBlock) (fault : Option FeedFault) → IsBooked k → All IsGood blocks → IsBooked (add_blocks k blocks fault).held
 unfolding add_blocks
 blocks_booked k [] fault h good = by fault
   where
@@ -75,7 +75,7 @@ blocks_booked k (b ∷ blocks) fault h good = by (fault_of (histories.with_block
 hex_bytes : (hex bytes : List ℕ) → decode_of hex ≡ Ok bytes → IsBytes bytes
 hex_bytes hex bytes e = λ k d lt. subst (λ b. b < 256) (get_or_default bytes k 0 d lt) ((decode_of-ok hex bytes e).3 k)
 
-pending_booked : (k : Held) (hex : List ℕ) → IsBooked k → IsBooked (add_pending k hex).held
+pending_booked : (k : Chain) (hex : List ℕ) → IsBooked k → IsBooked (add_pending k hex).held
 unfolding add_pending
 pending_booked k hex h = by_hex (decode_of hex) refl
   where
@@ -155,7 +155,7 @@ one_booked d new c reply does bytes h = by c does bytes
     from : new.held ≡ d.held → IsBooked new.held
     from is = subst IsBooked (sym is) h
 
-    held : PlainDesk → Held
+    held : PlainDesk → Chain
     held x = x.held
 
     by : (c : Command) → Does d c reply new → HasBytes c → IsBooked new.held

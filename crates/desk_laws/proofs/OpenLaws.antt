@@ -17,7 +17,7 @@ use Rattle.desk_machine.specs.Commits.{IsFree}
 use Rattle.desk_machine.specs.Does.{Does}
 use Rattle.desk_machine.specs.Machine.{by_plan, open_step, plan_for, stay, with_jobs}
 use Rattle.desk_machine.specs.Replies.{Refusal, AllOpen, Opened, TakenName}
-use Rattle.desk_machine.specs.State.{Job, Payment, PlainDesk, candidates_in, free_in, has_job, has_point, is_reserved, new_job}
+use Rattle.desk_machine.specs.State.{Job, Payment, PlainDesk, candidates_at, free_at, has_job, has_point, is_reserved, new_job}
 use Rattle.desk_laws.proofs.PlanLaws.{IsMadeOf, made_of}
 use Rattle.desk_laws.specs.Opened.{IsOpenedWith}
 
@@ -35,9 +35,9 @@ never_reserved ps o free = false_from_ne_true (is_reserved ps o) (λ e.
         let is : a.1 ≡ o = (same_outpoint-Decides a.1 o).0 a.4 in
         (a.0, a.2, get_or_default p.coins a.0 o a.1 a.2 ∙ a.3 ∙ is)
 
-only_free : (d : PlainDesk) → All (λ (c : Candidate). Contains (candidates_in d.held) c × IsFree d.committed c.coin) (free_in d)
-only_free d = λ k c lt.
-    let now = candidates_in d.held in
+only_free : (d : PlainDesk) (rate : ℕ) → All (λ (c : Candidate). Contains (candidates_at d.held rate) c × IsFree d.committed c.coin) (free_at d rate)
+only_free d rate = λ k c lt.
+    let now = candidates_at d.held rate in
     let p : Candidate → Bool = λ x. not (is_reserved d.committed x.coin) in
     let none = none_of d.committed (get_or (filter p now) k c).coin (not_true _ (filter_passes p now k c lt)) in
     (All-filter p (Contains now) now (All-contains_itself now) k c lt, λ i q less has. absurd (none i q less has.0 (get_or (filter p now) k c).coin has.1 has.2))
@@ -46,8 +46,8 @@ only_free d = λ k c lt.
     not_true true e = absurd cc
     not_true false e = refl
 
-all_free : (d : PlainDesk) (c : Candidate) → Contains (candidates_in d.held) c → IsFree d.committed c.coin → Contains (free_in d) c
-all_free d c there free = in_filter (λ (x : Candidate). not (is_reserved d.committed x.coin)) (candidates_in d.held) c there (ap not (never_reserved d.committed c.coin free))
+all_free : (d : PlainDesk) (rate : ℕ) (c : Candidate) → Contains (candidates_at d.held rate) c → IsFree d.committed c.coin → Contains (free_at d rate) c
+all_free d rate c there free = in_filter (λ (x : Candidate). not (is_reserved d.committed x.coin)) (candidates_at d.held rate) c there (ap not (never_reserved d.committed c.coin free))
 
 -- ---- an open
 
@@ -57,7 +57,7 @@ IsOpened d name request new = (j : Job) × IsOpenedWith d name request j × (new
 opened_with : (d : PlainDesk) (name request : List ℕ) (p : PlainPlan) → IsMadeOf d request p → IsOpenedWith d name request (new_job name p)
 opened_with d name request p m =
     subst (λ (q : PlainPlan). IsOpenedWith d name request (new_job name q)) (sym m.is)
-    (record { fresh = refl; asked = m.read; change = refl; bump = refl; only = only_free d; all = all_free d })
+    (record { fresh = refl; asked = m.read; change = refl; bump = refl; only = only_free d m.asked.rate; all = all_free d m.asked.rate })
 
 step_opened : (d : PlainDesk) (name request : List ℕ) → Opened ≡ (open_step d name request).reply → IsOpened d name request (open_step d name request).next
 unfolding open_step

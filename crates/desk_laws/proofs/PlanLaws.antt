@@ -8,7 +8,7 @@ use Rattle.coin_candidates.specs.Candidates.{AreCandidates}
 use Rattle.coin_candidates.specs.declared.candidate.Candidate.{Candidate}
 use Rattle.fund_base.specs.declared.outpoint.OutPoint.{OutPoint}
 use Rattle.fund_desk.proofs.LookLaws.{candidates_filter}
-use Rattle.fund_files.specs.declared.held.Held.{Held}
+use Rattle.fund_files.specs.declared.chain.Chain.{Chain}
 use Rattle.fund_steps.proofs.BumpLaws.{no_bump}
 use Rattle.fund_steps.proofs.PresetLaws.{all_eligible}
 use Rattle.fund_steps.specs.Amounts.{value_of}
@@ -28,7 +28,7 @@ use Rattle.request_text.specs.RequestText.{request_of}
 use Rattle.request_text.specs.declared.fault.Refusal as requests
 use Rattle.desk_machine.specs.Machine.{by_fault, plan_by, plan_for, plan_in}
 use Rattle.desk_machine.specs.Replies.{HasBump}
-use Rattle.desk_machine.specs.State.{PlainDesk, candidates_in, free_in, is_reserved}
+use Rattle.desk_machine.specs.State.{PlainDesk, candidates_at, free_at, is_reserved}
 use Rattle.desk_laws.specs.Claimed.{IsBooked}
 
 -- ---- a plan without a fault
@@ -60,22 +60,22 @@ none_wrong p e = by (nat_lt 2_100_000_000_000_000 (value_of (coins_in p))) (firs
 
 -- ---- the coins
 
-book_of : (k : Held) → IsBooked k → IsBookOf k.wallet k.book
+book_of : (k : Chain) → IsBooked k → IsBookOf k.wallet k.book
 book_of k h =
     let is = h.held.is in
     record {
       blocks = h.held.blocks;
       texts = h.held.texts;
-      scripts = ap (λ (x : Held). x.book.scripts) is;
-      confirmed = ap (λ (x : Held). x.book.confirmed) is;
-      pending = ap (λ (x : Held). x.book.pending) is;
+      scripts = ap (λ (x : Chain). x.book.scripts) is;
+      confirmed = ap (λ (x : Chain). x.book.confirmed) is;
+      pending = ap (λ (x : Chain). x.book.pending) is;
     }
 
-pub now_fit : (k : Held) → IsBooked k → AreCandidates (candidates_in k)
-now_fit k h = fit k.wallet k.book h.held.rules (book_of k h) h.sound k.tip.height
+pub fit_at : (k : Chain) (rate : ℕ) → IsBooked k → AreCandidates (candidates_at k rate)
+fit_at k rate h = fit k.wallet k.book h.held.rules (book_of k h) h.sound k.tip.height rate
 
-free_fit : (d : PlainDesk) → IsBooked d.held → AreCandidates (free_in d)
-free_fit d h = candidates_filter (λ (c : Candidate). not (is_reserved d.committed c.coin)) (candidates_in d.held) (now_fit d.held h)
+free_fit : (d : PlainDesk) (rate : ℕ) → IsBooked d.held → AreCandidates (free_at d rate)
+free_fit d rate h = candidates_filter (λ (c : Candidate). not (is_reserved d.committed c.coin)) (candidates_at d.held rate) (fit_at d.held rate h)
 
 -- ---- the plan
 
@@ -88,9 +88,9 @@ in_plan d r h rules none e =
     let fine = none_wrong (plan_in d r) e in
     record {
       request = rules;
-      bump = no_bump r (free_in d) (no_txid r.bump none);
+      bump = no_bump r (free_at d r.rate) (no_txid r.bump none);
       change = h.held.rules.change;
-      candidates = free_fit d h;
+      candidates = free_fit d r.rate h;
       within = fine.within;
       eligible = fine.eligible;
       roomy = fine.roomy;

@@ -13,7 +13,7 @@ use Rattle.block_feed.specs.Feed.{most, next_in}
 use Rattle.block_feed.specs.declared.fault.FeedFault.{FeedFault}
 use Rattle.fund_base.specs.Cursor.{IsBytes}
 use Rattle.fund_files.specs.Chain.{tip_behind}
-use Rattle.fund_files.specs.declared.held.Tip.{Tip}
+use Rattle.fund_files.specs.declared.chain.Tip.{Tip}
 use Rattle.desk_machine.proofs.RecordLaws.{next_records}
 use Rattle.desk_machine.specs.Records.{BeginsWith, behind_block, by_next, records_from, records_of}
 use Rattle.desk_laws.specs.Refused.{IsRefusedBehind}

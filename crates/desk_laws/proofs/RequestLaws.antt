@@ -30,8 +30,8 @@ use Rattle.request_text.proofs.SeedLaws as seeds
 use Rattle.request_text.proofs.TableLaws.{first, recipients_required, values}
 use Rattle.request_text.proofs.Witness.{most, some}
 use Rattle.request_text.specs.Entries.{IsNoScript, PaysTo}
-use Rattle.request_text.specs.PlainRequest.{IsRecipient, IsRequest, PlainRequest, paid_to}
-use Rattle.request_text.specs.RequestText.{bump_at, coins_at, distinct_at, field, known_in, or_else, rate_at, recipient_behind, recipients_at, repeat_behind, request_at, request_of, required_in, seed_at, tries_at}
+use Rattle.request_text.specs.PlainRequest.{IsRecipient, IsRequest, IsVersion, PlainRequest, paid_to}
+use Rattle.request_text.specs.RequestText.{bump_at, coins_at, distinct_at, field, known_in, or_else, rate_at, recipient_behind, recipients_at, repeat_behind, request_at, request_of, required_in, seed_at, tries_at, version_at}
 use Rattle.request_text.specs.Table.{member_faults, number_of_name, said_by}
 use Rattle.request_text.specs.declared.fault.Refusal.TheVariants.{Field}
 use Rattle.request_text.specs.declared.request.Recipient.{Recipient}
@@ -59,6 +59,9 @@ tries_are m n e = let t = (ranges.tries m n).0 e in (t.1, t.2)
 
 seed_is : (m : Data) (seed : List ℕ) → field (seed_at m) ≡ Ok seed → IsHash seed
 seed_is m seed e = (seeds.found m seed (from_told Field (seed_at m) seed e)).1
+
+version_is : (m : Data) (n : ℕ) → field (version_at m) ≡ Ok n → IsVersion n
+version_is m n e = ((ranges.versions m n).0 (from_told Field (version_at m) n e)).1
 
 no_seed : IsHash (replicate 32 0)
 no_seed = record { len = refl; bytes = All-replicate (λ b. b < 256) 32 0 (omega arith) }
@@ -200,6 +203,7 @@ record SaysWell (d : Data) : Type 0 where
   coins : wrong coins_at (get (codes "coins") d) ≡ None
   bump : wrong (λ m. field (bump_at m)) (get (codes "bump") d) ≡ None
   locktime : number_of_name (codes "locktime") 4_294_967_295 d ≡ None
+  psbt : wrong (λ m. field (version_at m)) (get (codes "psbt") d) ≡ None
 
 says_well : (d : Data) → first_some (result_err (field (object_at (codes "root") (known_in d) (required_in d) d)) ∷ member_faults d) ≡ None → SaysWell d
 unfolding member_faults
@@ -217,6 +221,7 @@ says_well d e =
       coins = at 13;
       bump = at 14;
       locktime = at 16;
+      psbt = at 17;
     }
 
 said_rules : (d : Data) → SaysWell d → IsRequest (said_by d)
@@ -241,6 +246,7 @@ said_rules d w =
       bump = replaced.hash;
       alone = λ s. alone d _ w.whole (replaced.there s) coins;
       locktime = let le = number_said 0 (codes "locktime") 4_294_967_295 d (omega arith) w.locktime in omega (arith, le);
+      psbt = by_optional IsVersion 0 (λ m. field (version_at m)) (get (codes "psbt") d) _ (inl refl) version_is (read_of 0 (λ m. field (version_at m)) (get (codes "psbt") d) w.psbt);
     }
   where
     rate_said : (default : ℕ) (name : List ℕ) (d : Data) → default ≤ 100_000_000 → wrong (rate_at name) (get name d) ≡ None → said default (rate_at name) (get name d) ≤ 100_000_000

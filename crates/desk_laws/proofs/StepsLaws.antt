@@ -12,7 +12,7 @@ use Rattle.fee_rates.proofs.FeeLaws.{fee_at_dust_rate, fee_below, fee_least, vsi
 use Rattle.fee_rates.specs.Fee.{fee_of, input_fee_of, vsize_of}
 use Rattle.fee_rates.specs.Output.{dust_of, is_program_of, is_unspendable_of, output_size_of}
 use Rattle.fee_rates.specs.Terms.{IsLoad, base_of, target_of, terms_of}
-use Rattle.fee_rates.specs.declared.terms.Load.{Load}
+use Rattle.fee_rates.specs.declared.terms.PaymentLoad.{PaymentLoad}
 use Rattle.fee_rates.specs.declared.terms.Rates.{Rates}
 use Rattle.fee_rates.specs.declared.terms.Terms.{Terms}
 use Rattle.coin_candidates.specs.Candidates.{AreCandidates, IsCandidate}
@@ -24,7 +24,7 @@ use Rattle.fund_steps.proofs.BumpLaws.{burden_within, presets_fit}
 use Rattle.fund_steps.proofs.MakingLaws.{searched, step_fits}
 use Rattle.fund_steps.proofs.SumLaws.{weights_within}
 use Rattle.fund_steps.proofs.TermLaws.{row_searchable, some_where}
-use Rattle.fund_steps.specs.Amounts.{AreWithin, fees_of}
+use Rattle.fund_steps.specs.Amounts.{AreWithin, charges_of}
 use Rattle.fund_steps.specs.Basis.{basis_of, load_alone}
 use Rattle.fund_steps.specs.Listed.{burden_in, presets_in}
 use Rattle.fund_steps.specs.Making.{AreReady, AreSearchable, AreSearched, groups_for}
@@ -38,7 +38,7 @@ use Rattle.output_groups.proofs.ItemLaws.{items_fit}
 use Rattle.output_groups.proofs.PlacedLaws.{counted}
 use Rattle.output_groups.proofs.PoolLaws.{pool_groups}
 use Rattle.output_groups.proofs.SortLaws.{is_pool}
-use Rattle.output_groups.specs.Measures.{IsGroup, coin_cost, gain, is_useful}
+use Rattle.output_groups.specs.Measures.{IsGroup, charge_of, coin_cost, gain, is_useful}
 use Rattle.output_groups.specs.Pool.{item_of}
 use Rattle.output_groups.specs.PoolOf.{pool_of}
 use Rattle.output_groups.specs.declared.rows.Row.{Row}
@@ -59,21 +59,23 @@ fee_most rate w low small =
     let size : vsize_of w ≤ 100_000 = (vsize_least w).least 100_000 (omega (arith, small)) in
     omega (arith, fee_below rate (vsize_of w) 100_000_000 100_000 low size, (fee_least 100_000_000 100_000).least 10_000_000_000 (omega arith))
 
-gained : (value fee : ℕ) → int_lt (pos 0) (pos value -ℤ pos fee) ≡ true → 1 ≤ value - fee
-gained value fee h = grind (arith, ints, h)
+gained : (value fee price : ℕ) → int_lt (pos 0) ((pos value -ℤ pos fee) -ℤ pos price) ≡ true → 1 ≤ value - (fee + price)
+gained value fee price h = grind (arith, ints, h)
 
-coin_near : (rate long_term : ℕ) (c : Candidate) → rate ≤ 100_000_000 → long_term ≤ 100_000_000 → IsCandidate c → (neg_ℤ (pos 10_000_000_000) ≤ℤ coin_cost rate long_term c) × (coin_cost rate long_term c ≤ℤ pos 10_000_000_000)
+coin_near : (rate long_term : ℕ) (c : Candidate) → rate ≤ 100_000_000 → long_term ≤ 100_000_000 → IsCandidate c → (neg_ℤ (pos 10_000_000_000) ≤ℤ coin_cost rate long_term c) × (coin_cost rate long_term c ≤ℤ pos 2_100_010_000_000_000)
 coin_near rate long_term c low later is =
     let now = fee_most rate c.weight low is.most_weight in
     let then = fee_most long_term c.weight later is.most_weight in
-    (omega (arith, ints, now, then), omega (arith, ints, now, then))
+    let price = is.price in
+    (omega (arith, ints, now, then), omega (arith, ints, now, then, price))
 
-costs_near : (rate long_term : ℕ) (g : List Candidate) (a : ℤ) (m : ℕ) → rate ≤ 100_000_000 → long_term ≤ 100_000_000 → All IsCandidate g → neg_ℤ (pos m) ≤ℤ a → a ≤ℤ pos m
-    → (neg_ℤ (pos (m + length g * 10_000_000_000)) ≤ℤ fold (λ s c. s +ℤ coin_cost rate long_term c) a g) × (fold (λ s c. s +ℤ coin_cost rate long_term c) a g ≤ℤ pos (m + length g * 10_000_000_000))
-costs_near rate long_term [] a m low later each least most = (omega (arith, ints, least), omega (arith, ints, most))
-costs_near rate long_term (c ∷ g) a m low later each least most =
+costs_near : (rate long_term : ℕ) (g : List Candidate) (a : ℤ) (l m : ℕ) → rate ≤ 100_000_000 → long_term ≤ 100_000_000 → All IsCandidate g → neg_ℤ (pos l) ≤ℤ a → a ≤ℤ pos m
+    → (neg_ℤ (pos (l + length g * 10_000_000_000)) ≤ℤ fold (λ s c. s +ℤ coin_cost rate long_term c) a g) × (fold (λ s c. s +ℤ coin_cost rate long_term c) a g ≤ℤ pos (m + length g * 2_100_010_000_000_000))
+costs_near rate long_term [] a l m low later each least most = (omega (arith, ints, least), omega (arith, ints, most))
+costs_near rate long_term (c ∷ g) a l m low later each least most =
     let one = coin_near rate long_term c low later (All-head IsCandidate c g each) in
-    let rest = costs_near rate long_term g (a +ℤ coin_cost rate long_term c) (m + 10_000_000_000) low later (All-tail IsCandidate c g each) (omega (arith, ints, least, one.0)) (omega (arith, ints, most, one.1)) in
+    let rest =
+    costs_near rate long_term g (a +ℤ coin_cost rate long_term c) (l + 10_000_000_000) (m + 2_100_010_000_000_000) low later (All-tail IsCandidate c g each) (omega (arith, ints, least, one.0)) (omega (arith, ints, most, one.1)) in
     (omega (arith, ints, rest.0), omega (arith, ints, rest.1))
 
 item_is : (rate long_term : ℕ) (g : List Candidate) → rate ≤ 100_000_000 → long_term ≤ 100_000_000 → IsGroup rate g → IsItem (item_of rate long_term g)
@@ -82,13 +84,13 @@ item_is rate long_term (c ∷ g) low later h =
     let few = h.few in
     let first = All-head IsCandidate c g h.each in
     let useful = All-head (λ (x : Candidate). is_useful rate x ≡ true) c g h.useful in
-    let one : 1 ≤ gain rate c = gained c.value (input_fee_of rate c.weight) useful in
+    let one : 1 ≤ gain rate c = gained c.value (input_fee_of rate c.weight) c.price useful in
     let value = get_or-le-sum_by (gain rate) (c ∷ g) 0 c (omega arith) in
     let values = sum_by-le (gain rate) 2_100_000_000_000_000 (c ∷ g) (All-weaker IsCandidate (λ (x : Candidate). gain rate x ≤ 2_100_000_000_000_000) (λ x k. let v = k.value in omega (arith, v)) (c ∷ g) h.each) in
     let weight = get_or-le-sum_by (λ (x : Candidate). x.weight) (c ∷ g) 0 c (omega arith) in
     let least = first.least_weight in
     let weights = sum_by-le (λ (x : Candidate). x.weight) 400_000 (c ∷ g) (All-weaker IsCandidate (λ (x : Candidate). x.weight ≤ 400_000) (λ x k. k.most_weight) (c ∷ g) h.each) in
-    let costs = costs_near rate long_term (c ∷ g) (pos 0) 0 low later h.each (omega (arith, ints)) (omega (arith, ints)) in
+    let costs = costs_near rate long_term (c ∷ g) (pos 0) 0 0 low later h.each (omega (arith, ints)) (omega (arith, ints)) in
     record {
       value = (omega (arith, one, value), omega (arith, values, few));
       weight = (omega (arith, weight, least), omega (arith, weights, few));
@@ -149,9 +151,8 @@ dust_most script most = by (is_unspendable_of script) (is_program_of script)
     by false false = omega (arith, size, fee_at_dust_rate (output_size_of script + 148))
 
 -- a load from which steps can be made
-record IsFit (l : Load) : Type 0 where
+record IsFit (l : PaymentLoad) : Type 0 where
   load : IsLoad l
-  low : neg_ℤ (pos 1_000_000_000_000_000) ≤ℤ l.preset_effective
   dust : l.change_dust ≤ 31_000
   coins : l.coins ≤ 100_000
 
@@ -160,8 +161,9 @@ unfolding load_of
 load_fits r w coins burden rules watch within low =
     let count = within.count in
     let value = within.value in
-    let fees = sum_by-le (λ (c : Candidate). input_fee_of r.rate c.weight) 10_000_000_000 coins (All-weaker IsCandidate (λ (c : Candidate). input_fee_of r.rate c.weight ≤ 10_000_000_000) (λ c k. fee_most r.rate c.weight rules.rate k.most_weight) coins within.each) in
-    let paid : fees_of r.rate coins ≤ 1_000_000_000_000_000 = omega (arith, fees, count) in
+    let charges = sum_by-le (charge_of r.rate) 2_100_010_000_000_000 coins
+    (All-weaker IsCandidate (λ (c : Candidate). charge_of r.rate c ≤ 2_100_010_000_000_000) (λ c k. omega (arith, fee_most r.rate c.weight rules.rate k.most_weight, k.price)) coins within.each) in
+    let paid : charges_of r.rate coins ≤ 210_001_000_000_000_000_000 = omega (arith, charges, count) in
     let size = output_most w.script watch.most in
     record {
       load = record {
@@ -175,7 +177,6 @@ load_fits r w coins burden rules watch within low =
         change_size = omega (arith, size);
         change_weight = watch.most_weight;
       };
-      low = omega (arith, ints, paid);
       dust = dust_most w.script watch.most;
       coins = count;
     }
@@ -201,11 +202,11 @@ turns_have Draw high = drawn
 turns_have Manual high = no_turn
 
 -- the stages of each row, and that coins have to bring something where there is one
-record AreAsked (r : PlainRequest) (l : Load) (us : List Turn) : Type 0 where
+record AreAsked (r : PlainRequest) (l : PaymentLoad) (us : List Turn) : Type 0 where
   stages : All (λ (u : Turn). HasSteps u.stage) us
   some : 0 < length us → pos 1 ≤ℤ target_of (rates_of r) l
 
-asked : (r : PlainRequest) (l : Load) → AreAsked r l (turns_for r l)
+asked : (r : PlainRequest) (l : PaymentLoad) → AreAsked r l (turns_for r l)
 asked r l = by (is_met (rates_of r) l) refl
   where
     by : (b : Bool) → is_met (rates_of r) l ≡ b → AreAsked r l (cond b [] (turns_of r.method (is_high r)))
@@ -219,7 +220,6 @@ ready p h =
     record {
       rates = record { rate = h.request.rate; discard = h.request.discard; change_target = h.request.change_target };
       load = fit.load;
-      low = fit.low;
       dust = fit.dust;
       coins = fit.coins;
       stages = a.stages;
@@ -235,7 +235,7 @@ record HasLimits (t : Terms) : Type 0 where
   plain : t.plain_limit ≤ 400_000
   change : t.change_limit ≤ 400_000
 
-limits : (r : Rates) (l : Load) → HasLimits (terms_of r l)
+limits : (r : Rates) (l : PaymentLoad) → HasLimits (terms_of r l)
 unfolding terms_of
 limits r l = record { plain = less 400_000 (base_of l) l.preset_weight; change = let p = less 400_000 (base_of l) l.preset_weight in omega (arith, p) }
 

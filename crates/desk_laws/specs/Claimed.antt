@@ -2,8 +2,8 @@
 use Rattle.std.specs.Prelude.{ℕ, ◌≡◌, ◌≤◌, ◌+◌, ◌⊎◌, List, [], ◌∷◌, All, Contains, None, Some, IfSome}
 use Rattle.coin_book.specs.Faults.{fault_of}
 use Rattle.fund_base.specs.Cursor.{IsBytes}
-use Rattle.fund_files.specs.Chain.{IsHeld}
-use Rattle.fund_files.specs.declared.held.Held.{Held}
+use Rattle.fund_files.specs.Chain.{IsChain}
+use Rattle.fund_files.specs.declared.chain.Chain.{Chain}
 use Rattle.fund_plan.specs.Claims.{Claims, IsProvedNone, IsUsedUp}
 use Rattle.fund_plan.specs.Outcome.{log_at, outcome_at}
 use Rattle.fund_plan.specs.Selection.{PlainFunded}
@@ -25,8 +25,8 @@ use Rattle.desk_machine.specs.State.{Job, PlainDesk, candidates_in, job_at, new_
 -- ---- what a desk is given
 
 -- a wallet and its chain keep their rules, and their book holds each coin
-pub record IsBooked (k : Held) : Type 0 where
-  pub held : IsHeld k
+pub record IsBooked (k : Chain) : Type 0 where
+  pub held : IsChain k
   pub sound : fault_of k.book ≡ None
 
 -- the files of a command are bytes
@@ -78,9 +78,10 @@ pub record IsPaidAsClaimed (p : PlainPlan) (f : PlainFunded) : Type 0 where
   pub comes : outcome_at p tries ≡ Funded f
   pub claims : Claims p tries f
 
--- A commit gives out the payment that is the answer of the open job of this name. The payment keeps what its mark claims of the job's plan, each
--- coin of it could be spent, and no other committed payment spends one of them. The txid and the PSBT are the payment's; it
--- is then committed, the job is closed, and all else is as before.
+-- A commit gives out the payment that is the answer of the open job of this name. The payment keeps what its mark claims of
+-- the job's plan, each coin of it could be spent, and no other committed payment spends one of them. The txid and the PSBT
+-- are the payment's, the PSBT in the version that the job's request asks for. The payment is then committed, the job is
+-- closed, and all else is as before.
 pub record IsDueCommit (d : PlainDesk) (name txid psbt : List ℕ) (new : PlainDesk) : Type 0 where
   pub job : Job
   pub funded : PlainFunded
@@ -93,5 +94,5 @@ pub record IsDueCommit (d : PlainDesk) (name txid psbt : List ℕ) (new : PlainD
   pub spendable : All (IsSpendable d.committed (candidates_in d.held) job.state.plan.request funded.row) funded.coins
   pub apart : AreApart new.committed
   pub txid_is : txid ≡ txid_of (payment_at d.held job funded)
-  pub psbt_is : psbt ≡ written (psbt_at d.held job funded)
+  pub psbt_is : psbt ≡ written job.state.plan.request.psbt (psbt_at d.held job funded)
   pub next : new ≡ with_payment d name job funded

@@ -6,7 +6,7 @@ ghost use Rattle.block_feed.specs.BlockFile.{IsBlockFile};
 ghost use Rattle.block_feed.specs.declared.fault.FeedFault.{FeedFault};
 ghost use Rattle.closing_log.specs.declared.mark.Mark.{Mark};
 ghost use Rattle.fund_base.specs.Cursor.{IsBytes};
-ghost use Rattle.fund_files.specs.declared.held.Held.{Held};
+ghost use Rattle.fund_files.specs.declared.chain.Chain.{Chain};
 ghost use Rattle.fund_plan.specs.Selection.{PlainFunded};
 ghost use Rattle.fund_plan.specs.declared.outcome.Outcome.{Outcome};
 ghost use Rattle.desk_machine.specs.Commands.{Commit, Open, Turn};
@@ -28,16 +28,16 @@ ghost use Rattle.desk_laws.specs.Refused.{IsRefusedBehind};
 /// payment, what its mark promises. The desk's wallet and book keep their rules, as those of each desk do, and what it is
 /// given is bytes.
 pub fn commits_keep_their_claims()
-    ensures { (k : Held) (d : PlainDesk) (said : List Said) → IsBooked k → HaveBytes said → Runs (new_desk k) said d → All IsClaimed d.jobs }
+    ensures { (k : Chain) (d : PlainDesk) (said : List Said) → IsBooked k → HaveBytes said → Runs (new_desk k) said d → All IsClaimed d.jobs }
 {}
 
 /// The law of commits: what a desk gives out is the payment of an open job. It keeps what its mark claims of the job's plan,
-/// each coin of it could be spent, and no other committed payment spends one of them. The same holds of whatever payment the
-/// call is shown to give out.
+/// each coin of it could be spent, and no other committed payment spends one of them. Its PSBT is of the version that the job's
+/// request asks for. The same holds of whatever payment the call is shown to give out.
 pub fn commits_are_due()
-    ensures due { (k : Held) (d new : PlainDesk) (said : List Said) (name txid psbt : List ℕ) → IsBooked k → HaveBytes said → Runs (new_desk k) said d →
+    ensures due { (k : Chain) (d new : PlainDesk) (said : List Said) (name txid psbt : List ℕ) → IsBooked k → HaveBytes said → Runs (new_desk k) said d →
         Does d (Commit name) (Committed txid psbt) new → IsDueCommit d name txid psbt new }
-    ensures shown { (k : Held) (d new : PlainDesk) (said : List Said) (name txid psbt : List ℕ) → IsBooked k → HaveBytes said → Runs (new_desk k) said d →
+    ensures shown { (k : Chain) (d new : PlainDesk) (said : List Said) (name txid psbt : List ℕ) → IsBooked k → HaveBytes said → Runs (new_desk k) said d →
         (c : IsCommit d name txid psbt new) → IsClaimed c.job × IsPaidAsClaimed c.job.state.plan c.funded }
 {}
 
@@ -53,7 +53,7 @@ pub fn turns_leave_their_answer()
 {}
 
 /// The law of open: a job that it makes has for candidates exactly the coins that may be spent then and that no committed
-/// payment spends. Its request is that of the file, and no try is made yet.
+/// payment spends, with their prices at the rate of its request. The request is that of the file, and no try is made yet.
 pub fn opened_jobs_have_free_coins()
     ensures { (d new : PlainDesk) (name request : List ℕ) → Does d (Open name request) Opened new →
         (j : Job) × IsOpenedWith d name request j × (new ≡ with_jobs d (d.jobs ++ j ∷ [])) }

@@ -9,7 +9,7 @@ use Rattle.block_feed.specs.declared.fault.FeedFault.{FeedFault}
 use Rattle.coin_book.specs.Faults.{fault_of}
 use Rattle.coin_book.specs.History as histories
 use Rattle.coin_book.specs.declared.fault.BookFault.{BookFault}
-use Rattle.fund_files.specs.declared.held.Held.{Held}
+use Rattle.fund_files.specs.declared.chain.Chain.{Chain}
 use Rattle.desk_machine.specs.Machine.{Grown, add_blocks, add_records, by_book, records_at, refused_at, with_block}
 use Rattle.desk_machine.specs.Records.{Records, behind_block, by_next, records_from}
 use Rattle.desk_machine.specs.Replies.{BadBlocks, BadBook, Tip}
@@ -22,7 +22,7 @@ abbrev no_records : Records
 no_records = record { blocks = []; fault = None }
 
 -- These blocks were read and added, and the feed stands behind them.
-pub record SoFar (bytes : List ℕ) (begun now : Held) (feed : FeedState) : Type 0 where
+pub record SoFar (bytes : List ℕ) (begun now : Chain) (feed : FeedState) : Type 0 where
   pub front : List ChainBlock
   pub fuel : ℕ
   pub hash : feed.hash ≡ now.tip.hash
@@ -32,7 +32,7 @@ pub record SoFar (bytes : List ℕ) (begun now : Held) (feed : FeedState) : Type
   pub left : records_at begun bytes ≡ with_front front (records_from fuel bytes feed.hash feed.height feed.place)
   pub adds : (r : Records) → add_records begun (with_front front r) ≡ add_records now r
 
-pub so_far_none : (bytes : List ℕ) (k : Held) (feed : FeedState) → feed.place ≡ 0 → feed.hash ≡ k.tip.hash → feed.height ≡ k.tip.height → SoFar bytes k k feed
+pub so_far_none : (bytes : List ℕ) (k : Chain) (feed : FeedState) → feed.place ≡ 0 → feed.hash ≡ k.tip.hash → feed.height ≡ k.tip.height → SoFar bytes k k feed
 so_far_none bytes k feed place hash height = record {
   front = [];
   fuel = suc (length bytes);
@@ -51,15 +51,15 @@ pub next_records : (bytes hash : List ℕ) (height place n : ℕ) (next : Result
 unfolding records_from
 next_records bytes hash height place n next is = ap (by_next (λ block behind. records_from n bytes block.hash block.height behind)) is
 
-add_more : (k : Held) (b : ChainBlock) (r : Records) (o : Option BookFault) → fault_of (histories.with_block k.book b) ≡ o → add_records k (behind_block b r) ≡ by_book k o (add_records (with_block k b) r)
+add_more : (k : Chain) (b : ChainBlock) (r : Records) (o : Option BookFault) → fault_of (histories.with_block k.book b) ≡ o → add_records k (behind_block b r) ≡ by_book k o (add_records (with_block k b) r)
 unfolding add_blocks
 add_more k b r o is = ap (λ (x : Option BookFault). by_book k x (add_records (with_block k b) r)) is
 
-add_none : (k : Held) → add_records k no_records ≡ record { reply = Tip k.tip.height k.tip.hash; held = k }
+add_none : (k : Chain) → add_records k no_records ≡ record { reply = Tip k.tip.height k.tip.hash; held = k }
 unfolding add_blocks
 add_none k = refl
 
-add_fault : (k : Held) (e : FeedFault) → add_records k (record { blocks = []; fault = Some e }) ≡ refused_at k (BadBlocks e)
+add_fault : (k : Chain) (e : FeedFault) → add_records k (record { blocks = []; fault = Some e }) ≡ refused_at k (BadBlocks e)
 unfolding add_blocks
 add_fault k e = refl
 
@@ -68,7 +68,7 @@ add_fault k e = refl
 front_more : (front : List ChainBlock) (x : ChainBlock) (r : Records) → with_front front (behind_block x r) ≡ with_front (front ++ x ∷ []) r
 front_more front x r = ap (λ (bs : List ChainBlock). record { blocks = bs; fault = r.fault }) (sym (append_assoc front (x ∷ []) r.blocks))
 
-pub so_far_more : (bytes : List ℕ) (begun now new : Held) (feed next : FeedState) (b : ChainBlock) → SoFar bytes begun now feed → next_of bytes feed ≡ Ok (Some (b, next.place)) → feed.place < next.place → next.place ≤ length bytes
+pub so_far_more : (bytes : List ℕ) (begun now new : Chain) (feed next : FeedState) (b : ChainBlock) → SoFar bytes begun now feed → next_of bytes feed ≡ Ok (Some (b, next.place)) → feed.place < next.place → next.place ≤ length bytes
     → next.hash ≡ b.hash → next.height ≡ b.height → fault_of (histories.with_block now.book b) ≡ None → new ≡ with_block now b → SoFar bytes begun new next
 so_far_more bytes begun now new feed next b h is further within hash height sound new_is = by h.fuel h.enough h.left
   where
@@ -77,8 +77,8 @@ so_far_more bytes begun now new feed next b h is further within hash height soun
     by (suc n) enough left = record {
       front = h.front ++ b ∷ [];
       fuel = n;
-      hash = hash ∙ sym (ap (λ (k : Held). k.tip.hash) new_is);
-      height = height ∙ sym (ap (λ (k : Held). k.tip.height) new_is);
+      hash = hash ∙ sym (ap (λ (k : Chain). k.tip.hash) new_is);
+      height = height ∙ sym (ap (λ (k : Chain). k.tip.height) new_is);
       within = within;
       enough = omega (arith, enough, further);
       left = left
@@ -90,13 +90,13 @@ so_far_more bytes begun now new feed next b h is further within hash height soun
           sym (ap (add_records begun) (front_more h.front b r))
           ∙ h.adds (behind_block b r)
           ∙ add_more now b r None sound
-          ∙ ap (λ (k : Held). add_records k r) (sym new_is);
+          ∙ ap (λ (k : Chain). add_records k r) (sym new_is);
     }
 
 -- ---- where it ends
 
 -- the last record, where nothing is left of the fuel but one
-ends_by : (bytes : List ℕ) (begun now : Held) (feed : FeedState) (next : Result (Option (ChainBlock × ℕ)) FeedFault) → SoFar bytes begun now feed → next_of bytes feed ≡ next
+ends_by : (bytes : List ℕ) (begun now : Chain) (feed : FeedState) (next : Result (Option (ChainBlock × ℕ)) FeedFault) → SoFar bytes begun now feed → next_of bytes feed ≡ next
     → (n : ℕ) × (add_records begun (records_at begun bytes) ≡ add_records now (by_next (λ block behind. records_from n bytes block.hash block.height behind) next))
 ends_by bytes begun now feed next h is = by h.fuel h.enough h.left
   where
@@ -110,20 +110,20 @@ ends_by bytes begun now feed next h is = by h.fuel h.enough h.left
           ∙ ap (add_records now) (next_records bytes feed.hash feed.height feed.place n next is),
     )
 
-pub ends_tip : (bytes : List ℕ) (begun now : Held) (feed : FeedState) → SoFar bytes begun now feed → next_of bytes feed ≡ Ok None → add_records begun (records_at begun bytes) ≡ record { reply = Tip now.tip.height now.tip.hash; held = now }
+pub ends_tip : (bytes : List ℕ) (begun now : Chain) (feed : FeedState) → SoFar bytes begun now feed → next_of bytes feed ≡ Ok None → add_records begun (records_at begun bytes) ≡ record { reply = Tip now.tip.height now.tip.hash; held = now }
 ends_tip bytes begun now feed h is = (ends_by bytes begun now feed (Ok None) h is).1 ∙ add_none now
 
-pub ends_fault : (bytes : List ℕ) (begun now : Held) (feed : FeedState) (e : FeedFault) → SoFar bytes begun now feed → next_of bytes feed ≡ Err e → add_records begun (records_at begun bytes) ≡ refused_at now (BadBlocks e)
+pub ends_fault : (bytes : List ℕ) (begun now : Chain) (feed : FeedState) (e : FeedFault) → SoFar bytes begun now feed → next_of bytes feed ≡ Err e → add_records begun (records_at begun bytes) ≡ refused_at now (BadBlocks e)
 ends_fault bytes begun now feed e h is = (ends_by bytes begun now feed (Err e) h is).1 ∙ add_fault now e
 
-pub ends_book : (bytes : List ℕ) (begun now : Held) (feed : FeedState) (b : ChainBlock) (place : ℕ) (e : BookFault) → SoFar bytes begun now feed → next_of bytes feed ≡ Ok (Some (b, place)) → fault_of (histories.with_block now.book b) ≡ Some e
+pub ends_book : (bytes : List ℕ) (begun now : Chain) (feed : FeedState) (b : ChainBlock) (place : ℕ) (e : BookFault) → SoFar bytes begun now feed → next_of bytes feed ≡ Ok (Some (b, place)) → fault_of (histories.with_block now.book b) ≡ Some e
     → add_records begun (records_at begun bytes) ≡ refused_at now (BadBook e)
 ends_book bytes begun now feed b place e h is broken =
     let x = ends_by bytes begun now feed (Ok (Some (b, place))) h is in
     x.1 ∙ add_more now b (records_from x.0 bytes b.hash b.height place) (Some e) broken
 
 -- where memory runs out, some of the blocks are added
-pub some_added : (bytes : List ℕ) (begun now : Held) (feed : FeedState) → SoFar bytes begun now feed → (n : ℕ) × (now ≡ (add_blocks begun (take n (records_at begun bytes).blocks) None).held)
+pub some_added : (bytes : List ℕ) (begun now : Chain) (feed : FeedState) → SoFar bytes begun now feed → (n : ℕ) × (now ≡ (add_blocks begun (take n (records_at begun bytes).blocks) None).held)
 some_added bytes begun now feed h =
     let rest = (records_from h.fuel bytes feed.hash feed.height feed.place).blocks in
     let blocks : (records_at begun bytes).blocks ≡ h.front ++ rest = ap (λ (r : Records). r.blocks) h.left in (

@@ -4,7 +4,7 @@ use Rattle.std.proofs.Common.{refl, sym, ap, ◌∙◌, subst, cond, zero-add, a
 use Rattle.std.proofs.lemmas.Bool.{and_parts, both_ways, leb-true}
 use Rattle.search_run.proofs.RunLaws.{all_tries, most_tries as at_most, stays_over}
 use Rattle.search_run.specs.Found.{PlainFound, taken}
-use Rattle.search_run.specs.Run.{Stand, at_hand, end_by, or_unfinished}
+use Rattle.search_run.specs.Run.{Stand, results_in_column, end_by, or_unfinished}
 use Rattle.search_run.specs.Step.{PlainStep}
 use Rattle.search_run.specs.declared.ending.End.{End}
 use Rattle.search_run.specs.declared.ending.End.TheVariants as ends
@@ -199,7 +199,7 @@ none_left p s done none = by s.left refl done none
 
     by : (left : List PlainStep) → s.left ≡ left → is_unfinished (by_end p (end_by p.request.take p.request.seed s left)) ≡ false → partial_of (end_by p.request.take p.request.seed s left) ≡ None → s.left ≡ []
     by [] is h n = is
-    by (x ∷ rest) is h n = absurd (step p.request.take (taken (at_hand p.request.seed s (x ∷ rest))) h n)
+    by (x ∷ rest) is h n = absurd (step p.request.take (taken (results_in_column p.request.seed s (x ∷ rest))) h n)
 
 pub spent_tries : (s : PlanState) (n : ℕ) → is_spent s n ≡ true → (moved s n).stand.past.tries ≡ s.stand.past.tries
 spent_tries s n spent = by s.partial refl (leb-true most_tries s.stand.past.tries (and_parts _ _ spent).0) (and_parts _ _ spent).1

@@ -60,8 +60,8 @@ pub record IsFirstTaken (committed : List Payment) (now : List Candidate) (r : P
   pub shown : coin.coin ≡ o
 
 -- What a commit does. The job's last turn came to a payment of its plan, and each coin of it can be spent now. The payment
--- pays, the PSBT is its, and each input shows its coin. It is then one of the committed ones, the job is closed, and all
--- else is as before.
+-- pays, the PSBT is its in the version that the job's request asks for, and each input shows its coin. It is then one of the
+-- committed ones, the job is closed, and all else is as before.
 pub record IsCommit (d : PlainDesk) (name txid psbt : List ℕ) (new : PlainDesk) : Type 0 where
   pub job : Job
   pub funded : PlainFunded
@@ -74,5 +74,5 @@ pub record IsCommit (d : PlainDesk) (name txid psbt : List ℕ) (new : PlainDesk
   pub fits : IsPsbt (psbt_at d.held job funded)
   pub shows : ShowsCoins funded.coins (psbt_at d.held job funded)
   pub txid_is : txid ≡ txid_of (payment_at d.held job funded)
-  pub psbt_is : psbt ≡ written (psbt_at d.held job funded)
+  pub psbt_is : psbt ≡ written job.state.plan.request.psbt (psbt_at d.held job funded)
   pub next : new ≡ with_payment d name job funded

@@ -10,7 +10,7 @@ use Rattle.coin_book.specs.History as histories
 use Rattle.coin_book.specs.declared.fault.BookFault.{BookFault}
 use Rattle.fund_base.specs.Parsing.{whole_of}
 use Rattle.coin_candidates.specs.declared.candidate.Candidate.{Candidate}
-use Rattle.fund_files.specs.declared.held.Held.{Held}
+use Rattle.fund_files.specs.declared.chain.Chain.{Chain}
 use Rattle.fund_payment.specs.Report.{psbt_of}
 use Rattle.fund_plan.specs.Pays.{payment_of}
 use Rattle.fund_plan.specs.Selection.{PlainFunded}
@@ -34,7 +34,7 @@ use Rattle.wallet_text.specs.PlainWallet.{PlainWallet}
 use Rattle.desk_machine.specs.Commands.{Command, Open, Turn, Commit, Close, Release, Blocks, Pending}
 use Rattle.desk_machine.specs.Records.{Records, records_of}
 use Rattle.desk_machine.specs.Replies.{Reply, Refusal, BadRequest, HasBump, BadPlan, BadBlocks, BadBook, BadHex, BadTx, Repeats, ComesLater, TakenName, AllOpen, Refused, Opened, NoJob, NotFunded, Taken, Committed, Closed, NotCommitted, Released, Tip, Seen}
-use Rattle.desk_machine.specs.State.{Job, Payment, PlainDesk, candidates_in, free_in, has_job, job_at, new_job, points, put_job, without_job}
+use Rattle.desk_machine.specs.State.{Job, Payment, PlainDesk, candidates_in, free_at, has_job, job_at, new_job, points, put_job, without_job}
 use Rattle.desk_machine.specs.Taken.{first_taken}
 use Rattle.desk_machine.specs.Turns.{turn_reply, turned}
 
@@ -56,9 +56,10 @@ with_committed d committed = record { held = d.held; committed = committed; jobs
 
 -- ---- open
 
--- what a job is opened with: the coins that may be spent now, but for those of committed payments
+-- what a job is opened with: the coins that may be spent now, with their prices at the request's rate, but for those of
+-- committed payments
 abbrev pub plan_in : PlainDesk → PlainRequest → PlainPlan
-plan_in d r = record { request = r; change = d.held.wallet.change; candidates = free_in d; bump = None }
+plan_in d r = record { request = r; change = d.held.wallet.change; candidates = free_at d r.rate; bump = None }
 
 abbrev pub by_fault : PlainPlan → Option PlanFault → Result PlainPlan Refusal
 by_fault p (Some fault) = Err (BadPlan fault)
@@ -107,15 +108,15 @@ funded_of (Some answers.NoSelection) = None
 funded_of (Some (answers.Funded f)) = Some f
 
 -- the unsigned transaction of a payment of a job
-abbrev pub payment_at : Held → Job → PlainFunded → Transaction
+abbrev pub payment_at : Chain → Job → PlainFunded → Transaction
 payment_at k j f = payment_of j.state.plan.request k.wallet.change f
 
 -- and its PSBT
-abbrev pub psbt_at : Held → Job → PlainFunded → PartialTransaction
+abbrev pub psbt_at : Chain → Job → PlainFunded → PartialTransaction
 psbt_at k j f = psbt_of k.book j.state.plan.request k.wallet.change f
 
 -- the payment as it is remembered
-abbrev pub committed_of : Held → Job → PlainFunded → Payment
+abbrev pub committed_of : Chain → Job → PlainFunded → Payment
 committed_of k j f = record { txid = txid_of (payment_at k j f); coins = points f.coins }
 
 -- the desk behind a commit
@@ -124,7 +125,7 @@ with_payment d name j f = record { held = d.held; committed = d.committed ++ com
 
 abbrev pub by_taken : PlainDesk → List ℕ → Job → PlainFunded → Option Candidate → Step
 by_taken d name j f (Some c) = stay d (Taken c.coin)
-by_taken d name j f None = record { reply = Committed (txid_of (payment_at d.held j f)) (written (psbt_at d.held j f)); next = with_payment d name j f }
+by_taken d name j f None = record { reply = Committed (txid_of (payment_at d.held j f)) (written j.state.plan.request.psbt (psbt_at d.held j f)); next = with_payment d name j f }
 
 -- the first coin of a payment of a job that can't be spent
 abbrev pub taken_at : PlainDesk → Job → PlainFunded → Option Candidate
@@ -162,9 +163,9 @@ release_step d txid =
 -- a reply, and the chain behind it
 pub record Grown : Type 0 where
   pub reply : Reply
-  pub held : Held
+  pub held : Chain
 
-abbrev pub refused_at : Held → Refusal → Grown
+abbrev pub refused_at : Chain → Refusal → Grown
 refused_at k refusal = record { reply = Refused refusal; held = k }
 
 -- the desk with that chain
@@ -172,30 +173,30 @@ abbrev pub grown : PlainDesk → Grown → Step
 grown d g = record { reply = g.reply; next = record { held = g.held; committed = d.committed; jobs = d.jobs } }
 
 -- a chain with one block more
-abbrev pub with_block : Held → ChainBlock → Held
+abbrev pub with_block : Chain → ChainBlock → Chain
 with_block k b = record { wallet = k.wallet; book = histories.with_block k.book b; tip = record { height = b.height; hash = b.hash } }
 
 -- where no block is left
-abbrev pub blocks_end : Held → Option FeedFault → Grown
+abbrev pub blocks_end : Chain → Option FeedFault → Grown
 blocks_end k (Some fault) = refused_at k (BadBlocks fault)
 blocks_end k None = record { reply = Tip k.tip.height k.tip.hash; held = k }
 
 -- a block that no book holds is refused, and otherwise the next ones are added
-abbrev pub by_book : Held → Option BookFault → Grown → Grown
+abbrev pub by_book : Chain → Option BookFault → Grown → Grown
 by_book k (Some fault) next = refused_at k (BadBook fault)
 by_book k None next = next
 
 -- the blocks are added one by one, and behind them stands what ends them
-unfoldable pub add_blocks : Held → List ChainBlock → Option FeedFault → Grown
+unfoldable pub add_blocks : Chain → List ChainBlock → Option FeedFault → Grown
 add_blocks k [] fault = blocks_end k fault
 add_blocks k (b ∷ blocks) fault = by_book k (fault_of (histories.with_block k.book b)) (add_blocks (with_block k b) blocks fault)
 
 -- these blocks, and what ends them
-abbrev pub add_records : Held → Records → Grown
+abbrev pub add_records : Chain → Records → Grown
 add_records k r = add_blocks k r.blocks r.fault
 
 -- the blocks of these bytes, behind the tip
-abbrev pub records_at : Held → List ℕ → Records
+abbrev pub records_at : Chain → List ℕ → Records
 records_at k bytes = records_of bytes k.tip.hash k.tip.height
 
 abbrev pub blocks_step : PlainDesk → List ℕ → Step
@@ -217,7 +218,7 @@ waiting w t = record {
 }
 
 -- and its chain
-abbrev pub with_pending : Held → Transaction → Held
+abbrev pub with_pending : Chain → Transaction → Chain
 with_pending k t = record { wallet = waiting k.wallet t; book = histories.with_pending k.book t; tip = k.tip }
 
 -- a transaction that waits has this txid
@@ -232,11 +233,11 @@ spends_txid txid t = list_any (λ (i : TxIn). bytes_eq i.prev.txid txid) t.input
 abbrev pub is_later : List Transaction → Transaction → Bool
 is_later pending t = list_any (spends_txid (txid_of t)) pending || spends_txid (txid_of t) t
 
-abbrev pub pending_by_book : Held → Transaction → Option BookFault → Grown
+abbrev pub pending_by_book : Chain → Transaction → Option BookFault → Grown
 pending_by_book k t (Some fault) = refused_at k (BadBook fault)
 pending_by_book k t None = record { reply = Seen (txid_of t); held = with_pending k t }
 
-abbrev pub pending_by_tx : Held → Result Transaction TxFault → Grown
+abbrev pub pending_by_tx : Chain → Result Transaction TxFault → Grown
 pending_by_tx k (Err fault) = refused_at k (BadTx fault)
 pending_by_tx k (Ok t) =
     if is_repeat k.wallet.pending (txid_of t) then refused_at k Repeats
@@ -247,12 +248,12 @@ pending_by_tx k (Ok t) =
 abbrev pub whole_tx : List ℕ → Result Transaction TxFault
 whole_tx bytes = whole_of Trailing (tx_at (record { rest = bytes; place = 0 }))
 
-abbrev pub pending_by_hex : Held → Result (List ℕ) FromHexError → Grown
+abbrev pub pending_by_hex : Chain → Result (List ℕ) FromHexError → Grown
 pending_by_hex k (Err error) = refused_at k BadHex
 pending_by_hex k (Ok bytes) = pending_by_tx k (whole_tx bytes)
 
 -- the transaction of these hex digits, beside those that wait
-unfoldable pub add_pending : Held → List ℕ → Grown
+unfoldable pub add_pending : Chain → List ℕ → Grown
 add_pending k hex = pending_by_hex k (decode_of hex)
 
 abbrev pub pending_step : PlainDesk → List ℕ → Step

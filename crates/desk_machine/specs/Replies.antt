@@ -6,7 +6,7 @@ use Rattle.closing_log.specs.declared.mark.Mark.{Mark}
 use Rattle.coin_book.specs.declared.fault.BookFault.{BookFault}
 use Rattle.fund_base.specs.declared.outpoint.OutPoint.{OutPoint}
 use Rattle.fund_steps.specs.declared.fault.PlanFault.{PlanFault}
-use Rattle.request_text.specs.Told.{plain_fault}
+use Rattle.request_text.specs.Reported.{plain_fault}
 use Rattle.request_text.specs.declared.fault.Refusal as requests
 use Rattle.tx_codec.specs.declared.fault.TxFault.{TxFault}
 use Rattle.desk_machine.specs.declared.reply.Refusal as refused

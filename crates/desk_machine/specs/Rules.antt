@@ -2,7 +2,7 @@
 use Rattle.std.specs.Prelude.{◌≡◌, ◌≢◌, ◌≤◌, List, All, IfSome, length}
 use Rattle.std.specs.List.{AllPairs}
 use Rattle.fund_base.specs.declared.outpoint.OutPoint.{OutPoint}
-use Rattle.fund_files.specs.Chain.{IsHeld}
+use Rattle.fund_files.specs.Chain.{IsChain}
 use Rattle.fund_plan.specs.Answer.{ArePayments, HasSelection}
 use Rattle.wallet_text.specs.declared.wallet.Watch.{Watch}
 use Rattle.desk_machine.specs.State.{Job, Payment, PlainDesk}
@@ -28,7 +28,7 @@ pub record IsJob (change : Watch) (j : Job) : Type 0 where
 -- The wallet and its chain keep their rules; no two committed payments spend one coin; no two open jobs have one name, and
 -- there are at most 64, each of which keeps its rules.
 pub record IsDesk (d : PlainDesk) : Type 0 where
-  pub held : IsHeld d.held
+  pub held : IsChain d.held
   pub apart : AreApart d.committed
   pub names : AllPairs (λ (a b : Job). a.name ≢ b.name) d.jobs
   pub most : length d.jobs ≤ 64

@@ -4,7 +4,7 @@ use Rattle.std.specs.List.{list_any}
 use Rattle.fund_base.specs.Outpoints.{same_outpoint}
 use Rattle.coin_candidates.specs.declared.candidate.Candidate.{Candidate}
 use Rattle.fund_base.specs.declared.outpoint.OutPoint.{OutPoint}
-use Rattle.fund_files.specs.declared.held.Held.{Held}
+use Rattle.fund_files.specs.declared.chain.Chain.{Chain}
 use Rattle.fund_plan.specs.Outcome.{beginning_of}
 use Rattle.fund_plan.specs.State.{PlanState}
 use Rattle.fund_plan.specs.declared.outcome.Outcome.{Outcome}
@@ -26,16 +26,16 @@ pub record Job : Type 0 where
 -- The wallet, its book and its tip; the committed payments in order; and the open jobs in the order in which they were
 -- opened. The wallet's pending list is the desk's.
 pub record PlainDesk : Type 0 where
-  pub held : Held
+  pub held : Chain
   pub committed : List Payment
   pub jobs : List Job
 
 -- a desk at which nothing was done yet
-abbrev pub new_desk : Held → PlainDesk
+abbrev pub new_desk : Chain → PlainDesk
 new_desk k = record { held = k; committed = []; jobs = [] }
 
 -- a desk without jobs
-abbrev pub desk_of : Held → List Payment → PlainDesk
+abbrev pub desk_of : Chain → List Payment → PlainDesk
 desk_of k committed = record { held = k; committed = committed; jobs = [] }
 
 -- ---- jobs
@@ -81,10 +81,14 @@ has_point coins o = list_any (λ x. same_outpoint x o) coins
 abbrev pub is_reserved : List Payment → OutPoint → Bool
 is_reserved committed o = list_any (λ (p : Payment). has_point p.coins o) committed
 
--- the coins that may be spent now
-abbrev pub candidates_in : Held → List Candidate
-candidates_in k = candidates_of k.wallet k.book k.tip.height
+-- the coins that may be spent now, with their prices at a rate
+abbrev pub candidates_at : Chain → (rate : ℕ) → List Candidate
+candidates_at k rate = candidates_of k.wallet k.book k.tip.height rate
 
--- of these, those that no committed payment spends
-abbrev pub free_in : PlainDesk → List Candidate
-free_in d = filter (λ (c : Candidate). not (is_reserved d.committed c.coin)) (candidates_in d.held)
+-- the same at no price
+abbrev pub candidates_in : Chain → List Candidate
+candidates_in k = candidates_at k 0
+
+-- of those at a rate, the ones that no committed payment spends
+abbrev pub free_at : PlainDesk → (rate : ℕ) → List Candidate
+free_at d rate = filter (λ (c : Candidate). not (is_reserved d.committed c.coin)) (candidates_at d.held rate)

@@ -56,8 +56,8 @@ pub enum Reply {
     NotFunded,
     /// This coin of the payment can't be spent any more. It is the first such.
     Taken(OutPoint),
-    /// The payment is committed: the txid of its unsigned transaction, and the bytes of its PSBT (BIP 174). Its job is
-    /// closed.
+    /// The payment is committed: the txid of its unsigned transaction, and the bytes of its PSBT, in version 0 (BIP 174) or 2
+    /// (BIP 370) as the request of its job asks. Its job is closed.
     Committed(Txid, Vec<u8>),
     /// The job is closed.
     Closed,

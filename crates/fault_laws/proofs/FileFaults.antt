@@ -4,13 +4,13 @@ use Rattle.std.specs.Fmt.{decimal}
 use Rattle.block_feed.specs.declared.fault.FeedFault.{FeedFault}
 use Rattle.block_feed.specs.declared.fault.FeedFault.TheVariants as feeds
 use Rattle.json_fields.specs.declared.fault.FieldFault.TheVariants as fields
-use Rattle.request_text.specs.Told.{plain_fault}
+use Rattle.request_text.specs.Reported.{plain_fault}
 use Rattle.request_text.specs.declared.fault.Refusal.TheVariants as asked
 use Rattle.request_text.specs.declared.fault.RequestFault.{RequestFault}
 use Rattle.request_text.specs.declared.fault.RequestFault.TheVariants as requests
 use Rattle.segwit_addr.specs.declared.fault.AddrFault.{AddrFault}
 use Rattle.tx_codec.specs.declared.fault.TxFault.{TxFault}
-use Rattle.wallet_text.specs.Told.{refusal_of}
+use Rattle.wallet_text.specs.Reported.{refusal_of}
 use Rattle.wallet_text.specs.declared.fault.Refusal.TheVariants as refusals
 use Rattle.wallet_text.specs.declared.fault.WalletFault.{WalletFault}
 use Rattle.wallet_text.specs.declared.fault.WalletFault.TheVariants as wallets

@@ -1,5 +1,5 @@
 -- The sentence of a fault line, or of a report without a payment: by its words, from the front.
-use Rattle.std.specs.Prelude.{ℕ, ◌≡◌, ◌++◌, List, bytes_eq, codes, replicate, Option, Some, None, if◌then◌else◌}
+use Rattle.std.specs.Prelude.{ℕ, ◌≡◌, ◌++◌, List, bytes_eq, codes, Option, Some, None, if◌then◌else◌}
 use Rattle.fault_lines.specs.Sentences.{address_sentence, blocks_sentence, bump_sentence, check_sentence, kept_sentence, missing_sentence, none_sentence, not_pending_sentence, other_output_sentence, other_pairs_sentence, plan_sentence, psbt_sentence, rate_range_sentence, request_kind_sentence, request_member_sentence, request_missing_sentence, request_sentence, stop_sentence, tx_sentence, unfinished_sentence, wallet_kind_sentence, wallet_member_sentence, wallet_missing_sentence, wallet_repeat_sentence, wallet_sentence}
 use Rattle.fault_lines.specs.declared.stop.Stop.TheVariants as stops
 use Rattle.tx_codec.specs.declared.fault.TxFault.TheVariants as txs
@@ -133,6 +133,9 @@ bump_line words =
 unfoldable pub psbt_rest : List ℕ → Option (List ℕ)
 psbt_rest words =
     if begins (codes "Version ") words then Some (psbt_sentence (psbts.Version 0)) else
+    if begins (codes "Mixed ") words then Some (psbt_sentence (psbts.Mixed 0)) else
+    if begins (codes "Lacking ") words then Some (psbt_sentence (psbts.Lacking 0)) else
+    if begins (codes "RequiredLock ") words then Some (psbt_sentence (psbts.RequiredLock 0)) else
     if begins (codes "WrongParent ") words then Some (psbt_sentence (psbts.WrongParent 0)) else
     if begins (codes "Trailing ") words then Some (psbt_sentence (psbts.Trailing 0)) else
     if begins (codes "NotBase64") words then Some (psbt_sentence psbts.NotBase64) else
@@ -162,6 +165,7 @@ kept_line words =
     if begins (codes "SavedForm ") words then Some (kept_sentence (jobs.Form 0)) else
     if begins (codes "JobElse ") words then Some (kept_sentence (jobs.JobElse zeros zeros)) else
     if begins (codes "SavedFalse Part ") words then Some (kept_sentence (jobs.Part 0)) else
+    if begins (codes "SavedFalse Parts ") words then Some (kept_sentence (jobs.Parts zeros zeros)) else
     if begins (codes "SavedFalse Section ") words then Some (kept_sentence (jobs.Section 0)) else
     if begins (codes "SavedFalse IllFormed") words then Some (kept_sentence jobs.IllFormed) else
     if begins (codes "SavedFalse Log ") words then Some (kept_sentence (jobs.Log 0 logs.Open)) else

@@ -21,6 +21,8 @@ pub fn kept_line(words: &[u8]) -> Option<&'static str>
         Some(kept_sentence(&KeptFault::JobElse([0; 32], [0; 32])))
     } else if begins(words, b"SavedFalse Part ") {
         Some(kept_sentence(&KeptFault::Part(0)))
+    } else if begins(words, b"SavedFalse Parts ") {
+        Some(kept_sentence(&KeptFault::Parts([0; 32], [0; 32])))
     } else if begins(words, b"SavedFalse Section ") {
         Some(kept_sentence(&KeptFault::Section(0)))
     } else if begins(words, b"SavedFalse IllFormed") {

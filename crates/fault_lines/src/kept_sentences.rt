@@ -22,6 +22,8 @@ pub fn kept_sentence(fault: &KeptFault) -> &'static str
         KeptFault::Part(_) =>
             "A part of the kept log is missing: the file of jobs was changed, so begin anew under another name.",
         KeptFault::LongLog => stop_sentence(Stop::LogLimit),
+        KeptFault::Parts(_, _) =>
+            "The kept parts of the log are not those that were kept: the file of jobs was changed, so begin anew under another name.",
         KeptFault::Section(_) =>
             "The kept log is not that of this payment: begin anew under another name.",
         KeptFault::IllFormed =>

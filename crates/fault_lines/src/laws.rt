@@ -74,9 +74,10 @@ pub fn jobs_have_their_sentence()
     ensures job_else { (kept now : List ℕ) → AllHaveSentence (codes "saved JobElse ") (kept_sentence (jobs.JobElse kept now)) }
     ensures spent { HasSentence (codes "limit tries") (kept_sentence jobs.Spent) }
 
-    // Its log lacks a part, is too long, is of another payment, or proves less than it claims.
+    // Its log lacks a part, is too long, was changed, is of another payment, or proves less than it claims.
     ensures part { (number : ℕ) → AllHaveSentence (codes "saved SavedFalse Part ") (kept_sentence (jobs.Part number)) }
     ensures long_log { HasSentence (codes "limit log") (kept_sentence jobs.LongLog) }
+    ensures parts { (kept now : List ℕ) → AllHaveSentence (codes "saved SavedFalse Parts ") (kept_sentence (jobs.Parts kept now)) }
     ensures section { (index : ℕ) → AllHaveSentence (codes "saved SavedFalse Section ") (kept_sentence (jobs.Section index)) }
     ensures ill_formed { HasSentence (codes "saved SavedFalse IllFormed") (kept_sentence jobs.IllFormed) }
     ensures log { (index : ℕ) (fault : LogFault) → AllHaveSentence (codes "saved SavedFalse Log ") (kept_sentence (jobs.Log index fault)) }

@@ -17,6 +17,12 @@ pub fn psbt_rest(words: &[u8]) -> Option<&'static str>
 {
     if begins(words, b"Version ") {
         Some(psbt_sentence(&PsbtFault::Version(0)))
+    } else if begins(words, b"Mixed ") {
+        Some(psbt_sentence(&PsbtFault::Mixed(0)))
+    } else if begins(words, b"Lacking ") {
+        Some(psbt_sentence(&PsbtFault::Lacking(0)))
+    } else if begins(words, b"RequiredLock ") {
+        Some(psbt_sentence(&PsbtFault::RequiredLock(0)))
     } else if begins(words, b"WrongParent ") {
         Some(psbt_sentence(&PsbtFault::WrongParent(0)))
     } else if begins(words, b"Trailing ") {

@@ -19,7 +19,7 @@ pub fn psbt_sentence(fault: &PsbtFault) -> &'static str
             "The PSBT has a number in a spelling that is too long: it was changed, so copy it again.",
         PsbtFault::RepeatKey(_) => "The PSBT has a key twice: it was changed, so copy it again.",
         PsbtFault::NoUnsigned =>
-            "The PSBT has no unsigned transaction: it is of version 2 or none, so give the PSBT that was printed.",
+            "The PSBT has no unsigned transaction, as one of version 0 has: it was changed, so copy it again.",
         PsbtFault::Unsigned(_) =>
             "The transaction of the PSBT can not be read: the PSBT was changed, so copy it again.",
         PsbtFault::NotBare =>
@@ -27,7 +27,13 @@ pub fn psbt_sentence(fault: &PsbtFault) -> &'static str
         PsbtFault::Field(_) =>
             "A field of the PSBT is not as its type asks: the PSBT was changed, so copy it again.",
         PsbtFault::Version(_) =>
-            "The PSBT is of a version that is not read: ask for one of version 0.",
+            "The PSBT is of a version that is not read: ask for one of version 0 or 2.",
+        PsbtFault::Mixed(_) =>
+            "The PSBT is of version 2 and has the unsigned transaction of version 0 too: give the PSBT that was printed.",
+        PsbtFault::Lacking(_) =>
+            "The PSBT is of version 2 and lacks a field of this type: it was cut or changed, so copy it again.",
+        PsbtFault::RequiredLock(_) =>
+            "An input of the PSBT asks for a lock time of its own: give the PSBT that was printed, which asks for none.",
         PsbtFault::WrongParent(_) =>
             "The whole transaction beside an input is not the one that the input spends: give the PSBT that was printed.",
         PsbtFault::Trailing(_) => "Bytes stand behind the PSBT: leave off what is behind it.",

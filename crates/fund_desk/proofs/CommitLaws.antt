@@ -23,7 +23,7 @@ use Rattle.desk_machine.specs.Replies.{Reply, Committed, NoJob, plain_reply}
 use Rattle.desk_machine.specs.declared.reply.Reply as given
 use Rattle.desk_machine.specs.Rules.{IsDesk, IsJob}
 use Rattle.desk_machine.specs.State.{Job, Payment, PlainDesk, candidates_in, is_named, job_at, without_job}
-use Rattle.fund_desk.specs.Due.{IsDue, IsNotDue}
+use Rattle.fund_desk.specs.JobPayment.{IsPaymentOfJob, HasNoPayment}
 use Rattle.fund_desk.specs.Given.{IsGiven, IsNotGiven}
 use Rattle.fund_desk.specs.declared.committing.Given.{Given}
 use Rattle.fund_desk.proofs.DeskLaws.{desk_commit}
@@ -52,7 +52,7 @@ job_stands jobs name j e =
     (x.1, sym (same_name name j.name x.0))
 
 pub commit_is : (d : PlainDesk) (name : List ℕ) (j : Job) (f : PlainFunded) → IsDesk d → job_at d.jobs name ≡ Some j → funded_of j.answer ≡ Some f → taken_at d j f ≡ None → IsPsbt (psbt_at d.held j f)
-    → ShowsCoins f.coins (psbt_at d.held j f) → IsCommit d name (txid_of (payment_at d.held j f)) (written (psbt_at d.held j f)) (with_payment d name j f)
+    → ShowsCoins f.coins (psbt_at d.held j f) → IsCommit d name (txid_of (payment_at d.held j f)) (written j.state.plan.request.psbt (psbt_at d.held j f)) (with_payment d name j f)
 commit_is d name j f rules at is none fits shows =
     let stands = job_stands d.jobs name j at in
     let own = All-contains (IsJob d.held.wallet.change) d.jobs j rules.each stands.0 in
@@ -90,7 +90,7 @@ commit_done d name j g at h =
     ap (commit_by d name) at
     ∙ ap (by_funded d name j) h.answers
     ∙ ap (by_taken d name j f) h.free
-    ∙ ap (λ (txid : List ℕ). done d name txid (written (psbt_at d.held j f)) (committed_of d.held j f)) (sym h.out.txid_is)
+    ∙ ap (λ (txid : List ℕ). done d name txid (written j.state.plan.request.psbt (psbt_at d.held j f)) (committed_of d.held j f)) (sym h.out.txid_is)
     ∙ ap (λ (psbt : List ℕ). done d name g.txid psbt (committed_of d.held j f)) (sym h.out.psbt_is)
     ∙ ap (done d name g.txid g.psbt.items) (sym h.out.payment_is)
 
@@ -117,31 +117,31 @@ commit_given d name j g rules at h txid psbt e =
     let is = commit_is d name j h.funded rules at h.answers h.free h.out.fits h.shows in
     subst (λ (t : List ℕ). IsCommit d name t psbt (given_desk d name g.payment)) (sym h.out.txid_is ∙ same.0)
     (subst (λ (b : List ℕ). IsCommit d name (txid_of (payment_at d.held j h.funded)) b (given_desk d name g.payment)) (sym h.out.psbt_is ∙ same.1)
-    (subst (λ (p : Payment). IsCommit d name (txid_of (payment_at d.held j h.funded)) (written (psbt_at d.held j h.funded)) (given_desk d name p)) (sym h.out.payment_is) is))
+    (subst (λ (p : Payment). IsCommit d name (txid_of (payment_at d.held j h.funded)) (written j.state.plan.request.psbt (psbt_at d.held j h.funded)) (given_desk d name p)) (sym h.out.payment_is) is))
 
 -- ---- the same, as a desk gives it out
 
-pub not_due : (d : PlainDesk) (name : List ℕ) (j : Job) (reply : Reply) → job_at d.jobs name ≡ Some j → IsNotGiven d.held d.committed j reply → IsNotDue d name reply
+pub not_due : (d : PlainDesk) (name : List ℕ) (j : Job) (reply : Reply) → job_at d.jobs name ≡ Some j → IsNotGiven d.held d.committed j reply → HasNoPayment d name reply
 not_due d name j reply at h = record { refuses = commit_refused d name j reply at h; other = h.other }
 
-pub none_due : (d : PlainDesk) (name : List ℕ) → job_at d.jobs name ≡ None → IsNotDue d name NoJob
+pub none_due : (d : PlainDesk) (name : List ℕ) → job_at d.jobs name ≡ None → HasNoPayment d name NoJob
 none_due d name at = record { refuses = commit_none d name at; other = λ txid psbt same. absurd cc }
 
 -- what is given out of the job of a desk with these parts
 pub due_or_not : (d : PlainDesk) (name : List ℕ) (j : Job) (r : Result (Result Given given.Reply) Memory) → job_at d.jobs name ≡ Some j
     → IfOk r (λ x. MatchResult x (IsGiven d.held d.committed j) (λ reply. IsNotGiven d.held d.committed j (plain_reply reply)))
-    → IfOk r (λ x. MatchResult x (IsDue d name) (λ reply. IsNotDue d name (plain_reply reply)))
+    → IfOk r (λ x. MatchResult x (IsPaymentOfJob d name) (λ reply. HasNoPayment d name (plain_reply reply)))
 due_or_not d name j (Ok (Ok g)) at h = record { job = j; stands = at; given = h }
 due_or_not d name j (Ok (Err reply)) at h = not_due d name j (plain_reply reply) at h
 due_or_not d name j (Err e) at h = tt
 
-pub due_done : (d : PlainDesk) (name : List ℕ) (g : Given) → IsDue d name g → commit_step d name ≡ done d name g.txid g.psbt.items g.payment
+pub due_done : (d : PlainDesk) (name : List ℕ) (g : Given) → IsPaymentOfJob d name g → commit_step d name ≡ done d name g.txid g.psbt.items g.payment
 due_done d name g h = commit_done d name h.job g h.stands h.given
 
-pub desk_due : (d : PlainDesk) (name : List ℕ) (g : Given) → IsDesk d → IsDue d name g → IsDesk (given_desk d name g.payment)
+pub desk_due : (d : PlainDesk) (name : List ℕ) (g : Given) → IsDesk d → IsPaymentOfJob d name g → IsDesk (given_desk d name g.payment)
 desk_due d name g rules h = desk_given d name h.job g rules h.given
 
-pub commit_due : (d : PlainDesk) (name : List ℕ) (g : Given) → IsDesk d → IsDue d name g → (txid psbt : List ℕ) → Committed g.txid g.psbt.items ≡ Committed txid psbt → IsCommit d name txid psbt (given_desk d name g.payment)
+pub commit_due : (d : PlainDesk) (name : List ℕ) (g : Given) → IsDesk d → IsPaymentOfJob d name g → (txid psbt : List ℕ) → Committed g.txid g.psbt.items ≡ Committed txid psbt → IsCommit d name txid psbt (given_desk d name g.payment)
 commit_due d name g rules h = commit_given d name h.job g rules h.stands h.given
 
 -- the desk with these payments and these jobs

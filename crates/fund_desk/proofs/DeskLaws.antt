@@ -3,8 +3,8 @@ use Rattle.std.specs.Prelude.{ℕ, ◌≡◌, ◌++◌, List, [], ◌∷◌, All
 use Rattle.std.proofs.Common.{refl, subst, sym, cond}
 use Rattle.std.proofs.lemmas.List.Elements.{All-cons, All-filter, All-head, All-push, All-tail}
 use Rattle.std.proofs.lemmas.List.Kept.{AllPairs-filter}
-use Rattle.fund_files.specs.Chain.{IsHeld}
-use Rattle.fund_files.specs.declared.held.Held.{Held}
+use Rattle.fund_files.specs.Chain.{IsChain}
+use Rattle.fund_files.specs.declared.chain.Chain.{Chain}
 use Rattle.fund_plan.specs.Selection.{PlainFunded}
 use Rattle.fund_steps.specs.Plan.{PlainPlan}
 use Rattle.wallet_text.specs.declared.wallet.Watch.{Watch}
@@ -63,7 +63,7 @@ desk_commit d name j f h none =
 pub desk_turn : (d : PlainDesk) (jobs : List Job) → IsDesk d → AreOpen jobs → All (IsJob d.held.wallet.change) jobs → IsDesk (with_jobs d jobs)
 desk_turn d jobs h there each = record { held = h.held; apart = h.apart; names = there.names; most = there.most; each = each }
 
-pub desk_grown : (d : PlainDesk) (k : Held) → IsDesk d → IsHeld k → k.wallet.change ≡ d.held.wallet.change → IsDesk (record { held = k; committed = d.committed; jobs = d.jobs })
+pub desk_grown : (d : PlainDesk) (k : Chain) → IsDesk d → IsChain k → k.wallet.change ≡ d.held.wallet.change → IsDesk (record { held = k; committed = d.committed; jobs = d.jobs })
 desk_grown d k h held change = record {
   held = held;
   apart = h.apart;

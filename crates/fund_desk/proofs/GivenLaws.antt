@@ -4,7 +4,7 @@ use Rattle.std.proofs.Common.{refl, sym, ap, ◌∙◌, subst}
 use Rattle.std.proofs.lemmas.Option.{none-some, same_Some}
 use Rattle.coin_candidates.specs.declared.candidate.Candidate.{Candidate}
 use Rattle.fund_base.specs.declared.outpoint.OutPoint.{OutPoint}
-use Rattle.fund_files.specs.declared.held.Held.{Held}
+use Rattle.fund_files.specs.declared.chain.Chain.{Chain}
 use Rattle.fund_plan.specs.Answer.{IsSelection}
 use Rattle.fund_plan.specs.Selection.{PlainFunded}
 use Rattle.payment_states.specs.Makers.{HasMaker}
@@ -23,11 +23,11 @@ use Rattle.fund_desk.specs.declared.committing.Given.{Given}
 use Rattle.fund_desk.proofs.CommitLaws.{selection_is}
 use Rattle.fund_desk.proofs.ShownLaws.{still_shown}
 
-abbrev desk_in : Held → List Payment → List Job → PlainDesk
+abbrev desk_in : Chain → List Payment → List Job → PlainDesk
 desk_in k committed jobs = record { held = k; committed = committed; jobs = jobs }
 
 -- the last turn came to no payment
-pub not_funded : (k : Held) (committed : List Payment) (j : Job) → None ≡ funded_of j.answer → IsNotGiven k committed j NotFunded
+pub not_funded : (k : Chain) (committed : List Payment) (j : Job) → None ≡ funded_of j.answer → IsNotGiven k committed j NotFunded
 not_funded k committed j none = record {
   refuses = λ name jobs. ap (by_funded (desk_in k committed jobs) name j) (sym none);
   other = λ txid psbt same. absurd cc;
@@ -42,7 +42,7 @@ taken_by d name j f o None e = absurd (none-some o (sym e))
 taken_by d name j f o (Some c) e = ap (λ (p : OutPoint). stay d (Taken p)) (sym (same_Some o c.coin e))
 
 -- a coin of it can't be spent any more
-pub is_taken_one : (k : Held) (committed : List Payment) (j : Job) (f : PlainFunded) (r : PlainRequest) (o : OutPoint) → Some f ≡ funded_of j.answer → r ≡ j.state.plan.request → Some o ≡ point_in (first_taken committed (candidates_in k) r f.row f.coins) → IsNotGiven k committed j (Taken o)
+pub is_taken_one : (k : Chain) (committed : List Payment) (j : Job) (f : PlainFunded) (r : PlainRequest) (o : OutPoint) → Some f ≡ funded_of j.answer → r ≡ j.state.plan.request → Some o ≡ point_in (first_taken committed (candidates_in k) r f.row f.coins) → IsNotGiven k committed j (Taken o)
 is_taken_one k committed j f r o is own shown = record {
   refuses = λ name jobs.
       let d = desk_in k committed jobs in
@@ -52,7 +52,7 @@ is_taken_one k committed j f r o is own shown = record {
 }
 
 -- a coin that is taken, as it is told
-pub is_taken_told : (k : Held) (committed : List Payment) (j : Job) (f : PlainFunded) (r : PlainRequest) (o : Option OutPoint) (reply : given.Reply) → Some f ≡ funded_of j.answer → r ≡ j.state.plan.request
+pub is_taken_told : (k : Chain) (committed : List Payment) (j : Job) (f : PlainFunded) (r : PlainRequest) (o : Option OutPoint) (reply : given.Reply) → Some f ≡ funded_of j.answer → r ≡ j.state.plan.request
     → o ≡ point_in (first_taken committed (candidates_in k) r f.row f.coins) → option_map givens.Taken o ≡ Some reply → IsNotGiven k committed j (plain_reply reply)
 is_taken_told k committed j f r None reply is own shown told = absurd cc
 is_taken_told k committed j f r (Some coin) reply is own shown told = subst (λ (x : given.Reply). IsNotGiven k committed j (plain_reply x)) (same_Some (givens.Taken coin) reply told) (is_taken_one k committed j f r coin is own shown)
@@ -66,7 +66,7 @@ pub selection_in : (change : Watch) (j : Job) (f : PlainFunded) (r : PlainReques
 selection_in change j f r own is same = subst (λ (q : PlainRequest). IsSelection q f) (sym same) (selection_is j.state.plan.request j.answer f (sym is) own.answered.fits)
 
 -- none is taken, and it is written out
-pub given_is : (k : Held) (committed : List Payment) (j : Job) (f : PlainFunded) (r : PlainRequest) (g : Given) → All (HasMaker k.book) (candidates_in k) → Some f ≡ funded_of j.answer → r ≡ j.state.plan.request
+pub given_is : (k : Chain) (committed : List Payment) (j : Job) (f : PlainFunded) (r : PlainRequest) (g : Given) → All (HasMaker k.book) (candidates_in k) → Some f ≡ funded_of j.answer → r ≡ j.state.plan.request
     → None ≡ point_in (first_taken committed (candidates_in k) r f.row f.coins) → IsWrittenOut k r f g → IsGiven k committed j g
 given_is k committed j f r g made is own none out =
     let q = j.state.plan.request in

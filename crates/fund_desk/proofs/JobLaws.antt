@@ -18,7 +18,7 @@ answered_now new p o plan answer pays fits = record {
 pub job_still : (change : Watch) (old new : Job) → new.state.plan ≡ old.state.plan → IsAnswered new → IsJob change old → IsJob change new
 job_still change old new plan answered h = record { answered = answered; change_is = ap (λ (p : PlainPlan). p.change) plan ∙ h.change_is }
 
--- ---- what is said of an answer alone, or of want of memory
+-- ---- what is said of an answer alone, or of being out of memory
 
 pub on_ok : {A E : Type 0} (r : Result A E) (P Q : Type 0) → (P → Q) → OnOk r P → OnOk r Q
 on_ok (Ok a) P Q f h = f h

@@ -3,7 +3,7 @@ use Rattle.std.specs.Prelude.{ℕ, ◌≡◌, ◌≢◌, ◌++◌, List, [], ◌
 use Rattle.std.proofs.Common.{refl, sym, ap, ◌∙◌, cond}
 use Rattle.coin_candidates.specs.declared.candidate.Candidate.{Candidate}
 use Rattle.fund_steps.specs.Faults as plans
-use Rattle.fund_steps.specs.Plan.{IsFault, PlainPlan}
+use Rattle.fund_steps.specs.Plan.{IsPlanFault, PlainPlan}
 use Rattle.fund_steps.specs.declared.fault.PlanFault.{PlanFault}
 use Rattle.fund_steps.specs.declared.fault.PlanFault.TheVariants as faults
 use Rattle.request_text.specs.PlainRequest.{PlainRequest}
@@ -12,13 +12,13 @@ use Rattle.request_text.specs.declared.fault.Refusal as requests
 use Rattle.wallet_text.specs.declared.wallet.Watch.{Watch}
 use Rattle.desk_machine.specs.Machine.{by_fault, by_plan, open_step, plan_by, plan_for, plan_in, stay, with_jobs}
 use Rattle.desk_machine.specs.Replies.{AllOpen, HasBump, Opened, Refusal, Refused, TakenName}
-use Rattle.desk_machine.specs.State.{Job, PlainDesk, candidates_in, desk_of, has_job, is_reserved, new_job}
+use Rattle.desk_machine.specs.State.{Job, PlainDesk, candidates_at, desk_of, has_job, is_reserved, new_job}
 
 abbrev pub plan_of : PlainRequest → Watch → List Candidate → PlainPlan
 plan_of r change coins = record { request = r; change = change; candidates = coins; bump = None }
 
 -- the coins that may be spent now, without those of committed payments, are the plan's
-pub plan_made : (d : PlainDesk) (r : PlainRequest) (change : Watch) (coins now : List Candidate) → change ≡ d.held.wallet.change → coins ≡ filter (λ (c : Candidate). not (is_reserved d.committed c.coin)) now → now ≡ candidates_in d.held → plan_of r change coins ≡ plan_in d r
+pub plan_made : (d : PlainDesk) (r : PlainRequest) (change : Watch) (coins now : List Candidate) → change ≡ d.held.wallet.change → coins ≡ filter (λ (c : Candidate). not (is_reserved d.committed c.coin)) now → now ≡ candidates_at d.held r.rate → plan_of r change coins ≡ plan_in d r
 plan_made d r change coins now own kept all =
     ap (λ (w : Watch). plan_of r w coins) own
     ∙ ap (plan_of r d.held.wallet.change) (kept ∙ ap (filter (λ (c : Candidate). not (is_reserved d.committed c.coin))) all)
@@ -61,5 +61,5 @@ pub with_job : (d : PlainDesk) (name : List ℕ) (p : PlainPlan) (j : Job) (jobs
 with_job d name p j jobs more is = ap (with_jobs d) more ∙ ap (λ (k : Job). with_jobs d (d.jobs ++ k ∷ [])) is
 
 -- the fault that keeps a plan from being made is that of the plan that is due
-pub due_fault : (p q : PlainPlan) (e : PlanFault) → ((x : PlainPlan) (fault : PlanFault) → IsFault x fault → fault ≢ faults.Memory → plans.fault_of x ≡ Some fault) → p ≡ q → IsFault p e → e ≢ faults.Memory → plans.fault_of q ≡ Some e
+pub due_fault : (p q : PlainPlan) (e : PlanFault) → ((x : PlainPlan) (fault : PlanFault) → IsPlanFault x fault → fault ≢ faults.Memory → plans.fault_of x ≡ Some fault) → p ≡ q → IsPlanFault p e → e ≢ faults.Memory → plans.fault_of q ≡ Some e
 due_fault p q e found same is other = sym (ap plans.fault_of same) ∙ found p e is other

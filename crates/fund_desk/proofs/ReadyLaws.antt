@@ -89,24 +89,24 @@ kept_one p o (x ∷ rest) apart = by (at o x) refl (kept_one p o rest (λ i j d 
     by false e more = other (p x) (kept p (find (at o) rest)) more
 
 -- of the coins that may be spent, the one at an outpoint is what is known of the coin there, if that may be spent
-pub found_ready : (w : PlainWallet) (h : History) (tip : ℕ) (o : OutPoint) → IsWallet w → IsBookOf w h → fault_of h ≡ None
-    → find (is_at o) (candidates_of w h tip) ≡ cond (option_map_or (is_candidate w h tip) (coin_under h o) false) (facts_at w h tip o) None
+pub found_ready : (w : PlainWallet) (h : History) (tip rate : ℕ) (o : OutPoint) → IsWallet w → IsBookOf w h → fault_of h ≡ None
+    → find (is_at o) (candidates_of w h tip rate) ≡ cond (option_map_or (is_candidate w h tip) (coin_under h o) false) (facts_at w h tip rate o) None
 unfolding candidates_of facts_at
-found_ready w h tip o rules book sound =
+found_ready w h tip rate o rules book sound =
     let p = is_candidate w h tip in
-    let f = candidate_of w h tip in
+    let f = candidate_of w h tip rate in
     found_map (is_at o) f (filter p (coins_of h))
-    ∙ ap (option_map f) (find_agree (λ k. is_at o (f k)) (at o) (filter p (coins_of h)) (λ k c. ap (same_outpoint o) (at_height w h tip k k.height (place_in w.pending k.coin.txid)).point))
+    ∙ ap (option_map f) (find_agree (λ k. is_at o (f k)) (at o) (filter p (coins_of h)) (λ k c. ap (same_outpoint o) (at_height w h tip rate k k.height (place_in w.pending k.coin.txid)).point))
     ∙ ap (option_map f) (find_filter p (at o) (coins_of h))
     ∙ ap (option_map f) (kept_one p o (coins_of h) (coins_apart w h rules book sound))
     ∙ ap (λ (r : Option Coin). option_map f (kept p r)) (found_map (at o) (λ (m : Made). m.coin) (made_of h))
     ∙ cases (coin_under h o)
   where
-    cases : (r : Option Coin) → option_map (candidate_of w h tip) (kept (is_candidate w h tip) r) ≡ cond (option_map_or (is_candidate w h tip) r false) (option_map (candidate_of w h tip) r) None
+    cases : (r : Option Coin) → option_map (candidate_of w h tip rate) (kept (is_candidate w h tip) r) ≡ cond (option_map_or (is_candidate w h tip) r false) (option_map (candidate_of w h tip rate) r) None
     cases None = refl
     cases (Some k) = by (is_candidate w h tip k)
       where
-        by : (b : Bool) → option_map (candidate_of w h tip) (cond b (Some k) None) ≡ cond b (Some (candidate_of w h tip k)) None
+        by : (b : Bool) → option_map (candidate_of w h tip rate) (cond b (Some k) None) ≡ cond b (Some (candidate_of w h tip rate k)) None
         by true = refl
         by false = refl
 
@@ -121,12 +121,12 @@ filter_given {X = X} {Y = Y} p g (x ∷ xs) = by (p x) (filter_given p g xs)
     by false e = e
 
 -- those of these outpoints
-pub all_ready : (w : PlainWallet) (h : History) (tip : ℕ) (os : List OutPoint) → IsWallet w → IsBookOf w h → fault_of h ≡ None
-    → facts_among w h tip (filter (λ o. option_map_or (is_candidate w h tip) (coin_under h o) false) os) ≡ filter_map (λ o. find (is_at o) (candidates_of w h tip)) os
-all_ready w h tip os rules book sound =
+pub all_ready : (w : PlainWallet) (h : History) (tip rate : ℕ) (os : List OutPoint) → IsWallet w → IsBookOf w h → fault_of h ≡ None
+    → facts_among w h tip rate (filter (λ o. option_map_or (is_candidate w h tip) (coin_under h o) false) os) ≡ filter_map (λ o. find (is_at o) (candidates_of w h tip rate)) os
+all_ready w h tip rate os rules book sound =
     let p : OutPoint → Bool = λ o. option_map_or (is_candidate w h tip) (coin_under h o) false in
-    filter_given p (facts_at w h tip) os
-    ∙ filter_map_agree (λ (o : OutPoint). cond (p o) (facts_at w h tip o) None) (λ (o : OutPoint). find (is_at o) (candidates_of w h tip)) os (λ o. sym (found_ready w h tip o rules book sound))
+    filter_given p (facts_at w h tip rate) os
+    ∙ filter_map_agree (λ (o : OutPoint). cond (p o) (facts_at w h tip rate o) None) (λ (o : OutPoint). find (is_at o) (candidates_of w h tip rate)) os (λ o. sym (found_ready w h tip rate o rules book sound))
 
 module _ (now : List Candidate) where
   abbrev found_at : OutPoint → Option Candidate

@@ -6,7 +6,7 @@ use Rattle.coin_book.specs.Coins.{parent_of}
 use Rattle.coin_book.specs.History.{History}
 use Rattle.coin_candidates.specs.declared.candidate.Candidate.{Candidate}
 use Rattle.fund_base.specs.declared.outpoint.OutPoint.{OutPoint}
-use Rattle.fund_files.specs.declared.held.Held.{Held}
+use Rattle.fund_files.specs.declared.chain.Chain.{Chain}
 use Rattle.fund_payment.proofs.ShownLaws.{shown_all}
 use Rattle.fund_payment.specs.Report.{psbt_of}
 use Rattle.fund_payment.specs.Shown.{ShowsCoins}
@@ -35,6 +35,6 @@ maker_same h c t same m = record {
   };
 }
 
-pub still_shown : (k : Held) (r : PlainRequest) (change : Watch) (f : PlainFunded) (ps : List Payment) (q : PlainRequest) (n : ℕ) → All (HasMaker k.book) (candidates_in k) → All (IsSpendable ps (candidates_in k) q n) f.coins → ShowsCoins f.coins (psbt_of k.book r change f)
+pub still_shown : (k : Chain) (r : PlainRequest) (change : Watch) (f : PlainFunded) (ps : List Payment) (q : PlainRequest) (n : ℕ) → All (HasMaker k.book) (candidates_in k) → All (IsSpendable ps (candidates_in k) q n) f.coins → ShowsCoins f.coins (psbt_of k.book r change f)
 still_shown k r change f ps q n made all =
     shown_all k.book r change f (All-weaker (IsSpendable ps (candidates_in k) q n) (HasMaker k.book) (λ c s. maker_same k.book c s.there s.same (All-contains (HasMaker k.book) (candidates_in k) s.there made s.stands)) f.coins all)

@@ -3,7 +3,7 @@ use Rattle.std.specs.Prelude.{ℕ, ◌≡◌, false, List, None, Result, Ok, Err
 use Rattle.std.proofs.Common.{sym, ap, ◌∙◌, subst}
 use Rattle.std.proofs.lemmas.Bool.{leb-false}
 use Rattle.fund_base.specs.declared.memory.Memory.{Memory}
-use Rattle.fund_files.specs.declared.held.Held.{Held}
+use Rattle.fund_files.specs.declared.chain.Chain.{Chain}
 use Rattle.desk_machine.specs.Commands.{Blocks, Commit, Open}
 use Rattle.desk_machine.specs.Does.{Leaves, TakesMemory}
 use Rattle.desk_machine.specs.Machine.{Step, add_blocks, add_records, blocks_step, records_at}
@@ -34,16 +34,16 @@ takes_to_open old d name request same none few = subst (λ (x : PlainDesk). Take
 -- ---- blocks
 
 -- the same desk with this chain
-abbrev pub with_held : PlainDesk → Held → PlainDesk
+abbrev pub with_held : PlainDesk → Chain → PlainDesk
 with_held d k = record { held = k; committed = d.committed; jobs = d.jobs }
 
 pub blocks_reply : (r : Result given.Reply Memory) (old d : PlainDesk) (bytes : List ℕ) → d ≡ old → IfOk r (λ x. plain_reply x ≡ (add_records d.held (records_at d.held bytes)).reply) → IfOk r (λ x. plain_reply x ≡ (blocks_step old bytes).reply)
 blocks_reply r old d bytes same told = subst (λ (x : PlainDesk). IfOk r (λ y. plain_reply y ≡ (blocks_step x bytes).reply)) same told
 
-pub blocks_next : (r : Result given.Reply Memory) (old d : PlainDesk) (bytes : List ℕ) (k : Held) → d ≡ old → OnOk r (k ≡ (add_records d.held (records_at d.held bytes)).held) → OnOk r (with_held d k ≡ (blocks_step old bytes).next)
+pub blocks_next : (r : Result given.Reply Memory) (old d : PlainDesk) (bytes : List ℕ) (k : Chain) → d ≡ old → OnOk r (k ≡ (add_records d.held (records_at d.held bytes)).held) → OnOk r (with_held d k ≡ (blocks_step old bytes).next)
 blocks_next (Ok a) old d bytes k same is = ap (with_held d) is ∙ ap (λ (x : PlainDesk). (blocks_step x bytes).next) same
 blocks_next (Err e) old d bytes k same is = tt
 
-pub blocks_left : (r : Result given.Reply Memory) (old d : PlainDesk) (bytes : List ℕ) (k : Held) → d ≡ old → OnErr r ((n : ℕ) × (k ≡ (add_blocks d.held (take n (records_at d.held bytes).blocks) None).held)) → OnErr r (Leaves old (Blocks bytes) (with_held d k))
+pub blocks_left : (r : Result given.Reply Memory) (old d : PlainDesk) (bytes : List ℕ) (k : Chain) → d ≡ old → OnErr r ((n : ℕ) × (k ≡ (add_blocks d.held (take n (records_at d.held bytes).blocks) None).held)) → OnErr r (Leaves old (Blocks bytes) (with_held d k))
 blocks_left (Ok a) old d bytes k same left = tt
 blocks_left (Err e) old d bytes k same left = subst (λ (x : PlainDesk). Leaves x (Blocks bytes) (with_held d k)) same (left.0, ap (with_held d) left.1)

@@ -1,5 +1,5 @@
-pub mod Due
 pub mod Given
+pub mod JobPayment
 pub mod Looked
 pub mod Opening
 pub mod Ready

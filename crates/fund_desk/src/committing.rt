@@ -1,7 +1,7 @@
 //! The payment of a job, as it is committed.
 
 ghost use Rattle.std.specs.Prelude.{◌≡◌, IfOk, MatchResult, None, OnErr, Some, option_map};
-ghost use Rattle.fund_files.specs.Chain.{IsHeld};
+ghost use Rattle.fund_files.specs.Chain.{IsChain};
 ghost use Rattle.fund_plan.specs.Answer.{IsSelection};
 ghost use Rattle.fund_plan.specs.Selection.{PlainFunded};
 ghost use Rattle.fund_desk.specs.Given.{IsGiven, IsNotGiven, IsWrittenOut};
@@ -15,7 +15,7 @@ use crate::payments::Committed;
 use crate::taken::first_taken;
 use desk_machine::Reply;
 use fund_base::{Memory, OutPoint, Txid};
-use fund_files::Held;
+use fund_files::Chain;
 use fund_payment::{coins_have_makers, psbt};
 use fund_plan::Funded;
 use psbt_codec::write_psbt;
@@ -28,7 +28,7 @@ use tx_codec::txid;
 pub struct Given {
     /// The txid of its transaction.
     pub txid: Txid,
-    /// The bytes of its PSBT (BIP 174).
+    /// The bytes of its PSBT, in the version that its request asks for.
     pub psbt: Vec<u8>,
     /// The payment as the desk remembers it.
     pub payment: Committed,
@@ -37,17 +37,17 @@ pub struct Given {
 /// A payment as it is given out. The error is out of memory.
 fn written_out(
     alloc: Global,
-    held: &Held,
+    held: &Chain,
     request: &Request,
     funded: &Funded,
 ) -> Result<Given, Memory>
-    requires held { IsHeld held.now }
+    requires held { IsChain held.now }
     requires funded { IsSelection request.now funded.now }
     ensures { IfOk result (IsWrittenOut held.now request.now funded.now) }
 {
     let made = psbt(alloc, held, request, funded)?;
     let id = txid(&made.tx);
-    let bytes = write_psbt(alloc, &made)?;
+    let bytes = write_psbt(alloc, &made, request.psbt)?;
     let payment = Committed::new(alloc, id, &funded.coins)?;
     Ok(Given {
         txid: id,
@@ -60,12 +60,12 @@ fn written_out(
 /// which comes only where there is none.
 fn give_unless(
     alloc: Global,
-    held: &Held,
+    held: &Chain,
     request: &Request,
     funded: &Funded,
     taken: Option<OutPoint>,
 ) -> Result<Result<Given, Reply>, Memory>
-    requires held { IsHeld held.now }
+    requires held { IsChain held.now }
     requires funded { IsSelection request.now funded.now }
     ensures given { IfOk result (λ r. MatchResult r (λ g. (taken ≡ None) × IsWrittenOut held.now request.now funded.now g) (λ reply. option_map Taken taken ≡ Some reply)) }
     ensures memory { OnErr result (taken ≡ None) }
@@ -83,12 +83,12 @@ fn give_unless(
 /// memory.
 fn give_funded(
     alloc: Global,
-    held: &Held,
+    held: &Chain,
     committed: &[Committed],
     job: &OpenJob,
     funded: &Funded,
 ) -> Result<Result<Given, Reply>, Memory>
-    requires held { IsHeld held.now }
+    requires held { IsChain held.now }
     requires job { IsJob held.now.wallet.change job.now }
     requires funded { Some funded.now ≡ funded_of job.now.answer }
     ensures { IfOk result (λ r. MatchResult r (IsGiven held.now committed.now job.now) (λ reply. IsNotGiven held.now committed.now job.now (plain_reply reply))) }
@@ -106,11 +106,11 @@ fn give_funded(
 /// error is out of memory.
 pub fn give_out(
     alloc: Global,
-    held: &Held,
+    held: &Chain,
     committed: &[Committed],
     job: &OpenJob,
 ) -> Result<Result<Given, Reply>, Memory>
-    requires held { IsHeld held.now }
+    requires held { IsChain held.now }
     requires job { IsJob held.now.wallet.change job.now }
     ensures given { IfOk result (λ r. MatchResult r (IsGiven held.now committed.now job.now) (λ reply. IsNotGiven held.now committed.now job.now (plain_reply reply))) }
     ensures funded { OnErr result ((f : PlainFunded) × (funded_of job.now.answer ≡ Some f)) }

@@ -1,7 +1,7 @@
 //! The desk.
 
 ghost use Rattle.std.specs.Prelude.{ℕ, ◌≡◌, ◌≤◌, List, IfOk, MatchResult, OnErr, OnOk, length};
-ghost use Rattle.fund_files.specs.Chain.{IsHeld};
+ghost use Rattle.fund_files.specs.Chain.{IsChain};
 ghost use Rattle.desk_machine.specs.Commands.{IsCommand, Open, Turn, Commit, Blocks, Pending, plain_command};
 ghost use Rattle.desk_machine.specs.Commits.{IsCommit};
 ghost use Rattle.desk_machine.specs.Does.{Does, Leaves, TakesMemory};
@@ -10,7 +10,7 @@ ghost use Rattle.desk_machine.specs.Replies as replies;
 ghost use Rattle.desk_machine.specs.Replies.{IsOfBytes, plain_reply};
 ghost use Rattle.desk_machine.specs.Rules.{IsDesk};
 ghost use Rattle.desk_machine.specs.State.{new_desk};
-ghost use Rattle.fund_desk.specs.Due.{IsDue, IsNotDue};
+ghost use Rattle.fund_desk.specs.JobPayment.{IsPaymentOfJob, HasNoPayment};
 
 use crate::committing::{Given, give_out};
 use crate::job::{OpenJob, close, has_job, is_full, job_in, turn};
@@ -20,7 +20,7 @@ use coin_book::Book;
 use desk_chain::{PendingTxids, add_blocks, add_hex};
 use desk_machine::{Command, Reply};
 use fund_base::{Memory, Txid};
-use fund_files::{Held, Tip};
+use fund_files::{Chain, Tip};
 use std::alloc::Global;
 use std::marker::Model;
 use wallet_text::Wallet;
@@ -32,7 +32,7 @@ use wallet_text::Wallet;
 /// It keeps the rules that [`Desk::keeps_rules`] states.
 pub struct Desk {
     alloc: Global,
-    held: Held,
+    held: Chain,
     // those of the transactions that wait
     txids: PendingTxids,
     committed: Vec<Committed>,
@@ -55,7 +55,7 @@ impl Drop for Desk {
 impl Model for Desk {
     ghost use Rattle.desk_machine.specs.Rules.{IsDesk};
     ghost use Rattle.desk_machine.specs.State.{PlainDesk};
-    ghost use Rattle.desk_chain.specs.Kept.{AreTxidsOf};
+    ghost use Rattle.desk_chain.specs.PendingTxids.{AreTxidsOf};
 
     ghost Value = { PlainDesk };
 
@@ -84,11 +84,11 @@ impl Desk {
         tip: u32,
         hash: [u8; 32],
     ) -> Result<Desk, Memory>
-        requires { IsHeld (record { wallet = wallet; book = book; tip = record { height = tip; hash = hash } }) }
+        requires { IsChain (record { wallet = wallet; book = book; tip = record { height = tip; hash = hash } }) }
         ensures { IfOk result (λ d. d ≡ new_desk (record { wallet = wallet; book = book; tip = record { height = tip; hash = hash } })) }
     {
         let txids = PendingTxids::of(alloc, &wallet.pending)?;
-        let held = Held {
+        let held = Chain {
             wallet,
             book,
             tip: Tip { height: tip, hash },
@@ -148,7 +148,7 @@ impl Desk {
 
     /// The payment of the job of this name as it is given out, or the reply where none is. The error is out of memory.
     fn given_for(&self, name: &str) -> Result<Result<Given, Reply>, Memory>
-        ensures given { IfOk result (λ r. MatchResult r (IsDue self.now name.now) (λ reply. IsNotDue self.now name.now (plain_reply reply))) }
+        ensures given { IfOk result (λ r. MatchResult r (IsPaymentOfJob self.now name.now) (λ reply. HasNoPayment self.now name.now (plain_reply reply))) }
         ensures takes { OnErr result (TakesMemory self.now (Commit name.now)) }
     {
         match job_in(&self.jobs, name) {
@@ -159,7 +159,7 @@ impl Desk {
 
     /// Remembers the payment of the job of this name, and closes the job.
     fn remember(&mut self, name: &str, given: Given) -> Result<Reply, Memory>
-        requires { IsDue self.old name.now given }
+        requires { IsPaymentOfJob self.old name.now given }
         ensures reply { IfOk result (λ r. plain_reply r ≡ (commit_step self.old name.now).reply) }
         ensures next { OnOk result (self.new ≡ (commit_step self.old name.now).next) }
         ensures commits { (txid psbt : List ℕ) → IfOk result (λ r. plain_reply r ≡ replies.Committed txid psbt → IsCommit self.old name.now txid psbt self.new) }
@@ -245,7 +245,7 @@ impl Desk {
         ensures own { (bytes : List ℕ) → plain_command command.now ≡ Blocks bytes → IsOfBytes (plain_reply result) }
 
         // A payment is committed only where the last turn of its job came to it, and each coin of it can be spent now. It
-        // pays what the job's request asks, and the PSBT is its.
+        // pays what the job's request asks, and the PSBT is its, in the version that this request asks for.
         ensures commits { (name txid psbt : List ℕ) → plain_command command.now ≡ Commit name → plain_reply result ≡ replies.Committed txid psbt → IsCommit self.old name txid psbt self.new }
     {
         match command {

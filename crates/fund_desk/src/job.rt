@@ -11,7 +11,7 @@ ghost use Rattle.desk_machine.specs.State.{Job, has_job, is_named, job_at, new_j
 ghost use Rattle.desk_machine.specs.Turns.{by_outcome, is_unfinished, turn_reply, turned};
 
 use desk_machine::Reply;
-use fund_base::Memory;
+use fund_base::{MOST_TRIES, Memory};
 use fund_plan::{Funded, Outcome, Plan};
 use request_text::Request;
 use std::alloc::Global;
@@ -19,9 +19,6 @@ use std::marker::Model;
 
 /// The greatest number of jobs that are open.
 const MOST_JOBS: usize = 64;
-
-/// The greatest number of tries that all turns of a job make together.
-const MOST_TRIES: u64 = 10_000_000;
 
 /// A job: its name, what it pays, its plan where that stands, and what its last turn came to.
 pub struct OpenJob {

@@ -1,7 +1,7 @@
 //! The plan of a job that is opened.
 
 ghost use Rattle.std.specs.Prelude.{◌≡◌, ◌≢◌, IfErr, IfOk, MatchResult, None, OnErr, OnOk, Result, Some, Ok, Err};
-ghost use Rattle.fund_files.specs.Chain.{IsHeld};
+ghost use Rattle.fund_files.specs.Chain.{IsChain};
 ghost use Rattle.fund_plan.specs.Outcome.{beginning_of};
 ghost use Rattle.fund_steps.specs.Faults.{fault_of};
 ghost use Rattle.desk_machine.specs.Machine.{plan_by, plan_for, plan_in};
@@ -10,13 +10,13 @@ ghost use Rattle.desk_machine.specs.Replies.{plain_refusal};
 ghost use Rattle.desk_machine.specs.State.{desk_of};
 ghost use Rattle.desk_machine.specs.declared.reply.Refusal.TheVariants as refusals;
 ghost use Rattle.request_text.specs.PlainRequest.{PlainRequest};
-ghost use Rattle.request_text.specs.Told.{Reads, plain_fault};
+ghost use Rattle.request_text.specs.Reported.{Reads, plain_fault};
 ghost use Rattle.request_text.specs.declared.fault.Refusal as requests;
 
 use crate::payments::{Committed, keep_free};
 use desk_machine::Refusal;
 use fund_base::Memory;
-use fund_files::Held;
+use fund_files::Chain;
 use fund_plan::Plan;
 use fund_steps::{PlanFault, faults_are_found};
 use request_text::{Request, RequestFault, read_request};
@@ -31,15 +31,15 @@ pub struct Made {
     pub plan: Plan,
 }
 
-/// The plan of a request that replaces no payment, from the coins that may be spent now, but for those of committed
-/// payments.
+/// The plan of a request that replaces no payment, from the coins that may be spent now, with their prices at its rate, but
+/// for those of committed payments.
 fn plan_of(
     alloc: Global,
-    held: &Held,
+    held: &Chain,
     committed: &[Committed],
     request: &Request,
 ) -> Result<Plan, PlanFault>
-    requires held { IsHeld held.now }
+    requires held { IsChain held.now }
     requires bump { request.now.bump ≡ None }
     ensures plan { IfOk result (λ p. p.plan ≡ plan_in (desk_of held.now committed.now) request.now) }
     ensures stand { IfOk result (λ p. p.stand ≡ beginning_of p.plan) }
@@ -48,7 +48,8 @@ fn plan_of(
     ensures fault { IfErr result (λ e. e ≢ PlanFault.Memory → fault_of (plan_in (desk_of held.now committed.now) request.now) ≡ Some e) }
 {
     faults_are_found();
-    let (_, mut coins) = held.states_and_coins(alloc)?;
+    request.keeps_rules();
+    let (_, mut coins) = held.states_and_coins(alloc, request.rate)?;
     keep_free(alloc, committed, &mut coins)?;
     match Plan::new(alloc, request, &held.wallet.change, coins, None) {
         Ok(plan) => {
@@ -76,11 +77,11 @@ fn plan_refusal(fault: PlanFault) -> Result<Refusal, Memory>
 /// replaces a payment.
 fn made_of(
     alloc: Global,
-    held: &Held,
+    held: &Chain,
     committed: &[Committed],
     request: Request,
 ) -> Result<Result<Made, Refusal>, Memory>
-    requires held { IsHeld held.now }
+    requires held { IsChain held.now }
     ensures made { IfOk result (λ r. MatchResult r (IsMade (plan_by (desk_of held.now committed.now) (Ok request))) (λ refusal. plan_by (desk_of held.now committed.now) (Ok request) ≡ Err (plain_refusal refusal))) }
     ensures memory { OnErr result (request.bump ≡ None) }
 {
@@ -112,11 +113,11 @@ fn request_refusal(fault: RequestFault) -> Result<Refusal, Memory>
 /// The request of a file of these bytes, and its plan; or why there is none. The error is out of memory.
 pub fn make(
     alloc: Global,
-    held: &Held,
+    held: &Chain,
     committed: &[Committed],
     bytes: &[u8],
 ) -> Result<Result<Made, Refusal>, Memory>
-    requires held { IsHeld held.now }
+    requires held { IsChain held.now }
     ensures made { IfOk result (λ r. MatchResult r (IsMade (plan_for (desk_of held.now committed.now) bytes.now)) (λ refusal. plan_for (desk_of held.now committed.now) bytes.now ≡ Err (plain_refusal refusal))) }
 {
     match read_request(alloc, bytes) {

@@ -4,7 +4,7 @@
 ghost use Rattle.std.specs.Prelude.{◌≡◌, IfOk, filter, find};
 ghost use Rattle.std.specs.List.{filter_map};
 ghost use Rattle.coin_candidates.specs.Candidates.{AreCandidates};
-ghost use Rattle.fund_files.specs.Chain.{IsHeld};
+ghost use Rattle.fund_files.specs.Chain.{IsChain};
 ghost use Rattle.payment_states.specs.Candidates.{is_candidate, is_live};
 ghost use Rattle.desk_machine.specs.State.{candidates_in, points};
 ghost use Rattle.fund_desk.specs.Looked.{is_at};
@@ -13,7 +13,7 @@ ghost use Rattle.fund_desk.specs.Ready.{IsOneAtEach, IsKnownOf, is_ready};
 use coin_book::Coin;
 use coin_candidates::Candidate;
 use fund_base::{Memory, OutPoint};
-use fund_files::Held;
+use fund_files::Chain;
 use payment_facts::facts_of_coins;
 use payment_states::{
     SpokenFor, States, all_states, flag_at, is_deep, may_be_spent, pending_of, spoken_for,
@@ -40,8 +40,8 @@ impl Drop for Known {
 }
 
 /// What is known before the coins are looked at. The error is out of memory.
-fn known_of(alloc: Global, held: &Held) -> Result<Known, Memory>
-    requires { IsHeld held.now }
+fn known_of(alloc: Global, held: &Chain) -> Result<Known, Memory>
+    requires { IsChain held.now }
     ensures { IfOk result (IsKnownOf held.now) }
 {
     let states = all_states(alloc, &held.book, &held.wallet)?;
@@ -55,8 +55,8 @@ fn known_of(alloc: Global, held: &Held) -> Result<Known, Memory>
 }
 
 /// Whether the coin's transaction is confirmed or Pending.
-fn is_live(held: &Held, known: &Known, coin: &Coin) -> bool
-    requires held { IsHeld held.now }
+fn is_live(held: &Chain, known: &Known, coin: &Coin) -> bool
+    requires held { IsChain held.now }
     requires known { IsKnownOf held.now known.now }
     ensures { result ≡ is_live held.now.wallet held.now.book coin.now }
 {
@@ -65,8 +65,8 @@ fn is_live(held: &Held, known: &Known, coin: &Coin) -> bool
 }
 
 /// Whether a coin of the book may be spent.
-fn is_candidate(held: &Held, known: &Known, coin: &Coin) -> bool
-    requires held { IsHeld held.now }
+fn is_candidate(held: &Chain, known: &Known, coin: &Coin) -> bool
+    requires held { IsChain held.now }
     requires known { IsKnownOf held.now known.now }
     ensures { result ≡ is_candidate held.now.wallet held.now.book held.now.tip.height coin.now }
 {
@@ -78,8 +78,8 @@ fn is_candidate(held: &Held, known: &Known, coin: &Coin) -> bool
 }
 
 /// Whether there is a coin at the outpoint that may be spent.
-fn is_ready(held: &Held, known: &Known, point: &OutPoint) -> bool
-    requires held { IsHeld held.now }
+fn is_ready(held: &Chain, known: &Known, point: &OutPoint) -> bool
+    requires held { IsChain held.now }
     requires known { IsKnownOf held.now known.now }
     ensures { result ≡ is_ready held.now point.now }
 {
@@ -92,11 +92,11 @@ fn is_ready(held: &Held, known: &Known, point: &OutPoint) -> bool
 /// The outpoints of these coins at which there is a coin that may be spent, in order. The error is out of memory.
 fn ready_points(
     alloc: Global,
-    held: &Held,
+    held: &Chain,
     known: &Known,
     coins: &[Candidate],
 ) -> Result<Vec<OutPoint>, Memory>
-    requires held { IsHeld held.now }
+    requires held { IsChain held.now }
     requires known { IsKnownOf held.now known.now }
     ensures { IfOk result (λ v. v.items ≡ filter (is_ready held.now) (points coins.now)) }
 {
@@ -109,19 +109,26 @@ fn ready_points(
     Ok(ready)
 }
 
-/// The coins that may be spent now at the outpoints of these, in order, each as it is now. The error is out of memory.
-pub fn ready_of(alloc: Global, held: &Held, coins: &[Candidate]) -> Result<Vec<Candidate>, Memory>
-    requires { IsHeld held.now }
+/// The coins that may be spent now at the outpoints of these, in order, each as it is now, at no price. The error is out of memory.
+pub fn ready_of(alloc: Global, held: &Chain, coins: &[Candidate]) -> Result<Vec<Candidate>, Memory>
+    requires { IsChain held.now }
     ensures exact { IfOk result (λ v. v.items ≡ filter_map (λ o. find (is_at o) (candidates_in held.now)) (points coins.now)) }
     ensures one { IfOk result (λ v. IsOneAtEach v.items) }
     // What is true of all that may be spent, and takes no time.
     ensures fit { IfOk result (λ v. AreCandidates (candidates_in held.now)) }
 {
-    // no book has a history with a fault
-    held.book.len();
+    held.book.keeps_rules();
     let known = known_of(alloc, held)?;
     let points = ready_points(alloc, held, &known, coins)?;
     let (book, wallet) = (&held.book, &held.wallet);
-    let ready = facts_of_coins(alloc, book, wallet, &known.states, held.tip.height, &points)?;
+    let ready = facts_of_coins(
+        alloc,
+        book,
+        wallet,
+        &known.states,
+        held.tip.height,
+        &points,
+        0,
+    )?;
     Ok(ready)
 }

@@ -5,7 +5,7 @@ ghost use Rattle.std.specs.Map.{lookup};
 ghost use Rattle.fund_base.specs.Outpoints.{same_outpoint};
 ghost use Rattle.coin_candidates.specs.declared.candidate.Candidate.{Candidate};
 ghost use Rattle.fund_base.specs.declared.outpoint.OutPoint.{OutPoint};
-ghost use Rattle.fund_files.specs.Chain.{IsHeld};
+ghost use Rattle.fund_files.specs.Chain.{IsChain};
 ghost use Rattle.fund_desk.specs.Looked.{IsLookOf, good_in, is_at, same_as, taken_in};
 ghost use Rattle.fund_desk.specs.Ready.{IsOneAtEach};
 ghost use Rattle.desk_machine.specs.State.{candidates_in};
@@ -15,7 +15,7 @@ use crate::payments::{Committed, reserved_of, set_of};
 use crate::ready::ready_of;
 use coin_candidates::Candidate;
 use fund_base::{Memory, OutPoint};
-use fund_files::Held;
+use fund_files::Chain;
 use fund_plan::Funded;
 use indexmap::{IndexMap, IndexSet};
 use output_groups::{Row, ladder, meets};
@@ -151,12 +151,12 @@ fn first_point(look: &Look, request: &Request, number: u8, coins: &[Candidate]) 
 /// meet the row of the payment. The error is out of memory.
 pub fn first_taken(
     alloc: Global,
-    held: &Held,
+    held: &Chain,
     committed: &[Committed],
     request: &Request,
     funded: &Funded,
 ) -> Result<Option<OutPoint>, Memory>
-    requires { IsHeld held.now }
+    requires { IsChain held.now }
     ensures { IfOk result (λ o. o ≡ option_map (λ (c : Candidate). c.coin) (first_taken committed.now (candidates_in held.now) request.now funded.now.row funded.now.coins)) }
 {
     let now = ready_of(alloc, held, &funded.coins)?;

@@ -17,7 +17,7 @@ use Rattle.wallet_text.specs.WalletText.{wallet_of}
 use Rattle.wallet_text.specs.declared.fault.Refusal as wallets
 use Rattle.fund_files.specs.declared.refusal.File.TheVariants.{Wallet, Blocks, Request}
 use Rattle.fund_files.specs.Cause.{FileCause, TooLong, BadWallet, BadBlocks, RepeatCoin, ManyCoins, BadRequest}
-use Rattle.fund_files.specs.Chain.{held_of}
+use Rattle.fund_files.specs.Chain.{chain_from}
 use Rattle.fund_files.specs.Contents.{HasChain, HasRequest, HasWallet}
 use Rattle.fund_files.specs.FileStops.{IsBlocksCause, IsWalletCause}
 use Rattle.fund_files.specs.Outcome.{asked_of, by_blocks, by_book, by_form, by_wallet, chain_of, feed_cause}
@@ -45,14 +45,14 @@ blocks_refused wallet blocks w cause h (inl b) =
 blocks_refused wallet blocks w cause h (inr b) =
     wallet_read wallet blocks w h
     ∙ ap (λ (r : Result (List ChainBlock) FeedFault). by_blocks w r) (blocks_only blocks w.hash w.height b.0 b.2 b.3)
-    ∙ ap (λ (o : Option BookFault). by_book (held_of w b.0) o) b.4
+    ∙ ap (λ (o : Option BookFault). by_book (chain_from w b.0) o) b.4
     ∙ ap (λ (x : FileCause). Err x) (sym b.5)
 
-pub chain_held : (wallet blocks : List ℕ) (w : PlainWallet) (bs : List ChainBlock) → HasChain wallet blocks w bs → chain_of wallet blocks ≡ Ok (held_of w bs)
+pub chain_held : (wallet blocks : List ℕ) (w : PlainWallet) (bs : List ChainBlock) → HasChain wallet blocks w bs → chain_of wallet blocks ≡ Ok (chain_from w bs)
 chain_held wallet blocks w bs h =
     wallet_read wallet blocks w h.wallet
     ∙ ap (λ (r : Result (List ChainBlock) FeedFault). by_blocks w r) (blocks_only blocks w.hash w.height bs h.blocks.form h.blocks.fits)
-    ∙ ap (λ (o : Option BookFault). by_book (held_of w bs) o) h.blocks.sound
+    ∙ ap (λ (o : Option BookFault). by_book (chain_from w bs) o) h.blocks.sound
 
 -- another fault than that of the limit is told as one of the blocks
 bad_is : (fault : FeedFault) → fault ≢ feeds.Limit → BadBlocks fault ≡ feed_cause fault

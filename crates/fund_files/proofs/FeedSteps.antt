@@ -15,7 +15,7 @@ use Rattle.wallet_text.specs.PlainWallet.{PlainWallet}
 use Rattle.fund_files.specs.Booked.{IsBooked, IsRead, StartsBehind}
 use Rattle.fund_files.specs.Chain.{HaveTexts, confirmed_history, tip_behind, tip_of}
 use Rattle.fund_files.specs.declared.booking.Booked.{Booked}
-use Rattle.fund_files.specs.declared.held.Tip.{Tip}
+use Rattle.fund_files.specs.declared.chain.Tip.{Tip}
 
 abbrev HasText : ChainBlock → Type 0
 HasText b = All IsTransaction b.txs

@@ -5,18 +5,18 @@ use Rattle.block_feed.specs.BlockFile.{IsBlockFile}
 use Rattle.coin_book.specs.History.{History}
 use Rattle.wallet_text.specs.PlainWallet.{PlainWallet}
 use Rattle.wallet_text.specs.WalletRules.{IsWallet}
-use Rattle.fund_files.specs.Behind.{AreHeld, IsBehind}
+use Rattle.fund_files.specs.Joined.{IsChainOf, IsBookAfter}
 use Rattle.fund_files.specs.Chain.{history_of}
 use Rattle.fund_files.specs.Contents.{HasWallet}
-use Rattle.fund_files.specs.declared.held.Held.{Held}
-use Rattle.fund_files.specs.declared.held.Tip.{Tip}
+use Rattle.fund_files.specs.declared.chain.Chain.{Chain}
+use Rattle.fund_files.specs.declared.chain.Tip.{Tip}
 
-abbrev held_by : PlainWallet → History → Tip → Held
+abbrev held_by : PlainWallet → History → Tip → Chain
 held_by w h tip = record { wallet = w; book = h; tip = tip }
 
 -- the block file that is seen is this one
-pub held_is : (told : Type 0) (wallet_file block_file seen : List ℕ) (w : PlainWallet) (h : History) (tip : Tip) → IsBehind told seen w h tip → (told → seen ≡ block_file) → IsWallet w → (told → HasWallet wallet_file w)
-    → AreHeld told wallet_file block_file (held_by w h tip)
+pub held_is : (told : Type 0) (wallet_file block_file seen : List ℕ) (w : PlainWallet) (h : History) (tip : Tip) → IsBookAfter told seen w h tip → (told → seen ≡ block_file) → IsWallet w → (told → HasWallet wallet_file w)
+    → IsChainOf told wallet_file block_file (held_by w h tip)
 held_is told wallet_file block_file seen w h tip b same rules has = record {
   held = record {
     blocks = b.blocks;

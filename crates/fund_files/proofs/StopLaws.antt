@@ -15,7 +15,7 @@ use Rattle.coin_book.proofs.ToldSteps.{never_memory}
 use Rattle.tx_codec.specs.Transaction.{Transaction}
 use Rattle.wallet_text.specs.PlainWallet.{PlainWallet}
 use Rattle.fund_files.specs.declared.booking.Booked.{Booked}
-use Rattle.fund_files.specs.declared.held.Tip.{Tip}
+use Rattle.fund_files.specs.declared.chain.Tip.{Tip}
 use Rattle.fund_files.specs.declared.refusal.File.{File}
 use Rattle.fund_files.specs.declared.refusal.File.TheVariants.{Wallet, Blocks, Request}
 use Rattle.fund_files.specs.declared.stop.Stop.{Stop}

@@ -9,7 +9,7 @@ use Rattle.coin_book.specs.History.{History}
 use Rattle.fund_files.specs.Chain.{HaveTexts, confirmed_history, tip_of}
 use Rattle.fund_files.specs.declared.booking.Booked.{Booked}
 use Rattle.fund_files.specs.declared.booking.Booked.TheVariants.{Kept, Broken}
-use Rattle.fund_files.specs.declared.held.Tip.{Tip}
+use Rattle.fund_files.specs.declared.chain.Tip.{Tip}
 use Rattle.wallet_text.specs.PlainWallet.{PlainWallet}
 
 -- the book of this history, which has no fault, or its fault

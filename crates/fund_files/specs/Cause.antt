@@ -1,9 +1,9 @@
 -- Why a file is refused, without where its words lie in memory.
 use Rattle.fund_base.specs.declared.outpoint.OutPoint.{OutPoint}
 use Rattle.block_feed.specs.declared.fault.FeedFault.{FeedFault}
-use Rattle.request_text.specs.Told.{plain_fault}
+use Rattle.request_text.specs.Reported.{plain_fault}
 use Rattle.request_text.specs.declared.fault.Refusal as requests
-use Rattle.wallet_text.specs.Told.{refusal_of}
+use Rattle.wallet_text.specs.Reported.{refusal_of}
 use Rattle.wallet_text.specs.declared.fault.Refusal as wallets
 use Rattle.fund_files.specs.declared.refusal.File.{File}
 use Rattle.fund_files.specs.declared.refusal.FileRefusal.{FileRefusal}

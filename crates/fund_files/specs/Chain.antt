@@ -5,8 +5,8 @@ use Rattle.block_feed.specs.Block.{ChainBlock}
 use Rattle.coin_book.specs.History.{Confirmed, History, confirmed_before, confirmed_in}
 use Rattle.wallet_text.specs.PlainWallet.{PlainWallet}
 use Rattle.wallet_text.specs.WalletRules.{IsWallet}
-use Rattle.fund_files.specs.declared.held.Held.{Held}
-use Rattle.fund_files.specs.declared.held.Tip.{Tip}
+use Rattle.fund_files.specs.declared.chain.Chain.{Chain}
+use Rattle.fund_files.specs.declared.chain.Tip.{Tip}
 
 -- what the book of the confirmed transactions is made from: the wallet's earlier ones, then those of the blocks
 abbrev pub confirmed_history : PlainWallet → List ChainBlock → History
@@ -26,17 +26,17 @@ abbrev pub tip_of : PlainWallet → List ChainBlock → Tip
 tip_of w blocks = tip_behind (record { height = w.height; hash = w.hash }) blocks
 
 -- the wallet, its book and its tip
-abbrev pub held_of : PlainWallet → List ChainBlock → Held
-held_of w blocks = record { wallet = w; book = history_of w blocks; tip = tip_of w blocks }
+abbrev pub chain_from : PlainWallet → List ChainBlock → Chain
+chain_from w blocks = record { wallet = w; book = history_of w blocks; tip = tip_of w blocks }
 
 -- the blocks have texts
 abbrev pub HaveTexts : List ChainBlock → Type 0
 HaveTexts blocks = All (λ (b : ChainBlock). All IsTransaction b.txs) blocks
 
 -- a wallet that keeps its rules, and some blocks, whose transactions have texts and of which none stands too high
-pub record IsHeld (k : Held) : Type 0 where
+pub record IsChain (k : Chain) : Type 0 where
   pub blocks : List ChainBlock
-  pub is : k ≡ held_of k.wallet blocks
+  pub is : k ≡ chain_from k.wallet blocks
   pub rules : IsWallet k.wallet
   pub texts : HaveTexts blocks
   pub height : k.tip.height < 4294967295

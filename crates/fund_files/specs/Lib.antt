@@ -1,10 +1,10 @@
 pub mod Alone
-pub mod Behind
 pub mod Booked
 pub mod Cause
 pub mod Chain
 pub mod Contents
 pub mod Digests
 pub mod FileStops
+pub mod Joined
 pub mod Outcome
 pub mod Refusals

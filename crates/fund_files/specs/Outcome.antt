@@ -13,10 +13,10 @@ use Rattle.request_text.specs.declared.fault.Refusal as requests
 use Rattle.wallet_text.specs.PlainWallet.{PlainWallet}
 use Rattle.wallet_text.specs.WalletText.{wallet_of}
 use Rattle.wallet_text.specs.declared.fault.Refusal as wallets
-use Rattle.fund_files.specs.declared.held.Held.{Held}
+use Rattle.fund_files.specs.declared.chain.Chain.{Chain}
 use Rattle.fund_files.specs.declared.refusal.File.TheVariants.{Wallet, Blocks, Request}
 use Rattle.fund_files.specs.Cause.{FileCause, TooLong, BadWallet, BadBlocks, RepeatCoin, ManyCoins, BadRequest}
-use Rattle.fund_files.specs.Chain.{held_of, history_of}
+use Rattle.fund_files.specs.Chain.{chain_from, history_of}
 
 -- ---- the wallet and its chain
 
@@ -32,23 +32,23 @@ book_cause books.Full = ManyCoins
 book_cause books.Memory = ManyCoins
 
 -- by the fault of the book
-abbrev pub by_book : Held → Option BookFault → Result Held FileCause
+abbrev pub by_book : Chain → Option BookFault → Result Chain FileCause
 by_book k None = Ok k
 by_book k (Some fault) = Err (book_cause fault)
 
 -- by the blocks that were read
-abbrev pub by_blocks : PlainWallet → Result (List ChainBlock) FeedFault → Result Held FileCause
+abbrev pub by_blocks : PlainWallet → Result (List ChainBlock) FeedFault → Result Chain FileCause
 by_blocks w (Err fault) = Err (feed_cause fault)
-by_blocks w (Ok blocks) = by_book (held_of w blocks) (fault_of (history_of w blocks))
+by_blocks w (Ok blocks) = by_book (chain_from w blocks) (fault_of (history_of w blocks))
 
 -- by the wallet that was read
-abbrev pub by_wallet : Result PlainWallet wallets.Refusal → (blocks : List ℕ) → Result Held FileCause
+abbrev pub by_wallet : Result PlainWallet wallets.Refusal → (blocks : List ℕ) → Result Chain FileCause
 by_wallet (Err fault) blocks = Err (BadWallet fault)
 by_wallet (Ok w) blocks = by_blocks w (blocks_of blocks w.hash w.height)
 
 -- The two files are taken one by one: the wallet, the blocks, and then the coins that both make. Each file is refused
 -- for its length before its form.
-unfoldable pub chain_of : (wallet blocks : List ℕ) → Result Held FileCause
+unfoldable pub chain_of : (wallet blocks : List ℕ) → Result Chain FileCause
 chain_of wallet blocks = if nat_lt 16777216 (length wallet) then Err (TooLong Wallet) else by_wallet (wallet_of wallet) blocks
 
 -- ---- the request

@@ -3,12 +3,12 @@
 ghost use Rattle.std.specs.Prelude.{◌≡◌, [], None, IfErr, IfOk, OnOk};
 ghost use Rattle.coin_book.specs.Faults.{fault_of};
 ghost use Rattle.fund_files.specs.Alone.{StopsAlone};
-ghost use Rattle.fund_files.specs.Chain.{IsHeld, held_of, history_of};
+ghost use Rattle.fund_files.specs.Chain.{IsChain, chain_from, history_of};
 ghost use Rattle.wallet_text.specs.WalletRules.{IsWallet};
 
 use crate::blocks::book_refusal;
 use crate::booking::{Booked, add_waiting, begin};
-use crate::held::{Held, Tip};
+use crate::chain::{Chain, Tip};
 use crate::refusal::FileRefusal;
 use crate::stop::Stop;
 use fund_base::Memory;
@@ -16,11 +16,11 @@ use std::alloc::Global;
 use wallet_text::Wallet;
 
 /// A wallet behind which no block stands, the book of its coins, and its own height and hash as the tip. It is refused
-/// exactly where no book holds its coins, or for want of memory.
-pub fn hold(alloc: Global, wallet: Wallet) -> Result<Held, Stop>
+/// exactly where no book holds its coins, or for being out of memory.
+pub fn chain_of_wallet(alloc: Global, wallet: Wallet) -> Result<Chain, Stop>
     requires { IsWallet wallet }
-    ensures value { IfOk result (λ k. k ≡ held_of wallet []) }
-    ensures held { IfOk result IsHeld }
+    ensures value { IfOk result (λ k. k ≡ chain_from wallet []) }
+    ensures held { IfOk result IsChain }
     ensures sound { OnOk result (fault_of (history_of wallet []) ≡ None) }
     ensures stop { IfErr result (StopsAlone wallet) }
 {
@@ -33,7 +33,7 @@ pub fn hold(alloc: Global, wallet: Wallet) -> Result<Held, Stop>
                 height: wallet.height,
                 hash: wallet.hash,
             };
-            Ok(Held { wallet, book, tip })
+            Ok(Chain { wallet, book, tip })
         }
         Ok(Booked::Broken(fault)) => Err(Stop::Refused(book_refusal(fault))),
         Err(Memory) => Err(Stop::Memory),

@@ -2,18 +2,17 @@
 
 ghost use Rattle.std.specs.Prelude.{◌≡◌, ◌≢◌, [], ◌∷◌, false, Ok, Err, IfErr, IsErrOf, IsSome, IfOk, OnOk};
 ghost use Rattle.fund_shelf.specs.Causes.{Asks, OnlyReads, Rose};
-ghost use Rattle.block_feed.specs.Block.{ChainBlock};
 ghost use Rattle.block_feed.specs.Blocks.{blocks_of};
 ghost use Rattle.block_feed.specs.Digest.{IsDigest};
-ghost use Rattle.fund_files.specs.Behind.{IsBehind};
-ghost use Rattle.fund_files.specs.Booked.{AreRead, IsBooked, IsRead, StartsBehind};
+ghost use Rattle.fund_files.specs.Joined.{IsBookAfter};
+ghost use Rattle.fund_files.specs.Booked.{IsRead, StartsBehind};
 ghost use Rattle.fund_files.specs.Cause.{cause_of};
 ghost use Rattle.fund_files.specs.FileStops.{IsBlocksCause, StopsAt, is_of_wallet, stop_of};
 ghost use Rattle.fund_files.specs.Outcome.{book_cause};
 ghost use Rattle.wallet_text.specs.WalletRules.{IsWallet};
 
 use crate::booking::{Booked, add_block, add_waiting, begin};
-use crate::held::Tip;
+use crate::chain::Tip;
 use crate::refusal::{File, FileRefusal};
 use crate::stop::Stop;
 use block_feed::{Feed, FeedFault};
@@ -117,7 +116,7 @@ pub fn book_from<H: Shelf>(
 ) -> Result<(Book, Tip), Stop>
     requires rules { IsWallet wallet.now }
     requires starts { StartsBehind wallet.now feed.old }
-    ensures held { IfOk result (λ r. IsBehind H.tells ((H.view shelf.old).files name.now) wallet.now r.0 r.1) }
+    ensures held { IfOk result (λ r. IsBookAfter H.tells ((H.view shelf.old).files name.now) wallet.now r.0 r.1) }
     ensures digest { H.tells → OnOk result (IsDigest feed.old.hasher ((H.view shelf.old).files name.now) feed.new.digest) }
     ensures frame { OnlyReads H.tells (H.view shelf.old) (H.view shelf.new) }
     ensures unfailed { result ≢ Err (Stop.Read File.Blocks) → (H.view shelf.new).reads ≡ (H.view shelf.old).reads }

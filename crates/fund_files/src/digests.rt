@@ -6,15 +6,15 @@ ghost use Rattle.request_text.specs.RequestText.{request_of};
 ghost use Rattle.sha2.specs.Sha256.{sha256};
 ghost use Rattle.wallet_text.specs.WalletRules.{IsWallet};
 ghost use Rattle.wallet_text.specs.WalletText.{wallet_of};
-ghost use Rattle.fund_files.specs.Behind.{AreHeld};
+ghost use Rattle.fund_files.specs.Joined.{IsChainOf};
 ghost use Rattle.fund_files.specs.Cause.{FileCause};
 ghost use Rattle.fund_files.specs.Contents.{HasRequest};
 ghost use Rattle.fund_files.specs.Digests.{AreDigests};
 ghost use Rattle.fund_files.specs.FileStops.{IsAskedFault, IsWalletCause, StopsAsked, StopsAt, StopsChain, is_of_wallet};
 
 use crate::blocks::{book_from, feed_with_digest};
+use crate::chain::Chain;
 use crate::files::{REQUEST_LIMIT, WALLET_LIMIT, read_input, request_stop, wallet_stop};
-use crate::held::Held;
 use crate::refusal::File;
 use crate::stop::Stop;
 use fund_shelf::Shelf;
@@ -70,8 +70,8 @@ pub fn read_chain_with_digests<H: Shelf>(
     wallet: &str,
     blocks: &str,
     shelf: &mut H,
-) -> Result<(Held, ChainDigests), Stop>
-    ensures held { IfOk result (λ r. AreHeld H.tells ((H.view shelf.old).files wallet.now) ((H.view shelf.old).files blocks.now) r.0) }
+) -> Result<(Chain, ChainDigests), Stop>
+    ensures held { IfOk result (λ r. IsChainOf H.tells ((H.view shelf.old).files wallet.now) ((H.view shelf.old).files blocks.now) r.0) }
     ensures digests { H.tells → IfOk result (λ r. AreDigests ((H.view shelf.old).files wallet.now) ((H.view shelf.old).files blocks.now) r.1) }
     ensures frame { OnlyReads H.tells (H.view shelf.old) (H.view shelf.new) }
     ensures stop { IfErr result (StopsChain H.tells wallet.now blocks.now (H.view shelf.old) (H.view shelf.new)) }
@@ -94,7 +94,7 @@ pub fn read_chain_with_digests<H: Shelf>(
                 wallet: wallet_digest,
                 blocks: blocks_digest,
             };
-            Ok((Held { wallet, book, tip }, digests))
+            Ok((Chain { wallet, book, tip }, digests))
         }
         // a feed that computes a digest has it at the end of the file
         None => Err(Stop::Memory),

@@ -5,13 +5,13 @@ ghost use Rattle.fund_shelf.specs.Causes.{Asks, OnlyReads, Rose};
 ghost use Rattle.request_text.specs.RequestText.{request_of};
 ghost use Rattle.wallet_text.specs.WalletRules.{IsWallet};
 ghost use Rattle.wallet_text.specs.WalletText.{wallet_of};
-ghost use Rattle.fund_files.specs.Behind.{AreHeld};
-ghost use Rattle.fund_files.specs.Cause.{FileCause, TooLong, cause_of};
+ghost use Rattle.fund_files.specs.Joined.{IsChainOf};
+ghost use Rattle.fund_files.specs.Cause.{FileCause, TooLong};
 ghost use Rattle.fund_files.specs.Contents.{HasRequest};
 ghost use Rattle.fund_files.specs.FileStops.{IsAskedFault, IsWalletCause, StopsAsked, StopsAt, StopsChain, is_of_wallet, read_stop_of};
 
 use crate::blocks::{book_from, feed_behind};
-use crate::held::Held;
+use crate::chain::Chain;
 use crate::refusal::{File, FileRefusal};
 use crate::stop::Stop;
 use fund_shelf::{ReadError, Shelf, read_whole};
@@ -95,8 +95,8 @@ pub fn read_chain<H: Shelf>(
     wallet: &str,
     blocks: &str,
     shelf: &mut H,
-) -> Result<Held, Stop>
-    ensures held { IfOk result (λ k. AreHeld H.tells ((H.view shelf.old).files wallet.now) ((H.view shelf.old).files blocks.now) k) }
+) -> Result<Chain, Stop>
+    ensures held { IfOk result (λ k. IsChainOf H.tells ((H.view shelf.old).files wallet.now) ((H.view shelf.old).files blocks.now) k) }
     ensures frame { OnlyReads H.tells (H.view shelf.old) (H.view shelf.new) }
     ensures stop { IfErr result (StopsChain H.tells wallet.now blocks.now (H.view shelf.old) (H.view shelf.new)) }
 
@@ -112,7 +112,7 @@ pub fn read_chain<H: Shelf>(
     let wallet = wallet_from(alloc, shelf, wallet)?;
     let mut feed = feed_behind(&wallet);
     let (book, tip) = book_from(alloc, shelf, blocks, &wallet, &mut feed)?;
-    Ok(Held { wallet, book, tip })
+    Ok(Chain { wallet, book, tip })
 }
 
 /// Why the reading stops at a request file with this fault.

@@ -5,7 +5,7 @@ ghost use Rattle.block_feed.specs.Block.{ChainBlock};
 ghost use Rattle.request_text.specs.PlainRequest.{PlainRequest};
 ghost use Rattle.wallet_text.specs.PlainWallet.{PlainWallet};
 ghost use Rattle.fund_files.specs.Cause.{FileCause};
-ghost use Rattle.fund_files.specs.Chain.{held_of};
+ghost use Rattle.fund_files.specs.Chain.{chain_from};
 ghost use Rattle.fund_files.specs.Contents.{HasChain, HasRequest};
 ghost use Rattle.fund_files.specs.Outcome.{asked_of, chain_of};
 ghost use Rattle.fund_files.specs.Refusals.{IsAskedMeant, IsChainMeant};
@@ -15,7 +15,7 @@ ghost use Rattle.fund_files.specs.Refusals.{IsAskedMeant, IsChainMeant};
 /// the tip; and likewise of a request file. A call does nothing.
 pub fn chains_are_due()
     ensures refused { (wallet blocks : List ℕ) (cause : FileCause) → IsChainMeant wallet blocks cause → chain_of wallet blocks ≡ Err cause }
-    ensures held { (wallet blocks : List ℕ) (w : PlainWallet) (bs : List ChainBlock) → HasChain wallet blocks w bs → chain_of wallet blocks ≡ Ok (held_of w bs) }
+    ensures held { (wallet blocks : List ℕ) (w : PlainWallet) (bs : List ChainBlock) → HasChain wallet blocks w bs → chain_of wallet blocks ≡ Ok (chain_from w bs) }
     ensures request_refused { (file : List ℕ) (cause : FileCause) → IsAskedMeant file cause → asked_of file ≡ Err cause }
     ensures asked { (file : List ℕ) (r : PlainRequest) → HasRequest file r → asked_of file ≡ Ok r }
 {}

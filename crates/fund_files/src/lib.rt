@@ -6,17 +6,17 @@
 mod alone;
 mod blocks;
 mod booking;
+mod chain;
 mod digests;
 mod files;
-mod held;
 mod laws;
 mod refusal;
 mod stop;
 
-pub use alone::hold;
+pub use alone::chain_of_wallet;
+pub use chain::{Chain, Tip};
 pub use digests::{ChainDigests, read_asked_with_digest, read_chain_with_digests};
-pub use files::{read_asked, read_chain};
-pub use held::{Held, Tip};
+pub use files::{WALLET_LIMIT, read_asked, read_chain};
 pub use laws::chains_are_due;
 pub use refusal::{File, FileRefusal};
 pub use stop::Stop;

@@ -8,23 +8,23 @@ use Rattle.command_end.specs.Names.{Sources}
 use Rattle.command_end.specs.declared.status.Status.{Status}
 use Rattle.command_end.specs.declared.status.Status.TheVariants as statuses
 use Rattle.command_check.proofs.OutcomeLaws.{one_outcome}
-use Rattle.command_check.specs.Due as check_files
+use Rattle.command_check.specs.Outcome as check_files
 use Rattle.command_check.specs.Statuses as checks
-use Rattle.command_desk.proofs.DueLaws as desk_laws
-use Rattle.command_desk.specs.Due as desk_files
-use Rattle.command_coins.specs.Due as listing_files
+use Rattle.command_desk.proofs.OutcomeLaws as desk_laws
+use Rattle.command_desk.specs.Outcome as desk_files
+use Rattle.command_coins.specs.Outcome as listing_files
 use Rattle.command_coins.specs.Statuses as listings
 use Rattle.command_inputs.specs.Cause.{Cause, Files, cause_of, status_of_cause}
-use Rattle.command_inputs.specs.Due as payment_files
+use Rattle.command_inputs.specs.Outcome as payment_files
 use Rattle.command_inputs.specs.Names.{Payment}
 use Rattle.command_fund.specs.Statuses as payments
 use Rattle.command_inputs.specs.Results as payment_results
 use Rattle.command_fund.proofs.Finished.{log_lost, report_due}
-use Rattle.command_resume.specs.Due as resume_files
+use Rattle.command_resume.specs.Outcome as resume_files
 use Rattle.command_resume.proofs.EndsLaws.{gone_not, resume_complete, resume_refused}
-use Rattle.command_work.specs.Due as load_words
+use Rattle.command_work.specs.Outcome as load_words
 use Rattle.command_work.specs.Statuses as loads
-use Rattle.fund_top.specs.Due.{ComesTo, IsRefusal, IsTold, Outcome, Refused, check_outcome, desk_outcome, listing_outcome, load_outcome, payment_outcome, resume_outcome}
+use Rattle.fund_top.specs.Outcome.{ComesTo, IsRefusal, IsTold, Outcome, Refused, check_outcome, desk_outcome, listing_outcome, load_outcome, payment_outcome, resume_outcome}
 use Rattle.fund_top.specs.Statuses.{Ends, NoneFailed, NoneUnkept, NoneUnread, status_of}
 use Rattle.fund_top.specs.Words.{Command, Coins, Fund, Resume, Check, Work, Desk}
 use Rattle.fund_top.proofs.CommandEnds.{check_back, desk_back, listing_back, load_back, payment_back, resume_back}
@@ -46,7 +46,7 @@ load_not : (due : load_words.Outcome) (cause : Cause) (status : Status) (summary
 load_not due cause status summary is summed = let e = sym (ap load_outcome summed) ∙ is in absurd cc
 
 -- a summary is what a workload comes to
-summary_due : (number count : ℕ) (status : Status) (summary : List ℕ) → loads.IsSummary number count status summary → load_words.due_of number count ≡ load_words.Summed status summary
+summary_due : (number count : ℕ) (status : Status) (summary : List ℕ) → loads.IsSummary number count status summary → load_words.outcome_of number count ≡ load_words.Summed status summary
 summary_due number count statuses.Done summary h = h.comes_to
 summary_due number count statuses.NoSelection summary h = h.comes_to
 summary_due number count statuses.Unfinished summary h = h.comes_to
@@ -76,7 +76,7 @@ abbrev IsOf : Status → Outcome → Type 0
 IsOf status due = (status ≡ status_of due) ⊎ (status ≡ statuses.Memory)
 
 listing_complete : (told_files told told_jobs : Type 0) (s : Sources) (shelf shelf' : ShelfView) (sink sink' : SinkView) (keeper keeper' : KeeperView) (status : Status) → listings.Ends told_files told s shelf shelf' sink sink' status → told_files → NoneFailed (Coins s) shelf shelf' sink sink' keeper keeper'
-    → IsOf status (listing_outcome (listing_files.due_of shelf.files s))
+    → IsOf status (listing_outcome (listing_files.outcome_of shelf.files s))
 listing_complete told_files told told_jobs s shelf shelf' sink sink' keeper keeper' statuses.Done h t none = inl (sym (ap listing_status (h.1.comes_to t)))
 listing_complete told_files told told_jobs s shelf shelf' sink sink' keeper keeper' statuses.NoSelection h t none = absurd h
 listing_complete told_files told told_jobs s shelf shelf' sink sink' keeper keeper' statuses.Unfinished h t none = absurd h
@@ -91,7 +91,7 @@ listing_complete told_files told told_jobs s shelf shelf' sink sink' keeper keep
 listing_complete told_files told told_jobs s shelf shelf' sink sink' keeper keeper' statuses.CheckRefused h t none = absurd h
 
 payment_complete : (told_files told told_jobs : Type 0) (s : Sources) (p : Payment) (job : Option (List ℕ)) (shelf shelf' : ShelfView) (sink sink' : SinkView) (keeper keeper' : KeeperView) (status : Status) → payments.Ends told_files told told_jobs s p job shelf shelf' sink sink' keeper keeper' status → told_files → NoneFailed (Fund s p job) shelf shelf' sink sink' keeper keeper'
-    → IsOf status (payment_outcome (payment_files.due_of shelf.files s p))
+    → IsOf status (payment_outcome (payment_files.outcome_of shelf.files s p))
 payment_complete told_files told told_jobs s p job shelf shelf' sink sink' keeper keeper' statuses.Done h t none = inl (sym (ap payment_status (h.2.comes_to t)))
 payment_complete told_files told told_jobs s p job shelf shelf' sink sink' keeper keeper' statuses.NoSelection h t none = inl (sym (ap payment_status (h.2.comes_to t)))
 payment_complete told_files told told_jobs s p job shelf shelf' sink sink' keeper keeper' statuses.Unfinished h t none = inl (sym (ap payment_status (h.1.comes_to t)))
@@ -99,7 +99,7 @@ payment_complete told_files told told_jobs s p job shelf shelf' sink sink' keepe
 payment_complete told_files told told_jobs s p job shelf shelf' sink sink' keeper keeper' statuses.Input h t none = inl (sym (ap payment_status (h.2 t).0 ∙ h.1))
 payment_complete told_files told told_jobs s p job shelf shelf' sink sink' keeper keeper' statuses.Limit h t none = inl (sym (ap payment_status (h.2 t).0 ∙ h.1))
 payment_complete told_files told told_jobs s p job shelf shelf' sink sink' keeper keeper' statuses.ReadFault h t none = absurd (none.reads h.0 h.1)
-payment_complete told_files told told_jobs s p job shelf shelf' sink sink' keeper keeper' statuses.WriteFault h t none = elim h.3 as (λ x. IsOf statuses.WriteFault (payment_outcome (payment_files.due_of shelf.files s p))) [ inl w ↦ absurd (none.log (log_lost p h.1 shelf shelf' w.0)) | inr w ↦ absurd (none.sinks w.0) ]
+payment_complete told_files told told_jobs s p job shelf shelf' sink sink' keeper keeper' statuses.WriteFault h t none = elim h.3 as (λ x. IsOf statuses.WriteFault (payment_outcome (payment_files.outcome_of shelf.files s p))) [ inl w ↦ absurd (none.log (log_lost p h.1 shelf shelf' w.0)) | inr w ↦ absurd (none.sinks w.0) ]
 payment_complete told_files told told_jobs s p job shelf shelf' sink sink' keeper keeper' statuses.KeepFault h t none = absurd (none.keepers h.3)
 payment_complete told_files told told_jobs s p job shelf shelf' sink sink' keeper keeper' statuses.Memory h t none = inr refl
 payment_complete told_files told told_jobs s p job shelf shelf' sink sink' keeper keeper' statuses.Saved h t none = absurd h
@@ -126,7 +126,7 @@ collision_status : (number count : ℕ) (cause : Cause) → load_words.IsCollisi
 collision_status number count cause h = ap status_of_cause h.cause_is
 
 load_complete : (told_files told told_jobs : Type 0) (number count : ℕ) (shelf shelf' : ShelfView) (sink sink' : SinkView) (keeper keeper' : KeeperView) (status : Status) → loads.Ends told number count sink sink' status → NoneFailed (Work number count) shelf shelf' sink sink' keeper keeper'
-    → IsOf status (load_outcome (load_words.due_of number count))
+    → IsOf status (load_outcome (load_words.outcome_of number count))
 load_complete told_files told told_jobs number count shelf shelf' sink sink' keeper keeper' statuses.Done h none = inl (sym (ap load_status (summary_due number count statuses.Done h.0 h.1)))
 load_complete told_files told told_jobs number count shelf shelf' sink sink' keeper keeper' statuses.NoSelection h none = inl (sym (ap load_status (summary_due number count statuses.NoSelection h.0 h.1)))
 load_complete told_files told told_jobs number count shelf shelf' sink sink' keeper keeper' statuses.Unfinished h none = inl (sym (ap load_status (summary_due number count statuses.Unfinished h.0 h.1)))
@@ -178,7 +178,7 @@ desk_refusal desk_files.TooLong refusal = refusal
 desk_refusal desk_files.Halted refusal = refusal
 desk_refusal desk_files.Replied refusal = refusal
 
--- it is the status of what the command comes to, or want of memory
+-- it is the status of what the command comes to, or out of memory
 pub ends_complete : (told_files told told_jobs : Type 0) (c : Command) (shelf shelf' : ShelfView) (sink sink' : SinkView) (keeper keeper' : KeeperView) (status : Status) → Ends told_files told told_jobs c shelf shelf' sink sink' keeper keeper' status → IsTold told_files told_jobs c → NoneFailed c shelf shelf' sink sink' keeper keeper' → (due : Outcome) → ComesTo shelf.files keeper.jobs c due
     → (status ≡ status_of due) ⊎ (status ≡ statuses.Memory)
 ends_complete told_files told told_jobs (Coins s) shelf shelf' sink sink' keeper keeper' status h t none due is =
@@ -193,51 +193,51 @@ ends_complete told_files told told_jobs (Work number count) shelf shelf' sink si
     subst (λ (x : Outcome). IsOf status x) (sym is) (load_complete told_files told told_jobs number count shelf shelf' sink sink' keeper keeper' status (load_back told_files told told_jobs number count shelf shelf' sink sink' keeper keeper' status h) none)
 ends_complete told_files told told_jobs (Desk s script) shelf shelf' sink sink' keeper keeper' status h t none due is =
     subst (λ (x : Outcome). IsOf status x) (sym is)
-    (of_desk (desk_files.due_of shelf.files s script)
+    (of_desk (desk_files.outcome_of shelf.files s script)
     (desk_laws.ends_complete told_files told s script shelf shelf' sink sink' t (record { reads = none.reads; sinks = none.sinks }) status (desk_back told_files told told_jobs s script shelf shelf' sink sink' keeper keeper' status h)))
 
 -- ---- where the files are refused and none wasn't read
 
-listing_refused : (told_files told told_jobs : Type 0) (s : Sources) (shelf shelf' : ShelfView) (sink sink' : SinkView) (keeper keeper' : KeeperView) (status : Status) → listings.Ends told_files told s shelf shelf' sink sink' status → told_files → NoneUnread (Coins s) shelf shelf' → (cause : Cause) → listing_outcome (listing_files.due_of shelf.files s) ≡ Refused cause
+listing_refused : (told_files told told_jobs : Type 0) (s : Sources) (shelf shelf' : ShelfView) (sink sink' : SinkView) (keeper keeper' : KeeperView) (status : Status) → listings.Ends told_files told s shelf shelf' sink sink' status → told_files → NoneUnread (Coins s) shelf shelf' → (cause : Cause) → listing_outcome (listing_files.outcome_of shelf.files s) ≡ Refused cause
     → (status ≡ status_of_cause cause) ⊎ (status ≡ statuses.Memory)
-listing_refused told_files told told_jobs s shelf shelf' sink sink' keeper keeper' statuses.Done h t none cause is = absurd (listing_not (listing_files.due_of shelf.files s) cause is (subst listings.IsReported (sym (h.1.comes_to t)) tt))
+listing_refused told_files told told_jobs s shelf shelf' sink sink' keeper keeper' statuses.Done h t none cause is = absurd (listing_not (listing_files.outcome_of shelf.files s) cause is (subst listings.IsReported (sym (h.1.comes_to t)) tt))
 listing_refused told_files told told_jobs s shelf shelf' sink sink' keeper keeper' statuses.NoSelection h t none cause is = absurd h
 listing_refused told_files told told_jobs s shelf shelf' sink sink' keeper keeper' statuses.Unfinished h t none cause is = absurd h
 listing_refused told_files told told_jobs s shelf shelf' sink sink' keeper keeper' statuses.Usage h t none cause is = absurd h
 listing_refused told_files told told_jobs s shelf shelf' sink sink' keeper keeper' statuses.Input h t none cause is = inl (sym (ap status_of (sym is) ∙ ap listing_status (h.2 t).0 ∙ h.1))
 listing_refused told_files told told_jobs s shelf shelf' sink sink' keeper keeper' statuses.Limit h t none cause is = inl (sym (ap status_of (sym is) ∙ ap listing_status (h.2 t).0 ∙ h.1))
 listing_refused told_files told told_jobs s shelf shelf' sink sink' keeper keeper' statuses.ReadFault h t none cause is = absurd (none h.0 h.1)
-listing_refused told_files told told_jobs s shelf shelf' sink sink' keeper keeper' statuses.WriteFault h t none cause is = absurd (listing_not (listing_files.due_of shelf.files s) cause is (h.0 t))
+listing_refused told_files told told_jobs s shelf shelf' sink sink' keeper keeper' statuses.WriteFault h t none cause is = absurd (listing_not (listing_files.outcome_of shelf.files s) cause is (h.0 t))
 listing_refused told_files told told_jobs s shelf shelf' sink sink' keeper keeper' statuses.KeepFault h t none cause is = absurd h
 listing_refused told_files told told_jobs s shelf shelf' sink sink' keeper keeper' statuses.Memory h t none cause is = inr refl
 listing_refused told_files told told_jobs s shelf shelf' sink sink' keeper keeper' statuses.Saved h t none cause is = absurd h
 listing_refused told_files told told_jobs s shelf shelf' sink sink' keeper keeper' statuses.CheckRefused h t none cause is = absurd h
 
-payment_refused : (told_files told told_jobs : Type 0) (s : Sources) (p : Payment) (job : Option (List ℕ)) (shelf shelf' : ShelfView) (sink sink' : SinkView) (keeper keeper' : KeeperView) (status : Status) → payments.Ends told_files told told_jobs s p job shelf shelf' sink sink' keeper keeper' status → told_files → NoneUnread (Fund s p job) shelf shelf' → (cause : Cause) → payment_outcome (payment_files.due_of shelf.files s p) ≡ Refused cause
+payment_refused : (told_files told told_jobs : Type 0) (s : Sources) (p : Payment) (job : Option (List ℕ)) (shelf shelf' : ShelfView) (sink sink' : SinkView) (keeper keeper' : KeeperView) (status : Status) → payments.Ends told_files told told_jobs s p job shelf shelf' sink sink' keeper keeper' status → told_files → NoneUnread (Fund s p job) shelf shelf' → (cause : Cause) → payment_outcome (payment_files.outcome_of shelf.files s p) ≡ Refused cause
     → (status ≡ status_of_cause cause) ⊎ (status ≡ statuses.Memory)
-payment_refused told_files told told_jobs s p job shelf shelf' sink sink' keeper keeper' statuses.Done h t none cause is = absurd (report_due told_files shelf.files s p h.0 (Some h.1) (inl h.2) t cause (payment_not (payment_files.due_of shelf.files s p) cause is))
-payment_refused told_files told told_jobs s p job shelf shelf' sink sink' keeper keeper' statuses.NoSelection h t none cause is = absurd (report_due told_files shelf.files s p h.0 (Some h.1) (inr h.2) t cause (payment_not (payment_files.due_of shelf.files s p) cause is))
-payment_refused told_files told told_jobs s p job shelf shelf' sink sink' keeper keeper' statuses.Unfinished h t none cause is = absurd (report_due told_files shelf.files s p h.0 None h.1 t cause (payment_not (payment_files.due_of shelf.files s p) cause is))
+payment_refused told_files told told_jobs s p job shelf shelf' sink sink' keeper keeper' statuses.Done h t none cause is = absurd (report_due told_files shelf.files s p h.0 (Some h.1) (inl h.2) t cause (payment_not (payment_files.outcome_of shelf.files s p) cause is))
+payment_refused told_files told told_jobs s p job shelf shelf' sink sink' keeper keeper' statuses.NoSelection h t none cause is = absurd (report_due told_files shelf.files s p h.0 (Some h.1) (inr h.2) t cause (payment_not (payment_files.outcome_of shelf.files s p) cause is))
+payment_refused told_files told told_jobs s p job shelf shelf' sink sink' keeper keeper' statuses.Unfinished h t none cause is = absurd (report_due told_files shelf.files s p h.0 None h.1 t cause (payment_not (payment_files.outcome_of shelf.files s p) cause is))
 payment_refused told_files told told_jobs s p job shelf shelf' sink sink' keeper keeper' statuses.Usage h t none cause is = absurd h
 payment_refused told_files told told_jobs s p job shelf shelf' sink sink' keeper keeper' statuses.Input h t none cause is = inl (sym (ap status_of (sym is) ∙ ap payment_status (h.2 t).0 ∙ h.1))
 payment_refused told_files told told_jobs s p job shelf shelf' sink sink' keeper keeper' statuses.Limit h t none cause is = inl (sym (ap status_of (sym is) ∙ ap payment_status (h.2 t).0 ∙ h.1))
 payment_refused told_files told told_jobs s p job shelf shelf' sink sink' keeper keeper' statuses.ReadFault h t none cause is = absurd (none h.0 h.1)
-payment_refused told_files told told_jobs s p job shelf shelf' sink sink' keeper keeper' statuses.WriteFault h t none cause is = absurd (report_due told_files shelf.files s p h.0 h.1 h.2 t cause (payment_not (payment_files.due_of shelf.files s p) cause is))
-payment_refused told_files told told_jobs s p job shelf shelf' sink sink' keeper keeper' statuses.KeepFault h t none cause is = absurd (report_due told_files shelf.files s p h.0 None h.1 t cause (payment_not (payment_files.due_of shelf.files s p) cause is))
+payment_refused told_files told told_jobs s p job shelf shelf' sink sink' keeper keeper' statuses.WriteFault h t none cause is = absurd (report_due told_files shelf.files s p h.0 h.1 h.2 t cause (payment_not (payment_files.outcome_of shelf.files s p) cause is))
+payment_refused told_files told told_jobs s p job shelf shelf' sink sink' keeper keeper' statuses.KeepFault h t none cause is = absurd (report_due told_files shelf.files s p h.0 None h.1 t cause (payment_not (payment_files.outcome_of shelf.files s p) cause is))
 payment_refused told_files told told_jobs s p job shelf shelf' sink sink' keeper keeper' statuses.Memory h t none cause is = inr refl
 payment_refused told_files told told_jobs s p job shelf shelf' sink sink' keeper keeper' statuses.Saved h t none cause is = absurd h
 payment_refused told_files told told_jobs s p job shelf shelf' sink sink' keeper keeper' statuses.CheckRefused h t none cause is = absurd h
 
-load_refused : (told_files told told_jobs : Type 0) (number count : ℕ) (shelf shelf' : ShelfView) (sink sink' : SinkView) (keeper keeper' : KeeperView) (status : Status) → loads.Ends told number count sink sink' status → (cause : Cause) → load_outcome (load_words.due_of number count) ≡ Refused cause
+load_refused : (told_files told told_jobs : Type 0) (number count : ℕ) (shelf shelf' : ShelfView) (sink sink' : SinkView) (keeper keeper' : KeeperView) (status : Status) → loads.Ends told number count sink sink' status → (cause : Cause) → load_outcome (load_words.outcome_of number count) ≡ Refused cause
     → (status ≡ status_of_cause cause) ⊎ (status ≡ statuses.Memory)
-load_refused told_files told told_jobs number count shelf shelf' sink sink' keeper keeper' statuses.Done h cause is = absurd (load_not (load_words.due_of number count) cause statuses.Done h.0 is (summary_due number count statuses.Done h.0 h.1))
-load_refused told_files told told_jobs number count shelf shelf' sink sink' keeper keeper' statuses.NoSelection h cause is = absurd (load_not (load_words.due_of number count) cause statuses.NoSelection h.0 is (summary_due number count statuses.NoSelection h.0 h.1))
-load_refused told_files told told_jobs number count shelf shelf' sink sink' keeper keeper' statuses.Unfinished h cause is = absurd (load_not (load_words.due_of number count) cause statuses.Unfinished h.0 is (summary_due number count statuses.Unfinished h.0 h.1))
+load_refused told_files told told_jobs number count shelf shelf' sink sink' keeper keeper' statuses.Done h cause is = absurd (load_not (load_words.outcome_of number count) cause statuses.Done h.0 is (summary_due number count statuses.Done h.0 h.1))
+load_refused told_files told told_jobs number count shelf shelf' sink sink' keeper keeper' statuses.NoSelection h cause is = absurd (load_not (load_words.outcome_of number count) cause statuses.NoSelection h.0 is (summary_due number count statuses.NoSelection h.0 h.1))
+load_refused told_files told told_jobs number count shelf shelf' sink sink' keeper keeper' statuses.Unfinished h cause is = absurd (load_not (load_words.outcome_of number count) cause statuses.Unfinished h.0 is (summary_due number count statuses.Unfinished h.0 h.1))
 load_refused told_files told told_jobs number count shelf shelf' sink sink' keeper keeper' statuses.Usage h cause is = absurd h
 load_refused told_files told told_jobs number count shelf shelf' sink sink' keeper keeper' statuses.Input h cause is = inl (sym (ap status_of (sym is) ∙ ap load_status h.2 ∙ collision_status number count (cause_of h.0) h.1))
 load_refused told_files told told_jobs number count shelf shelf' sink sink' keeper keeper' statuses.Limit h cause is = absurd h
 load_refused told_files told told_jobs number count shelf shelf' sink sink' keeper keeper' statuses.ReadFault h cause is = absurd h
-load_refused told_files told told_jobs number count shelf shelf' sink sink' keeper keeper' statuses.WriteFault h cause is = absurd (load_not (load_words.due_of number count) cause h.0 h.1 is (summary_due number count h.0 h.1 h.2))
+load_refused told_files told told_jobs number count shelf shelf' sink sink' keeper keeper' statuses.WriteFault h cause is = absurd (load_not (load_words.outcome_of number count) cause h.0 h.1 is (summary_due number count h.0 h.1 h.2))
 load_refused told_files told told_jobs number count shelf shelf' sink sink' keeper keeper' statuses.KeepFault h cause is = absurd h
 load_refused told_files told told_jobs number count shelf shelf' sink sink' keeper keeper' statuses.Memory h cause is = inr refl
 load_refused told_files told told_jobs number count shelf shelf' sink sink' keeper keeper' statuses.Saved h cause is = absurd h
@@ -282,17 +282,17 @@ load_any : (status : Status) (due found : load_words.Outcome) → due ≡ found 
 load_any status due (load_words.Refused cause) e refusal by = by cause (ap load_outcome e)
 load_any status due (load_words.Summed own summary) e refusal by = absurd refusal
 
--- it is the status of the refusal, or want of memory
+-- it is the status of the refusal, or out of memory
 pub ends_refused : (told_files told told_jobs : Type 0) (c : Command) (shelf shelf' : ShelfView) (sink sink' : SinkView) (keeper keeper' : KeeperView) (status : Status) → Ends told_files told told_jobs c shelf shelf' sink sink' keeper keeper' status → told_files → NoneUnread c shelf shelf' → (due : Outcome) → IsRefusal due → NoneUnkept told_jobs due keeper keeper'
     → ComesTo shelf.files keeper.jobs c due
     → (status ≡ status_of due) ⊎ (status ≡ statuses.Memory)
 ends_refused told_files told told_jobs (Coins s) shelf shelf' sink sink' keeper keeper' status h t none due refusal keeps is =
     subst (λ (x : Outcome). IsOf status x) (sym is)
-    (listing_any status (listing_files.due_of shelf.files s) (listing_files.due_of shelf.files s) refl (subst IsRefusal is refusal)
+    (listing_any status (listing_files.outcome_of shelf.files s) (listing_files.outcome_of shelf.files s) refl (subst IsRefusal is refusal)
     (λ cause e. listing_refused told_files told told_jobs s shelf shelf' sink sink' keeper keeper' status (listing_back told_files told told_jobs s shelf shelf' sink sink' keeper keeper' status h) t none cause e))
 ends_refused told_files told told_jobs (Fund s p job) shelf shelf' sink sink' keeper keeper' status h t none due refusal keeps is =
     subst (λ (x : Outcome). IsOf status x) (sym is)
-    (payment_any status (payment_files.due_of shelf.files s p) (payment_files.due_of shelf.files s p) refl (subst IsRefusal is refusal)
+    (payment_any status (payment_files.outcome_of shelf.files s p) (payment_files.outcome_of shelf.files s p) refl (subst IsRefusal is refusal)
     (λ cause e. payment_refused told_files told told_jobs s p job shelf shelf' sink sink' keeper keeper' status (payment_back told_files told told_jobs s p job shelf shelf' sink sink' keeper keeper' status h) t none cause e))
 ends_refused told_files told told_jobs (Resume s p job) shelf shelf' sink sink' keeper keeper' status h t none due refusal keeps is =
     subst (λ (x : Outcome). IsOf status x) (sym is.2) (by is.0 is.1 (subst IsRefusal is.2 refusal) (subst (λ (x : Outcome). NoneUnkept told_jobs x keeper keeper') is.2 keeps))
@@ -312,9 +312,9 @@ ends_refused told_files told told_jobs (Check s p report) shelf shelf' sink sink
     (check_refused told_files told told_jobs s p report shelf shelf' sink sink' keeper keeper' status (check_back told_files told told_jobs s p report shelf shelf' sink sink' keeper keeper' status h) t none is.0 is.1 (not_accepted is.0 (subst IsRefusal is.2 refusal)))
 ends_refused told_files told told_jobs (Work number count) shelf shelf' sink sink' keeper keeper' status h t none due refusal keeps is =
     subst (λ (x : Outcome). IsOf status x) (sym is)
-    (load_any status (load_words.due_of number count) (load_words.due_of number count) refl (subst IsRefusal is refusal)
+    (load_any status (load_words.outcome_of number count) (load_words.outcome_of number count) refl (subst IsRefusal is refusal)
     (λ cause e. load_refused told_files told told_jobs number count shelf shelf' sink sink' keeper keeper' status (load_back told_files told told_jobs number count shelf shelf' sink sink' keeper keeper' status h) cause e))
 ends_refused told_files told told_jobs (Desk s script) shelf shelf' sink sink' keeper keeper' status h t none due refusal keeps is =
     subst (λ (x : Outcome). IsOf status x) (sym is)
-    (of_desk (desk_files.due_of shelf.files s script)
-    (desk_laws.ends_refused told_files told s script shelf shelf' sink sink' t none (desk_refusal (desk_files.due_of shelf.files s script) (subst IsRefusal is refusal)) status (desk_back told_files told told_jobs s script shelf shelf' sink sink' keeper keeper' status h)))
+    (of_desk (desk_files.outcome_of shelf.files s script)
+    (desk_laws.ends_refused told_files told s script shelf shelf' sink sink' t none (desk_refusal (desk_files.outcome_of shelf.files s script) (subst IsRefusal is refusal)) status (desk_back told_files told told_jobs s script shelf shelf' sink sink' keeper keeper' status h)))

@@ -2,8 +2,8 @@
 use Rattle.std.proofs.Common.{◌≡◌, ℕ, ◌+◌, ◌≤◌, List, Option, Some, inl, inr}
 use Rattle.block_feed.specs.Block.{ChainBlock}
 use Rattle.fund_shelf.specs.Causes.{ShelfView, SinkView}
-use Rattle.fund_files.specs.Chain.{held_of}
-use Rattle.fund_files.specs.declared.held.Held.{Held}
+use Rattle.fund_files.specs.Chain.{chain_from}
+use Rattle.fund_files.specs.declared.chain.Chain.{Chain}
 use Rattle.fund_outside.specs.Kept.{KeeperView, KeptJob}
 use Rattle.fund_plan.specs.Outcome.{most_tries, tries_at}
 use Rattle.kept_job.specs.Kept.{IsKeptAt}
@@ -14,8 +14,8 @@ use Rattle.command_end.specs.declared.status.Status.{Status}
 use Rattle.command_end.specs.declared.status.Status.TheVariants as statuses
 use Rattle.command_inputs.specs.Cause.{cause_of}
 use Rattle.command_inputs.specs.Digest.{digest_in}
-use Rattle.command_inputs.specs.Due.{plan_of, planned_after}
-use Rattle.command_inputs.specs.Due as dues
+use Rattle.command_inputs.specs.Outcome.{plan_of, planned_after}
+use Rattle.command_inputs.specs.Outcome as dues
 use Rattle.command_inputs.specs.Inputs.{AreInputs}
 use Rattle.command_inputs.specs.Names.{Payment}
 use Rattle.command_resume.proofs.OneLaws.{by_reading, ready_not_refused}
@@ -27,18 +27,18 @@ use Rattle.fund_top.proofs.CommandEnds.{resume_back}
 
 -- what is due by one reading of the files is due by another
 module _ (files : List ℕ → List ℕ) (s : Sources) (p : Payment) (o : Option KeptJob) (v w : PlainWallet) (us bs : List ChainBlock) (q r : PlainRequest) (n : ℕ) (h : AreInputs files s p v us q) (k : AreInputs files s p w bs r) where
-  kept_there : IsKeptAt (plan_of (held_of w bs) r) (digest_in files s p) n o → IsKeptAt (plan_of (held_of v us) q) (digest_in files s p) n o
-  kept_there kept = by_reading files s p w v bs us r q k h (λ (x : Held) (y : PlainRequest). IsKeptAt (plan_of x y) (digest_in files s p) n o) kept
+  kept_there : IsKeptAt (plan_of (chain_from w bs) r) (digest_in files s p) n o → IsKeptAt (plan_of (chain_from v us) q) (digest_in files s p) n o
+  kept_there kept = by_reading files s p w v bs us r q k h (λ (x : Chain) (y : PlainRequest). IsKeptAt (plan_of x y) (digest_in files s p) n o) kept
 
-  due_there : (due : dues.Outcome) → planned_after (held_of v us) q (n + q.tries) ≡ due → planned_after (held_of w bs) r (n + r.tries) ≡ due
-  due_there due is = by_reading files s p v w us bs q r h k (λ (x : Held) (y : PlainRequest). planned_after x y (n + y.tries) ≡ due) is
+  due_there : (due : dues.Outcome) → planned_after (chain_from v us) q (n + q.tries) ≡ due → planned_after (chain_from w bs) r (n + r.tries) ≡ due
+  due_there due is = by_reading files s p v w us bs q r h k (λ (x : Chain) (y : PlainRequest). planned_after x y (n + y.tries) ≡ due) is
 
-  left_there : (keeper' : KeeperView) (job : List ℕ) → IsKeptAt (plan_of (held_of v us) q) (digest_in files s p) (n + q.tries) (keeper'.jobs job) → IsKeptAt (plan_of (held_of w bs) r) (digest_in files s p) (n + r.tries) (keeper'.jobs job)
-  left_there keeper' job kept = by_reading files s p v w us bs q r h k (λ (x : Held) (y : PlainRequest). IsKeptAt (plan_of x y) (digest_in files s p) (n + y.tries) (keeper'.jobs job)) kept
+  left_there : (keeper' : KeeperView) (job : List ℕ) → IsKeptAt (plan_of (chain_from v us) q) (digest_in files s p) (n + q.tries) (keeper'.jobs job) → IsKeptAt (plan_of (chain_from w bs) r) (digest_in files s p) (n + r.tries) (keeper'.jobs job)
+  left_there keeper' job kept = by_reading files s p v w us bs q r h k (λ (x : Chain) (y : PlainRequest). IsKeptAt (plan_of x y) (digest_in files s p) (n + y.tries) (keeper'.jobs job)) kept
 
 -- files that hold such a request aren't refused, nor is its job but where all its tries are made
 limit_spent : (told_files told told_jobs : Type 0) (s : Sources) (p : Payment) (job : List ℕ) (shelf : ShelfView) (sink sink' : SinkView) (keeper : KeeperView) (w : PlainWallet) (blocks : List ChainBlock) (r : PlainRequest) (n : ℕ)
-    → resumes.EndsLimited told_files told told_jobs s p job shelf sink sink' keeper → told_files → told_jobs → IsJobOf shelf.files keeper s p job w blocks r n → most_tries ≤ tries_at (plan_of (held_of w blocks) r) n
+    → resumes.EndsLimited told_files told told_jobs s p job shelf sink sink' keeper → told_files → told_jobs → IsJobOf shelf.files keeper s p job w blocks r n → most_tries ≤ tries_at (plan_of (chain_from w blocks) r) n
 limit_spent tf t tj s p job shelf sink sink' keeper w blocks r n (inl h) f j k = absurd (ready_not_refused shelf.files s p w blocks r (cause_of h.0) k.inputs k.plan (h.2 f))
 limit_spent tf t tj s p job shelf sink sink' keeper w blocks r n (inr h) f j k = (kept_limit shelf.files s p (keeper.jobs job) w blocks r n h.0 k.inputs k.kept (h.3 f j)).1
 

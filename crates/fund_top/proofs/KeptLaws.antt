@@ -2,7 +2,7 @@
 use Rattle.std.proofs.Common.{◌≡◌, ◌∙◌, ℕ, List, Option, Some, None, inl, inr, refl, sym, ap}
 use Rattle.std.specs.Prelude.{◌⊎◌}
 use Rattle.fund_shelf.specs.Causes.{Rose, ShelfView, SinkView}
-use Rattle.fund_files.specs.Chain.{held_of}
+use Rattle.fund_files.specs.Chain.{chain_from}
 use Rattle.fund_files.specs.declared.refusal.File.{File}
 use Rattle.fund_outside.specs.Kept.{KeeperView, KeptJob}
 use Rattle.fund_plan.specs.declared.outcome.Outcome.TheVariants as answers
@@ -16,18 +16,18 @@ use Rattle.command_inputs.specs.Names.{Payment}
 use Rattle.command_inputs.specs.Results as payments
 use Rattle.command_resume.proofs.EndsLaws.{gone_there}
 use Rattle.command_resume.proofs.OneLaws.{gone_not_kept, one_fault, ready_not_refused}
-use Rattle.command_resume.specs.Due.{IsNotKept}
+use Rattle.command_resume.specs.Outcome.{IsNotKept}
 use Rattle.command_resume.specs.Statuses.{Ends, EndsLimited, EndsNotKept, IsReport}
 use Rattle.command_resume.specs.Words.{kept_status}
 
 -- no report is due from it
 report_not_kept : (told_files told_jobs : Type 0) (files : List ℕ → List ℕ) (s : Sources) (p : Payment) (o : Option KeptJob) (report : List ℕ) (log : Option (List ℕ)) (fault : KeptFault) → told_files → told_jobs → IsReport told_files told_jobs files s p o report log → IsNotKept files s p o fault → ⊥
 report_not_kept tf tj files s p o report (Some log) fault t u (inl f) x =
-    gone_not_kept files s p o fault f.wallet f.blocks f.asked f.state (answers.Funded f.funded) (f.inputs t) (gone_there tf tj files s p o (held_of f.wallet f.blocks) f.asked f.state (answers.Funded f.funded) t u f.gone) x
+    gone_not_kept files s p o fault f.wallet f.blocks f.asked f.state (answers.Funded f.funded) (f.inputs t) (gone_there tf tj files s p o (chain_from f.wallet f.blocks) f.asked f.state (answers.Funded f.funded) t u f.gone) x
 report_not_kept tf tj files s p o report (Some log) fault t u (inr f) x =
-    gone_not_kept files s p o fault f.wallet f.blocks f.asked f.state answers.NoSelection (f.inputs t) (gone_there tf tj files s p o (held_of f.wallet f.blocks) f.asked f.state answers.NoSelection t u f.gone) x
+    gone_not_kept files s p o fault f.wallet f.blocks f.asked f.state answers.NoSelection (f.inputs t) (gone_there tf tj files s p o (chain_from f.wallet f.blocks) f.asked f.state answers.NoSelection t u f.gone) x
 report_not_kept tf tj files s p o report None fault t u f x =
-    gone_not_kept files s p o fault f.wallet f.blocks f.asked f.state answers.Unfinished (f.inputs t) (gone_there tf tj files s p o (held_of f.wallet f.blocks) f.asked f.state answers.Unfinished t u f.gone) x
+    gone_not_kept files s p o fault f.wallet f.blocks f.asked f.state answers.Unfinished (f.inputs t) (gone_there tf tj files s p o (chain_from f.wallet f.blocks) f.asked f.state answers.Unfinished t u f.gone) x
 
 -- nor are its files refused
 files_not_refused : (status : Status) (told_files told : Type 0) (s : Sources) (p : Payment) (o : Option KeptJob) (shelf : ShelfView) (sink sink' : SinkView) (fault : KeptFault) → payments.EndsRefused status told_files told s p shelf sink sink' → told_files → IsNotKept shelf.files s p o fault → ⊥
@@ -43,7 +43,7 @@ limit_refused : (told_files told told_jobs : Type 0) (s : Sources) (p : Payment)
 limit_refused tf told tj s p job shelf sink sink' keeper fault (inl h) t u x = absurd (files_not_refused statuses.Limit tf told s p (keeper.jobs job) shelf sink sink' fault h t x)
 limit_refused tf told tj s p job shelf sink sink' keeper fault (inr h) t u x = same_fault statuses.Limit tf told tj s p job shelf sink sink' keeper fault h t u x
 
--- where its files were read and the keeper didn't fail, the status is that of its fault, or want of memory
+-- where its files were read and the keeper didn't fail, the status is that of its fault, or out of memory
 pub job_refused : (told_files told told_jobs : Type 0) (s : Sources) (p : Payment) (job : List ℕ) (shelf shelf' : ShelfView) (sink sink' : SinkView) (keeper keeper' : KeeperView) (status : Status)
     → Ends told_files told told_jobs s p job shelf shelf' sink sink' keeper keeper' status → told_files → told_jobs → ((file : File) → IsUnread s p file shelf shelf' → ⊥) → (Rose keeper.faults keeper'.faults → ⊥) → (fault : KeptFault) → IsNotKept shelf.files s p (keeper.jobs job) fault
     → (status ≡ kept_status fault) ⊎ (status ≡ statuses.Memory)

@@ -1,8 +1,8 @@
 pub mod CommandEnds
 pub mod EndsLaws
-pub mod DueLaws
 pub mod GoesOnLaws
 pub mod KeptLaws
+pub mod OutcomeLaws
 pub mod RunLaws
 pub mod SureLaws
 pub mod WordLaws

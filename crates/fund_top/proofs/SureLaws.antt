@@ -22,7 +22,7 @@ use Rattle.command_desk.specs.Statuses as desks
 use Rattle.command_resume.specs.Statuses as resumes
 use Rattle.command_work.specs.Statuses as loads
 use Rattle.command_end.specs.declared.status.Status.{Status}
-use Rattle.fund_top.specs.Due.{ComesTo, IsTold, Outcome}
+use Rattle.fund_top.specs.Outcome.{ComesTo, IsTold, Outcome}
 use Rattle.fund_top.specs.InMemory.{Accepts, Funds, FundsNot, FundsOpen, Lists, Replies, Resumes, RunsInMemory, Sums}
 use Rattle.fund_top.specs.Outside.{in_memory}
 use Rattle.fund_top.specs.Run.{EndsByStatus, GoesOn, TellsDue, TellsUsage}

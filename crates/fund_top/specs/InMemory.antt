@@ -1,12 +1,12 @@
 -- How a command ends whose files, sink and keeper are in memory and never fail.
 use Rattle.std.specs.Prelude.{ℕ, ◌≡◌, ◌≢◌, ◌⊎◌, List, ◌++◌, Option, IfSome}
 use Rattle.fund_shelf.specs.Causes.{ShelfView, SinkView}
-use Rattle.fund_files.specs.Chain.{held_of}
+use Rattle.fund_files.specs.Chain.{chain_from}
 use Rattle.fund_outside.specs.Kept.{KeeperView}
 use Rattle.command_end.specs.Names.{Sources}
 use Rattle.command_check.specs.Statuses.{IsVouched}
 use Rattle.command_coins.specs.Statuses.{IsListed}
-use Rattle.command_inputs.specs.Due.{plan_of}
+use Rattle.command_inputs.specs.Outcome.{plan_of}
 use Rattle.command_fund.specs.Jobs.{IsLeft}
 use Rattle.command_inputs.specs.Names.{Payment}
 use Rattle.command_inputs.specs.Results.{IsFunded, IsNotFunded, IsUnfinished}
@@ -20,7 +20,7 @@ use Rattle.desk_machine.specs.State.{PlainDesk, new_desk}
 use Rattle.command_desk.specs.Script.{lines_of}
 use Rattle.command_desk.specs.Course.{Course}
 use Rattle.command_desk.specs.Starts.{AreInputs}
-use Rattle.fund_top.specs.Due.{ComesTo, Outcome}
+use Rattle.fund_top.specs.Outcome.{ComesTo, Outcome}
 use Rattle.fund_top.specs.Outside.{Outside}
 use Rattle.fund_top.specs.Statuses.{GoesOnUninterrupted, WhereChecking, WhereDesk, WhereFunding, WhereListing, WhereResuming, WhereWorking, status_of}
 use Rattle.fund_top.specs.Words.{Command, Coins, Fund, Resume, Check, Work, Desk}
@@ -51,7 +51,7 @@ Sums status number count sink sink' = (summary : List ℕ) × IsSummary number c
 abbrev pub Replies : Sources → (script : List ℕ) → ShelfView → SinkView → SinkView → Type 0
 Replies s script shelf sink sink' =
     (w : PlainWallet) × (blocks : List ChainBlock) × (printed : List ℕ) × (new : PlainDesk) × AreInputs shelf.files s script w blocks
-    × Course shelf.files (lines_of (shelf.files script)) (new_desk (held_of w blocks)) printed new × (sink'.written ≡ sink.written ++ printed)
+    × Course shelf.files (lines_of (shelf.files script)) (new_desk (chain_from w blocks)) printed new × (sink'.written ≡ sink.written ++ printed)
 
 -- the log is written, and the report of none is printed whole; or the summary is
 abbrev pub FundsNot : Command → ShelfView → ShelfView → SinkView → SinkView → KeeperView → Type 0
@@ -69,7 +69,7 @@ abbrev pub FundsOpen : Command → ShelfView → ShelfView → SinkView → Sink
 FundsOpen (Coins s) shelf shelf' sink sink' keeper keeper' = ⊥
 FundsOpen (Fund s p job) shelf shelf' sink sink' keeper keeper' =
     (report : List ℕ) × (u : IsUnfinished (Unit {0}) shelf.files s p report) × (shelf'.files ≡ shelf.files) × (sink'.written ≡ sink.written ++ report)
-    × IsLeft (Unit {0}) shelf.files s p (plan_of (held_of u.wallet u.blocks) u.asked) u.asked.tries job keeper keeper'
+    × IsLeft (Unit {0}) shelf.files s p (plan_of (chain_from u.wallet u.blocks) u.asked) u.asked.tries job keeper keeper'
 FundsOpen (Resume s p job) shelf shelf' sink sink' keeper keeper' =
     (report : List ℕ) × (u : resumed.IsUnfinished (Unit {0}) (Unit {0}) shelf.files s p (keeper.jobs job) report) × (shelf'.files ≡ shelf.files) × (sink'.written ≡ sink.written ++ report)
     × resumed.IsLeftOn (Unit {0}) (Unit {0}) shelf.files s p job report keeper keeper' u

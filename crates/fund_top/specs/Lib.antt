@@ -1,7 +1,7 @@
 pub mod Asked
 pub mod Command
-pub mod Due
 pub mod InMemory
+pub mod Outcome
 pub mod Outside
 pub mod Run
 pub mod Statuses

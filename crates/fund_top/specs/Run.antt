@@ -13,7 +13,7 @@ use Rattle.command_inputs.specs.Results.{IsBeforeTheLog}
 use Rattle.command_resume.specs.Statuses.{EndsFunded as EndsResumed}
 use Rattle.command_work.specs.Statuses.{EndsSummed}
 use Rattle.fund_top.specs.Asked.{AsksFor}
-use Rattle.fund_top.specs.Due.{ComesTo, IsRefusal, IsTold, Outcome}
+use Rattle.fund_top.specs.Outcome.{ComesTo, IsRefusal, IsTold, Outcome}
 use Rattle.fund_top.specs.Outside.{Outside}
 use Rattle.fund_top.specs.Statuses.{EndsBroken, EndsInput, EndsLimited, EndsNotFunded, EndsNotKept, EndsUnfinished, EndsUnkept, EndsUnread, EndsUnwritten, EndsWithoutMemory, GoesOnUninterrupted, KeepsOthers, NoneFailed, NoneUnkept, NoneUnread, WhereChecking, WhereDesk, WhereFunding, WhereListing, WhereResuming, WhereWorking, job_of, status_of}
 use Rattle.fund_top.specs.Words.{Command}

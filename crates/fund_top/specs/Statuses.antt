@@ -2,9 +2,9 @@
 use Rattle.std.specs.Prelude.{ℕ, ◌≡◌, ◌≤◌, ◌+◌, ◌++◌, List, Option, Some, None}
 use Rattle.block_feed.specs.Block.{ChainBlock}
 use Rattle.fund_shelf.specs.Causes.{ShelfView, SinkView, Rose, SameElsewhere}
-use Rattle.fund_files.specs.Chain.{held_of}
+use Rattle.fund_files.specs.Chain.{chain_from}
 use Rattle.fund_files.specs.FileStops as files
-use Rattle.fund_files.specs.declared.held.Held.{Held}
+use Rattle.fund_files.specs.declared.chain.Chain.{Chain}
 use Rattle.fund_files.specs.declared.refusal.File.{File}
 use Rattle.fund_outside.specs.Kept.{KeeperView}
 use Rattle.fund_plan.specs.Outcome.{most_tries, tries_at}
@@ -17,13 +17,13 @@ use Rattle.command_end.specs.declared.status.Status.{Status}
 use Rattle.command_end.specs.declared.status.Status.TheVariants as statuses
 use Rattle.command_check.specs.Statuses as checks
 use Rattle.command_coins.specs.Statuses as listings
-use Rattle.command_desk.specs.Due as desk_dues
+use Rattle.command_desk.specs.Outcome as desk_dues
 use Rattle.command_desk.specs.Endings as desk_endings
 use Rattle.command_desk.specs.Statuses as desks
 use Rattle.command_inputs.specs.Cause.{status_of_cause}
 use Rattle.command_inputs.specs.Digest.{digest_in}
-use Rattle.command_inputs.specs.Due.{plan_of, planned_after}
-use Rattle.command_inputs.specs.Due as dues
+use Rattle.command_inputs.specs.Outcome.{plan_of, planned_after}
+use Rattle.command_inputs.specs.Outcome as dues
 use Rattle.command_inputs.specs.Inputs as inputs
 use Rattle.command_inputs.specs.Inputs.{AreInputs}
 use Rattle.command_inputs.specs.Names.{Payment}
@@ -32,7 +32,7 @@ use Rattle.command_inputs.specs.Results as payment_results
 use Rattle.command_resume.specs.Statuses as resumes
 use Rattle.command_resume.specs.Words.{kept_status}
 use Rattle.command_work.specs.Statuses as loads
-use Rattle.fund_top.specs.Due.{Outcome, Refused, NotKept, Listed, Unfinished, NoSelection, Funded, TooLong, Broken, Accepted, Summed, Ran}
+use Rattle.fund_top.specs.Outcome.{Outcome, Refused, NotKept, Listed, Unfinished, NoSelection, Funded, TooLong, Broken, Accepted, Summed, Ran}
 use Rattle.fund_top.specs.Words.{Command, Coins, Fund, Resume, Check, Work, Desk}
 
 -- the status of what a command comes to, where nothing fails
@@ -282,13 +282,13 @@ pub record NoneFailed (c : Command) (shelf shelf' : ShelfView) (sink sink' : Sin
 -- These files and a job that an unfinished run of them left after n tries.
 pub record IsJobOf (files_now : List ℕ → List ℕ) (keeper : KeeperView) (s : Sources) (p : Payment) (job : List ℕ) (w : PlainWallet) (blocks : List ChainBlock) (r : PlainRequest) (n : ℕ) : Type 0 where
   pub inputs : AreInputs files_now s p w blocks r
-  pub plan : IsPlan (plan_of (held_of w blocks) r)
-  pub kept : IsKeptAt (plan_of (held_of w blocks) r) (digest_in files_now s p) n (keeper.jobs job)
+  pub plan : IsPlan (plan_of (chain_from w blocks) r)
+  pub kept : IsKeptAt (plan_of (chain_from w blocks) r) (digest_in files_now s p) n (keeper.jobs job)
 
 -- A command that goes on with a job that was left after n tries ends as a run of n tries and the request's together does that
 -- is never stopped: the log is written and the report is printed, both byte for byte. It refuses neither the files nor the
 -- job, but for one that has made all its tries. Where a read, a write, the keeper or the memory failed nothing is said here.
-abbrev pub EndsAs : Held → PlainRequest → (n : ℕ) → Payment → ShelfView → SinkView → SinkView → Status → Type 0
+abbrev pub EndsAs : Chain → PlainRequest → (n : ℕ) → Payment → ShelfView → SinkView → SinkView → Status → Type 0
 EndsAs k r n p shelf' sink sink' statuses.Done =
     (report : List ℕ) × (log : List ℕ) × (planned_after k r (n + r.tries) ≡ dues.Funded report log) × (shelf'.files p.log ≡ log) × (sink'.written ≡ sink.written ++ report)
 EndsAs k r n p shelf' sink sink' statuses.NoSelection =
@@ -310,5 +310,5 @@ EndsAs k r n p shelf' sink sink' statuses.Memory = Unit {0}
 abbrev pub GoesOnUninterrupted : Sources → Payment → List ℕ → ShelfView → ShelfView → SinkView → SinkView → KeeperView → KeeperView → Status → Type 0
 GoesOnUninterrupted s p job shelf shelf' sink sink' keeper keeper' status =
     (w : PlainWallet) (blocks : List ChainBlock) (r : PlainRequest) (n : ℕ) → IsJobOf shelf.files keeper s p job w blocks r n
-    → EndsAs (held_of w blocks) r n p shelf' sink sink' status
+    → EndsAs (chain_from w blocks) r n p shelf' sink sink' status
     × (status ≡ statuses.Unfinished → IsJobOf shelf.files keeper' s p job w blocks r (n + r.tries))

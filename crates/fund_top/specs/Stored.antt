@@ -8,13 +8,13 @@ use Rattle.fund_plan.specs.Outcome.{outcome_at, tries_at}
 use Rattle.fund_plan.specs.Selection.{PlainFunded}
 use Rattle.fund_plan.specs.declared.outcome.Outcome.{Outcome as Answer}
 use Rattle.fund_steps.specs.Plan.{IsPlan, PlainPlan}
-use Rattle.fund_files.specs.Chain.{held_of, history_of}
+use Rattle.fund_files.specs.Chain.{chain_from, history_of}
 use Rattle.fund_payment.specs.Report.{report_of}
 use Rattle.command_end.specs.Names.{Sources}
-use Rattle.command_inputs.specs.Due.{log_text_at, plan_of}
+use Rattle.command_inputs.specs.Outcome.{log_text_at, plan_of}
 use Rattle.command_inputs.specs.Inputs.{AreInputs}
 use Rattle.command_inputs.specs.Names.{Payment}
-use Rattle.command_work.specs.Due.{load_of, load_plan}
+use Rattle.command_work.specs.Outcome.{load_of, load_plan}
 use Rattle.command_work.specs.Load.{earlier_of, request_of, wallet_of}
 
 -- a wallet, blocks and a request
@@ -25,7 +25,7 @@ pub record Stored : Type 0 where
 
 -- their plan
 abbrev pub plan_in : Stored → PlainPlan
-plan_in k = plan_of (held_of k.wallet k.blocks) k.asked
+plan_in k = plan_of (chain_from k.wallet k.blocks) k.asked
 
 -- the files hold these, and the plan keeps its rules
 pub record HaveStored (files : List ℕ → List ℕ) (s : Sources) (p : Payment) (k : Stored) : Type 0 where

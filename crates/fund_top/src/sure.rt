@@ -14,7 +14,7 @@ use fund_shelf::{SureShelf, SureSink};
 use std::alloc::Global;
 
 /// [`run`] on files, a sink and a keeper in memory that never fail: the status is that of what the files and the job come to,
-/// and the report, the listing or the summary is printed whole, want of memory aside.
+/// and the report, the listing or the summary is printed whole, being out of memory aside.
 pub fn run_in_memory(
     alloc: Global,
     words: &Vec<String>,

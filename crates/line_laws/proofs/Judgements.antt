@@ -17,6 +17,7 @@ kept_told (jobs.JobElse kept now) = refl
 kept_told jobs.Spent = refl
 kept_told (jobs.Part number) = refl
 kept_told jobs.LongLog = refl
+kept_told (jobs.Parts kept now) = refl
 kept_told (jobs.Section index) = refl
 kept_told jobs.IllFormed = refl
 kept_told (jobs.Log index fault) = refl

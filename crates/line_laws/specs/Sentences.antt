@@ -1,7 +1,7 @@
 -- The sentence of each line by which a command refuses its files.
 use Rattle.std.specs.Prelude.{ℕ, List}
-use Rattle.command_check.specs.declared.stop.Evidence.{Evidence}
-use Rattle.command_check.specs.declared.stop.Evidence.TheVariants as proofs
+use Rattle.command_check.specs.declared.stop.CheckedFile.{CheckedFile}
+use Rattle.command_check.specs.declared.stop.CheckedFile.TheVariants as proofs
 use Rattle.command_complete.specs.declared.stop.Refusal as completions
 use Rattle.command_complete.specs.declared.stop.Refusal.TheVariants as incomplete
 use Rattle.command_inputs.specs.declared.refusal.Refusal as payments
@@ -22,7 +22,7 @@ limit_sentence files.Blocks = stop_sentence stops.BlocksLimit
 limit_sentence files.Request = stop_sentence stops.RequestLimit
 
 -- a report or a log that is longer than its limit
-abbrev pub evidence_sentence : Evidence → List ℕ
+abbrev pub evidence_sentence : CheckedFile → List ℕ
 evidence_sentence proofs.Report = stop_sentence stops.ReportLimit
 evidence_sentence proofs.Log = stop_sentence stops.LogLimit
 

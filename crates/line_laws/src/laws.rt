@@ -2,7 +2,7 @@
 
 ghost use Rattle.std.specs.Prelude.{◌≡◌, ◌++◌, ℕ, List, Some, codes};
 ghost use Rattle.command_check.specs.Words.{check_fault_words, evidence_word};
-ghost use Rattle.command_check.specs.declared.stop.Evidence.{Evidence};
+ghost use Rattle.command_check.specs.declared.stop.CheckedFile.{CheckedFile};
 ghost use Rattle.command_complete.specs.Words as completing;
 ghost use Rattle.command_complete.specs.declared.stop.Refusal as completions;
 ghost use Rattle.command_desk.specs.Course.{long_word};
@@ -41,7 +41,7 @@ pub fn judgements_have_their_sentence()
 /// nothing.
 pub fn limits_have_their_sentence()
     ensures file { (f : File) → HasSentence (codes "limit " ++ file_word f) (limit_sentence f) }
-    ensures evidence { (f : Evidence) → HasSentence (codes "limit " ++ evidence_word f) (evidence_sentence f) }
+    ensures evidence { (f : CheckedFile) → HasSentence (codes "limit " ++ evidence_word f) (evidence_sentence f) }
     ensures opened { (name file : List ℕ) → HasSentence (codes "limit " ++ long_word (lines.Open name file)) (stop_sentence stops.RequestLimit) }
     ensures blocks { (file : List ℕ) → HasSentence (codes "limit " ++ long_word (lines.Blocks file)) (stop_sentence stops.BlocksLimit) }
 {}

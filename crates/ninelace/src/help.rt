@@ -7,7 +7,7 @@ pub const VERSION: &str = "ninelace 1.0";
 pub const COMMANDS: &str = "ninelace: payments of a wallet that only watches.
 
   ninelace pay --wallet FILE --blocks FILE --to ADDRESS=AMOUNT --fee-rate RATE
-  ninelace coins WALLET BLOCKS
+  ninelace coins WALLET BLOCKS --fee-rate RATE
   ninelace check WALLET BLOCKS REQUEST REPORT LOG
   ninelace complete PSBT WALLET BLOCKS
   ninelace explain LINE
@@ -53,14 +53,17 @@ For example:
 ";
 
 /// The command that lists coins.
-const COINS: &str = "ninelace coins WALLET BLOCKS
+const COINS: &str = "ninelace coins WALLET BLOCKS --fee-rate RATE
 
 Lists the last block, each payment that waits with its state, and each coin that may be
-spent: its value, how deep it is, whose it is, and whether it is safe.
+spent: its value, how deep it is, whose it is, and whether it is safe. With --fee-rate,
+which may be left out, it also lists what a coin costs at this rate beside its input, if
+the payments that wait below it pay less.
 
 For example:
 
   ninelace coins wallet.json blocks.dat
+  ninelace coins wallet.json blocks.dat --fee-rate 12.5
 ";
 
 /// The command that checks a report.

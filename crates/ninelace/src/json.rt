@@ -169,18 +169,34 @@ fn put_sides(
     put(alloc, object, "coins", coins_value(alloc, &report.coins)?)
 }
 
+/// What is seen of a payment in the files once more, each where they can be read again: what it paid for ancestors, and whether
+/// the wallet watches the script of its change.
+#[derive(Drop)]
+pub struct Seen {
+    /// What the payment has paid for the ancestors of its coins.
+    pub parents: Option<u64>,
+    /// Whether the wallet watches the script of the change; none without change.
+    pub change_listed: Option<bool>,
+}
+
 /// Puts what a payment comes to.
 fn put_figures(
     alloc: Global,
     object: &mut Map<String, Value>,
     report: &FundedReport,
-    listed: Option<bool>,
+    seen: &Seen,
 ) -> Result<(), Memory> {
     put(alloc, object, "fee", Value::from(report.fee))?;
+    put(alloc, object, "parents", Value::from(seen.parents))?;
     put(alloc, object, "weight", Value::from(report.weight))?;
     put(alloc, object, "vsize", Value::from(report.vsize))?;
     put(alloc, object, "change", Value::from(report.change))?;
-    put(alloc, object, "change_listed", Value::from(listed))
+    put(
+        alloc,
+        object,
+        "change_listed",
+        Value::from(seen.change_listed),
+    )
 }
 
 /// Puts what the coins of a payment promise, and how they were looked for.
@@ -197,19 +213,19 @@ fn put_choice(
     put_text(alloc, object, "seed", seed.as_str())
 }
 
-/// A payment: whom it pays, what it spends, what it comes to, what its coins promise, and its PSBT. `listed` says whether
-/// the wallet watches the script of the change, where that is known.
+/// A payment: whom it pays, what it spends, what it comes to, what its coins promise, and its PSBT; and what is seen of it in
+/// the files once more.
 pub fn payment_value(
     alloc: Global,
     asked: &Asked,
     report: &FundedReport,
-    listed: Option<bool>,
+    seen: &Seen,
     psbt: &str,
 ) -> Result<Value, Memory> {
     let mut object = Map::new(alloc);
     put(alloc, &mut object, "status", Value::from(0_u8))?;
     put_sides(alloc, &mut object, asked, report)?;
-    put_figures(alloc, &mut object, report, listed)?;
+    put_figures(alloc, &mut object, report, seen)?;
     put_choice(alloc, &mut object, asked, report)?;
     put(alloc, &mut object, "request", request_value(alloc, asked)?)?;
     put_text(alloc, &mut object, "psbt", psbt)?;

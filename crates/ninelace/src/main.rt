@@ -5,10 +5,11 @@ mod help;
 mod json;
 mod pay;
 mod plain;
+mod prices;
 
 use command_end::Status;
 use pay::pay;
-use plain::{by_words, complete, explain, is_given, show, tell};
+use plain::{by_words, coins, complete, explain, is_given, show, tell};
 use std::io::ErrorKind;
 use std::process::ExitCode;
 use std::{env, io};
@@ -44,7 +45,7 @@ fn help_whole(rt: &HostRuntime, status: Status) -> io::Result<u8> {
 fn command(rt: &HostRuntime, words: &[String], verb: &str, rest: &[String]) -> io::Result<u8> {
     match verb {
         "pay" => pay(rt, rest),
-        "coins" => by_words(rt, words, 3, "coins takes two names: WALLET BLOCKS."),
+        "coins" => coins(rt, words),
         "check" => by_words(
             rt,
             words,

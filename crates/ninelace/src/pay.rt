@@ -1,13 +1,15 @@
 //! The command that pays, as people see it.
 
-use crate::json::{payment_value, print, refusal_value};
+use crate::json::{Seen, payment_value, print, refusal_value};
 use crate::plain::{files_told, is_given, show, tell};
-use command_end::Status;
+use crate::prices::{paid_for_parents, parents_line};
+use command_end::{Sources, Status};
 use command_pay::{
     Ending, NewFile, NewFileShelf, change_warning, high_fee_text, is_change_listed, table_text,
     unread_warning, unwritten_text,
 };
 use fault_lines::line_sentence;
+use fund_files::WALLET_LIMIT;
 use fund_report::FundedReport;
 use fund_shelf::{FileShelf, Shelf, read_whole};
 use pay_words::{Asked, WordFault, flag_about, flag_word, word_place, word_sentence};
@@ -15,9 +17,6 @@ use std::alloc::Global;
 use std::io;
 use std::random::RandomSource;
 use wallet_text::read_wallet;
-
-/// The greatest length of a wallet file.
-const WALLET_LIMIT: usize = 16_777_216;
 
 /// The word or the flag that a fault is about; nothing where it is about none.
 fn word_about<'a>(words: &'a [String], fault: &WordFault) -> &'a str {
@@ -67,6 +66,33 @@ fn warn_of_change(rt: &HostRuntime, listed: Option<bool>) -> io::Result<()> {
     }
 }
 
+/// What a payment has paid for the ancestors of its coins; none where the files can't be read any more.
+fn parents_of(rt: &HostRuntime, asked: &Asked, report: &FundedReport) -> Option<u64> {
+    let sources = Sources {
+        wallet: asked.names.wallet.as_str(),
+        blocks: asked.names.blocks.as_str(),
+    };
+    let mut shelf = FileShelf::new(rt);
+    paid_for_parents(
+        rt.alloc(),
+        &sources,
+        asked.settings.rate,
+        &report.coins,
+        &mut shelf,
+    )
+}
+
+/// Shows what a payment has paid for ancestors, where it has.
+fn show_parents(rt: &HostRuntime, paid: Option<u64>) -> io::Result<()> {
+    match paid {
+        Some(paid) if paid > 0 => match parents_line(rt.alloc(), paid) {
+            Ok(line) => rt.println(line.as_str()),
+            Err(_) => Ok(()),
+        },
+        _ => Ok(()),
+    }
+}
+
 /// Shows the request file where it is asked for.
 fn show_request(rt: &HostRuntime, asked: &Asked) -> io::Result<()> {
     if asked.show_request {
@@ -90,6 +116,7 @@ fn show_table(
     };
     show_request(rt, asked)?;
     rt.print(text.as_str())?;
+    show_parents(rt, parents_of(rt, asked, report))?;
     if report.change.is_some() {
         warn_of_change(rt, is_listed(rt, asked.names.wallet.as_str()))?;
     }
@@ -113,7 +140,11 @@ fn show_payment(rt: &HostRuntime, asked: &Asked, report: &FundedReport) -> io::R
         Some(_) => is_listed(rt, asked.names.wallet.as_str()),
         None => None,
     };
-    match payment_value(rt.alloc(), asked, report, listed, psbt) {
+    let seen = Seen {
+        parents: parents_of(rt, asked, report),
+        change_listed: listed,
+    };
+    match payment_value(rt.alloc(), asked, report, &seen, psbt) {
         Ok(value) => {
             print(rt, &value)?;
             Ok(Status::Done.code())
@@ -171,7 +202,7 @@ fn refuse_file(rt: &HostRuntime, asked: &Asked, file: NewFile) -> io::Result<u8>
 fn show_ending(rt: &HostRuntime, asked: &Asked, ending: &Ending) -> io::Result<u8> {
     match ending {
         Ending::Paid(report, _) => show_payment(rt, asked, report),
-        Ending::HighFee(fee, most) => refuse_fee(rt, asked, *fee, *most),
+        Ending::FeeAboveMaximum(fee, most) => refuse_fee(rt, asked, *fee, *most),
         Ending::NotPaid(status, said) => {
             let lines = match str::from_utf8(said) {
                 Ok(lines) => lines,

@@ -1,6 +1,7 @@
 //! The commands that take names alone.
 
 use crate::json::{print, said_value};
+use crate::prices::list_priced;
 use command_complete::complete as complete_psbt;
 use command_end::{Sources, Status};
 use command_pay::ProgressShelf;
@@ -9,6 +10,8 @@ use fund_base::Memory;
 use fund_outside::SureKeeper;
 use fund_shelf::{FileShelf, SureSink};
 use fund_top::run;
+use pay_words::{WordFault, word_sentence};
+use request_making::read_rate;
 use std::io;
 use std::io::{ErrorKind, IsTerminal};
 
@@ -101,6 +104,38 @@ pub fn by_words(rt: &HostRuntime, words: &[String], count: usize, usage: &str) -
     let mut keeper = SureKeeper::new(alloc);
     let status = run(alloc, &names, &mut shelf, &mut out, &mut keeper);
     show(rt, is_given(words, "--json"), status, out.written())
+}
+
+/// Lists the coins of a wallet with their prices at the rate that a word is.
+fn coins_at(rt: &HostRuntime, words: &[String], sources: &Sources, rate: &str) -> io::Result<u8> {
+    let rate = match read_rate(rate.as_bytes()) {
+        Ok(rate) => rate,
+        Err(fault) => return refuse(rt, words, word_sentence(&WordFault::Rate(0, fault))),
+    };
+    let mut shelf = files_told(rt, words);
+    let mut out = SureSink::new(rt.alloc());
+    let status = list_priced(rt.alloc(), sources, rate, &mut shelf, &mut out);
+    show(rt, is_given(words, "--json"), status, out.written())
+}
+
+/// Lists the coins of a wallet, with their prices where a fee rate is given behind the names.
+pub fn coins(rt: &HostRuntime, words: &[String]) -> io::Result<u8> {
+    let names = names_in(rt, words)?;
+    match names.as_slice() {
+        [_, wallet, blocks, flag, rate] if flag.as_str() == "--fee-rate" => {
+            let sources = Sources {
+                wallet: wallet.as_str(),
+                blocks: blocks.as_str(),
+            };
+            coins_at(rt, words, &sources, rate.as_str())
+        }
+        _ => by_words(
+            rt,
+            words,
+            3,
+            "coins takes two names, and a rate if you like: WALLET BLOCKS --fee-rate RATE.",
+        ),
+    }
 }
 
 /// Makes a PSBT whole.

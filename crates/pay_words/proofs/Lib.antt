@@ -1,3 +1,4 @@
+pub mod FirstWord
 pub mod FlagLaws
 pub mod LowRateLaws
 pub mod NameLaws

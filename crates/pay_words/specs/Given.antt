@@ -1,5 +1,5 @@
 -- The flags that words give: a flag that takes a value, with the word behind it; or a flag alone.
-use Rattle.std.specs.Prelude.{ℕ, ◌+◌, ◌&&◌, not, List, [], ◌∷◌, ◌++◌, String, string_bytes, Option, Some, None, is_some, Result, Ok, Err, if◌then◌else◌}
+use Rattle.std.specs.Prelude.{ℕ, ◌+◌, ◌&&◌, not, List, [], ◌∷◌, ◌++◌, String, string_bytes, Option, Some, None, is_some, IsSome, Result, Ok, Err, if◌then◌else◌}
 use Rattle.std.specs.declared.alloc.Global.{Global}
 use Rattle.fund_base.specs.Parsing.{◌>>=◌}
 use Rattle.pay_words.specs.Flags.{flag_of, is_same, may_repeat, takes_value}
@@ -40,6 +40,11 @@ ended_by given (Some flag) = Err (faults.NoValue flag)
 
 abbrev pub ended : List Given × Option Flag → Result (List Given) WordFault
 ended s = ended_by s.0 s.1
+
+-- the first word is that of a flag
+abbrev pub BeginsWithFlag : List (String Global) → Type 0
+BeginsWithFlag [] = ⊥
+BeginsWithFlag (word ∷ words) = IsSome (flag_of (string_bytes word))
 
 -- the words from a place on
 unfoldable pub flags_from : List Given × Option Flag → ℕ → List (String Global) → Result (List Given) WordFault

@@ -3,9 +3,10 @@
 ghost use Rattle.std.specs.Prelude.{◌≡◌, ◌==◌, Err, IfOk, IsOk, Ok, if◌then◌else◌, length, map, option_map, string_bytes};
 ghost use Rattle.fund_base.specs.Parsing.{YieldsAll};
 ghost use Rattle.pay_words.specs.Asked.{alike_at, asked_by, asked_in, each_name, is_given, name_behind, name_or_none, names_in, needed_name, plain_asked, plain_names, same_name, some_paid, unless_same};
+ghost use Rattle.pay_words.specs.Given.{BeginsWithFlag};
 ghost use Rattle.pay_words.specs.Payments.{plain_payment};
 ghost use Rattle.pay_words.specs.declared.fault.WordFault.TheVariants.{Memory as OutOfMemory, Missing};
-ghost use Rattle.pay_words.specs.declared.flag.Flag.TheVariants.{To};
+ghost use Rattle.pay_words.specs.declared.flag.Flag.TheVariants.{To, Wallet};
 ghost use Rattle.pay_words.specs.Values.{text_of};
 ghost use Rattle.request_making.specs.Asked.{asked_of};
 ghost use Rattle.request_making.specs.Written.{request_bytes};
@@ -114,9 +115,11 @@ fn name_or_none(
     }
 }
 
-/// The name of each file by itself.
+/// The name of each file by itself. It runs out of memory only where there is a name of the wallet.
+#[tactic(auto, using(crate::proofs::FirstWord::ok_is))]
 fn each_name(alloc: Global, words: &[String], given: &[Given]) -> Result<Names, WordFault>
-    ensures { YieldsAll OutOfMemory plain_names result (each_name words.now given.now) }
+    ensures gives { YieldsAll OutOfMemory plain_names result (each_name words.now given.now) }
+    ensures short { result ≡ Err OutOfMemory → IsOk (needed_name Wallet words.now given.now) }
 {
     let wallet = needed_name(alloc, words, given, Flag::Wallet)?;
     let blocks = needed_name(alloc, words, given, Flag::Blocks)?;
@@ -179,9 +182,11 @@ fn unless_same(place: Option<usize>, names: Names) -> Result<Names, WordFault>
     }
 }
 
-/// The names that the words give, no two of them alike.
+/// The names that the words give, no two of them alike. It runs out of memory only where there is a name of the wallet.
+#[tactic(auto, using(crate::proofs::FirstWord::each_wallet))]
 fn names_in(alloc: Global, words: &[String], given: &[Given]) -> Result<Names, WordFault>
-    ensures { YieldsAll OutOfMemory plain_names result (names_in words.now given.now) }
+    ensures gives { YieldsAll OutOfMemory plain_names result (names_in words.now given.now) }
+    ensures short { result ≡ Err OutOfMemory → IsOk (needed_name Wallet words.now given.now) }
 {
     let names = each_name(alloc, words, given)?;
     unless_same(same_name(words, given), names)
@@ -206,15 +211,16 @@ fn some_paid(alloc: Global, words: &[String], given: &[Given]) -> Result<Vec<Pay
     Ok(payments)
 }
 
-/// What the flags ask for, or the first fault of what they say.
-#[tactic(auto, unfolding(crate::specs::Asked::asked_by))]
+/// What the flags ask for, or the first fault of what they say. It runs out of memory only where there is a name of the wallet.
+#[tactic(auto, unfolding(crate::specs::Asked::asked_by), using(crate::proofs::FirstWord::names_wallet))]
 fn asked_by(
     alloc: Global,
     words: &[String],
     given: &[Given],
     drawn: [u8; 32],
 ) -> Result<Asked, WordFault>
-    ensures { YieldsAll OutOfMemory plain_asked result (asked_by drawn words.now given.now) }
+    ensures gives { YieldsAll OutOfMemory plain_asked result (asked_by drawn words.now given.now) }
+    ensures short { result ≡ Err OutOfMemory → IsOk (needed_name Wallet words.now given.now) }
 {
     let names = names_in(alloc, words, given)?;
     let payments = some_paid(alloc, words, given)?;
@@ -234,9 +240,11 @@ fn asked_by(
 }
 
 /// What the words behind `pay` ask for, or their first fault. The seed is the drawn one where none is given.
-#[tactic(auto, unfolding(crate::specs::Asked::asked_in))]
+#[tactic(auto, unfolding(crate::specs::Asked::asked_in), using(crate::proofs::FirstWord::wallet_flag))]
 pub fn read_pay(alloc: Global, words: &[String], drawn: [u8; 32]) -> Result<Asked, WordFault>
-    ensures { YieldsAll OutOfMemory plain_asked result (asked_in drawn words.now) }
+    ensures gives { YieldsAll OutOfMemory plain_asked result (asked_in drawn words.now) }
+    // Words of which the first is that of no flag, and no words at all, are never told as out of memory.
+    ensures short { result ≡ Err OutOfMemory → BeginsWithFlag words.now }
 {
     let given = flags_in(alloc, words)?;
     let asked = asked_by(alloc, words, given.as_slice(), drawn)?;

@@ -2,7 +2,7 @@
 
 ghost use Rattle.std.specs.Prelude.{◌≡◌, [], Err, IsOk, None, is_some};
 ghost use Rattle.fund_base.specs.Parsing.{YieldsAll};
-ghost use Rattle.pay_words.specs.Given.{begun, ended_by, flags_in, next_of, place_of};
+ghost use Rattle.pay_words.specs.Given.{BeginsWithFlag, begun, ended_by, flags_in, next_of, place_of};
 ghost use Rattle.pay_words.specs.declared.fault.WordFault.TheVariants.{Memory as OutOfMemory};
 
 use crate::fault::WordFault;
@@ -82,10 +82,12 @@ fn ended(given: Vec<Given>, wanted: Option<Flag>) -> Result<Vec<Given>, WordFaul
     }
 }
 
-/// The flags that the words give, in their order, or the first fault.
+/// The flags that the words give, in their order, or the first fault. It runs out of memory only where the first word is that
+/// of a flag.
 #[tactic(auto, unfolding(crate::specs::Given::flags_in))]
 pub fn flags_in(alloc: Global, words: &[String]) -> Result<Vec<Given>, WordFault>
-    ensures { YieldsAll OutOfMemory (λ given. given.items) result (flags_in words.now) }
+    ensures gives { YieldsAll OutOfMemory (λ given. given.items) result (flags_in words.now) }
+    ensures short { result ≡ Err OutOfMemory → BeginsWithFlag words.now }
 {
     let mut given = Vec::new(alloc);
     let mut wanted: Option<Flag> = None;

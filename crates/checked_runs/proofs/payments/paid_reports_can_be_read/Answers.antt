@@ -1,5 +1,5 @@
-use Rattle.checked_runs.proofs.CommandLaws.{funded_reads}
+use Rattle.checked_runs.proofs.CommandLaws.{funded_reads, funded_signed}
 use Rattle.checked_runs.proofs.payments.paid_reports_can_be_read.Goals as goal
 
 pub returns : goal.returns
-returns c = funded_reads
+returns c = record { report = funded_reads; psbt = funded_signed }

@@ -4,7 +4,7 @@ use Rattle.fund_steps.specs.Plan.{IsPlan, PlainPlan}
 use Rattle.wallet_text.specs.PlainWallet.{PlainWallet}
 use Rattle.command_inputs.proofs.PlanLaws.{plan_stops_at, same_plan}
 use Rattle.command_inputs.proofs.ReplaceLaws.{replaces_paid}
-use Rattle.command_inputs.specs.Due.{plan_of}
+use Rattle.command_inputs.specs.Outcome.{plan_of}
 use Rattle.command_inputs.specs.Replacing.{PaysTheBurden}
 use Rattle.command_check.proofs.examining.made.Goals as goal
 
@@ -23,4 +23,4 @@ pub returns-clause-replaces : goal.returns-clause-replaces
 returns-clause-replaces c = λ f pays.
     let x = c.in_ok-candidates.ensures in
     let is : c.in_ok-examiner.examiner ≡ plan_of c.args.held c.args.request = c.in_ok-examiner.ensures.made ∙ same_plan c.args.held c.args.request _ _ _ (ap (λ (w : PlainWallet). w.change) c.wallet.view_is) x.candidates x.bump in
-    replaces_paid c.args.held c.args.request f c.requires.held c.len.ensures.sound c.requires.taken (subst IsPlan is c.keeps_rules.ensures.plan) (subst (λ (p : PlainPlan). PaysTheBurden p f) is pays)
+    replaces_paid c.args.held c.args.request f c.requires.held c.keeps_rules.ensures c.requires.taken (subst IsPlan is c.keeps_rules-2.ensures.plan) (subst (λ (p : PlainPlan). PaysTheBurden p f) is pays)

@@ -3,7 +3,7 @@ use Rattle.std.proofs.lemmas.Result.{err_from_is_err_and}
 use Rattle.fund_files.proofs.FrameLaws.{only_reads_on}
 use Rattle.command_check.proofs.AskedLaws.{asked_still, report_alone, report_and_log}
 use Rattle.command_check.proofs.StopLaws.{beside_stops, found_stops, pair_is}
-use Rattle.command_check.specs.declared.stop.Evidence.TheVariants.{Report, Log}
+use Rattle.command_check.specs.declared.stop.CheckedFile.TheVariants.{Report, Log}
 use Rattle.command_check.proofs.judging.read_pair.Goals as goal
 
 pub returns-in_err-found-clause-stop : goal.returns-in_err-found-clause-stop

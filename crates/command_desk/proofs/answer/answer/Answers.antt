@@ -8,10 +8,10 @@ pub returns-in-TooLong-clause-line : goal.returns-in-TooLong-clause-line
 returns-in-TooLong-clause-line g c = rw c.in-TooLong.is c.put_line.ensures.line
 
 pub returns-in-Memory-clause-line : goal.returns-in-Memory-clause-line
-returns-in-Memory-clause-line g c = rw c.in-Memory.is c.want_of_memory.ensures.line
+returns-in-Memory-clause-line g c = rw c.in-Memory.is c.out_of_memory.ensures.line
 
 pub returns-in-Memory-clause-answered : goal.returns-in-Memory-clause-answered
-returns-in-Memory-clause-answered g c = rw c.in-Memory.is (c.want_of_memory.ensures.is, c.want_of_memory.ensures.line)
+returns-in-Memory-clause-answered g c = rw c.in-Memory.is (c.out_of_memory.ensures.is, c.out_of_memory.ensures.line)
 
 pub returns-in-Unread-clause-answered : goal.returns-in-Unread-clause-answered
 returns-in-Unread-clause-answered g c = rw c.in-Unread.is c.refuse_read.ensures.answered

@@ -3,7 +3,7 @@ use Rattle.fund_files.proofs.FrameLaws.{only_reads_on}
 use Rattle.command_end.specs.Names.{plain_sources}
 use Rattle.command_desk.proofs.EndsLaws.{read_alone, run_asked, run_behind, run_ends, stop_asked}
 use Rattle.command_desk.proofs.StopLaws.{stop_ends, stop_untold}
-use Rattle.command_desk.proofs.DueLaws.{ends_complete, ends_refused}
+use Rattle.command_desk.proofs.OutcomeLaws.{ends_complete, ends_refused}
 use Rattle.command_desk.proofs.command.desk.Goals as goal
 
 pub returns-in-Ok-clause-ends : goal.returns-in-Ok-clause-ends

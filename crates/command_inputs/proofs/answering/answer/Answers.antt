@@ -10,10 +10,10 @@ pub returns-in-Keep-clause-line : goal.returns-in-Keep-clause-line
 returns-in-Keep-clause-line g c = rw c.in-Keep.is c.refuse_keep.ensures.line
 
 pub returns-in-Memory-clause-line : goal.returns-in-Memory-clause-line
-returns-in-Memory-clause-line g c = rw c.in-Memory.is c.want_of_memory.ensures.line
+returns-in-Memory-clause-line g c = rw c.in-Memory.is c.out_of_memory.ensures.line
 
 pub returns-in-Memory-clause-answered : goal.returns-in-Memory-clause-answered
-returns-in-Memory-clause-answered g c = rw c.in-Memory.is (c.want_of_memory.ensures.is, c.want_of_memory.ensures.line)
+returns-in-Memory-clause-answered g c = rw c.in-Memory.is (c.out_of_memory.ensures.is, c.out_of_memory.ensures.line)
 
 pub returns-in-Keep-clause-answered : goal.returns-in-Keep-clause-answered
 returns-in-Keep-clause-answered g c = rw c.in-Keep.is (c.refuse_keep.ensures.is, c.refuse_keep.ensures.line)

@@ -46,7 +46,7 @@ returns-in_err-terms-clause-fault c =
     let p = err_from_is_err_and c.from_residual-in_err-terms.result c.from_residual-in_err-terms.ensures.1 in
     rw (p.1, p.2) (λ real. sym (fault_is c.args.held.now c.args.request.now named) ∙ c.in_err-terms.ensures.fault real)
 
--- want of memory comes only then
+-- being out of memory comes only then
 pub returns-in_err-states-clause-short : goal.returns-in_err-states-clause-short
 returns-in_err-states-clause-short c =
     let named = sym (ap (λ (q : PlainRequest). is_some q.bump) c.request.view_is) ∙ (c.is_none.ensures ∙ ap not c.if-is_none.false) in

@@ -4,4 +4,4 @@ use Rattle.command_pay.proofs.paying.pay.Goals as goal
 
 -- the names of files that words give are apart
 pub pay_asked-ending-requires : goal.pay_asked-ending-requires
-pay_asked-ending-requires g c = λ name log psbt. ((names_apart c.args.drawn c.args.words.now (plain_asked c.in-Ok.asked) c.in-Ok.ensures).log_apart name log).2 psbt
+pay_asked-ending-requires g c = λ name log psbt. ((names_apart c.args.drawn c.args.words.now (plain_asked c.in-Ok.asked) c.in-Ok.ensures.gives).log_apart name log).2 psbt

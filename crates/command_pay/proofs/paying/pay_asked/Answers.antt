@@ -7,7 +7,7 @@ use Rattle.fund_report.specs.ReportText.{IsReportText}
 use Rattle.fund_report.specs.declared.report.Report.TheVariants as kinds
 use Rattle.command_end.specs.declared.status.Status.{Status}
 use Rattle.command_end.specs.declared.status.Status.TheVariants as statuses
-use Rattle.command_pay.specs.Pays.{HasLogAtMost, Pays, PutStops, most_for}
+use Rattle.command_pay.specs.Pays.{HasLogAtMost, Pays, PutStops, greatest_fee}
 use Rattle.command_pay.specs.Run.{IsPayment, IsRun}
 use Rattle.command_pay.specs.declared.outcome.Ending.{Ending}
 use Rattle.command_pay.specs.declared.run.Run.{Run}
@@ -23,14 +23,14 @@ payment_in-requires g c =
     let found = report_of_run g.H.Shelf.tells c.args.asked.now (g.H.Shelf.view c.args.files) (g.H.Shelf.view c.run_asked-ended.result.1) c.in-Ok.run'.said.items c.in-Ok.run'.log.items run in
     (found.0, subst (λ (t : List ℕ). IsReportText t (kinds.Funded found.0)) (sym c.deref.ensures.value) found.1)
 
-pub returns-then-not-takes-clause-pays : goal.returns-then-not-takes-clause-pays
-returns-then-not-takes-clause-pays g c =
+pub returns-then-not-accepts_fee-clause-pays : goal.returns-then-not-accepts_fee-clause-pays
+returns-then-not-accepts_fee-clause-pays g c =
     let ran : IsRun g.H.Shelf.tells c.args.asked.now (g.H.Shelf.view c.args.files) (g.H.Shelf.view c.run_asked-ended.result.1) c.in-Ok.run'.status c.in-Ok.run'.said.items c.in-Ok.run'.log.items = subst (λ (x : Result Run Memory). IfOk x (λ r. IsRun g.H.Shelf.tells c.args.asked.now (g.H.Shelf.view c.args.files) (g.H.Shelf.view c.run_asked-ended.result.1) r.status r.said.items r.log.items)) c.in-Ok.is c.run_asked-ended.ensures.run in
     let f : PlainFunded = c.in-Ok-payment_in.report in
     let log : List ℕ = c.in-Ok.run'.log.items in
     let done : c.in-Ok.run'.status ≡ statuses.Done = c.is_done.ensures.0 c.if-not-is_done.false in
     let payment : IsPayment g.H.Shelf.tells c.args.asked.now (g.H.Shelf.view c.args.files) (g.H.Shelf.view c.run_asked-ended.result.1) f log = is_payment _ _ _ _ c.in-Ok.run'.status f c.in-Ok.run'.said.items c.deref.result.now log ran done c.deref.ensures.value c.in-Ok-payment_in.ensures in
-    let less : most_for c.args.asked.now < f.fee = lt_of_not-le (λ h. let yes = c.takes.ensures.1 h in let no = c.if-not-takes.true in cc) in
+    let less : greatest_fee c.args.asked.now < f.fee = lt_of_not-le (λ h. let yes = c.accepts_fee.ensures.1 h in let no = c.if-not-accepts_fee.true in cc) in
     subst (λ (e : Ending). Pays g.H.Shelf.tells g.N.Shelf.tells c.args.asked.now (g.H.Shelf.view c.args.files) (g.H.Shelf.view c.run_asked-ended.result.1) (g.N.Shelf.view c.args.new_files.now) (g.N.Shelf.view c.args.new_files.now) e) (sym c.high_fee.ensures) (f, log, payment, refl, refl, less, refl)
 
 pub returns-clause-pays : goal.returns-clause-pays
@@ -42,4 +42,4 @@ returns-clause-pays g c =
     let payment : IsPayment g.H.Shelf.tells c.args.asked.now (g.H.Shelf.view c.args.files) (g.H.Shelf.view c.run_asked-ended.result.1) f log = is_payment _ _ _ _ c.in-Ok.run'.status f c.in-Ok.run'.said.items c.deref.result.now log ran done c.deref.ensures.value c.in-Ok-payment_in.ensures in
     let stop : HasLogAtMost g.N.Shelf.tells c.args.asked.now c.deref-2.result.now (g.N.Shelf.view c.args.new_files.now) (g.N.Shelf.view c.put_files.new.new_files) = subst (λ (x : PutFault). PutStops g.N.Shelf.tells c.args.asked.now c.deref-2.result.now (g.N.Shelf.view c.args.new_files.now) (g.N.Shelf.view c.put_files.new.new_files) x) c.in-Err-Memory.field-0-is c.in-Err-Memory.ensures.stop in
     let most : HasLogAtMost g.N.Shelf.tells c.args.asked.now log (g.N.Shelf.view c.args.new_files.now) (g.N.Shelf.view c.put_files.new.new_files) = subst (λ (t : List ℕ). HasLogAtMost g.N.Shelf.tells c.args.asked.now t (g.N.Shelf.view c.args.new_files.now) (g.N.Shelf.view c.put_files.new.new_files)) c.deref-2.ensures.value stop in
-    inr (f, log, record { payment = payment; fee = c.takes.ensures.0 c.if-not-takes.false }, most)
+    inr (f, log, record { payment = payment; fee = c.accepts_fee.ensures.0 c.if-not-accepts_fee.false }, most)

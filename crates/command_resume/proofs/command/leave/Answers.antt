@@ -24,7 +24,7 @@ returns-in-Err-Failed-clause-jobs g c = λ k. same_jobs _ _ (g.K.Keeper.view c.a
 
 pub returns-in-Err-Memory-clause-left : goal.returns-in-Err-Memory-clause-left
 returns-in-Err-Memory-clause-left g c =
-    inr (inr (c.want_of_memory.ensures.is, c.want_of_memory.ensures.line), λ k. c.in-Err-Memory.ensures.same k)
+    inr (inr (c.out_of_memory.ensures.is, c.out_of_memory.ensures.line), λ k. c.in-Err-Memory.ensures.same k)
 
 pub returns-in-Err-Memory-clause-jobs : goal.returns-in-Err-Memory-clause-jobs
 returns-in-Err-Memory-clause-jobs g c = λ k. same_jobs _ _ (g.K.Keeper.view c.args.keeper.now) (g.K.Keeper.view c.keep.new.keeper) (c.in-Err-Memory.ensures.same k)
@@ -38,4 +38,4 @@ pub returns-in-Err-Failed-clause-all_put : goal.returns-in-Err-Failed-clause-all
 returns-in-Err-Failed-clause-all_put g c = λ whole. absurd (not_whole statuses.KeepFault c.refuse_keep.result (λ w. w) c.refuse_keep.ensures.is whole)
 
 pub returns-in-Err-Memory-clause-all_put : goal.returns-in-Err-Memory-clause-all_put
-returns-in-Err-Memory-clause-all_put g c = λ whole. absurd (not_whole statuses.Memory c.want_of_memory.result (λ w. w) c.want_of_memory.ensures.is whole)
+returns-in-Err-Memory-clause-all_put g c = λ whole. absurd (not_whole statuses.Memory c.out_of_memory.result (λ w. w) c.out_of_memory.ensures.is whole)

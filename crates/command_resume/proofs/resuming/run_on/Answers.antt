@@ -44,7 +44,7 @@ ends-requires g c =
     record {
       held = c.requires.held;
       can =
-          can_end c.args.ready.held c.args.ready.request (record { plan = c.resume.new.plan; digest = c.args.ready.digest; resumed = c.in_ok-resumed.resumed }) c.requires.held c.len.ensures.sound
+          can_end c.args.ready.held c.args.ready.request (record { plan = c.resume.new.plan; digest = c.args.ready.digest; resumed = c.in_ok-resumed.resumed }) c.requires.held c.keeps_rules.ensures
           (run_on _ c.args.ready c.requires.plan _ c.request.inside.tries (ap (λ (r : PlainRequest). r.tries) c.request.view_is)
           (record { plan = c.resume.new.plan; digest = c.args.ready.digest; resumed = c.in_ok-resumed.resumed }) refl e.gone e.pays e.fits);
     }
@@ -55,5 +55,5 @@ returns-clause-ends g c =
     let run : Run = record { plan = c.resume.new.plan; digest = c.args.ready.digest; resumed = c.in_ok-resumed.resumed } in
     let tries = ap (λ (r : PlainRequest). r.tries) c.request.view_is in
     has_ended _ c.args.ready c.requires.plan _ c.request.inside.tries tries run refl e.gone e.pays c.in_ok-ending.ending
-    (concluded_on c.args.ready.held c.args.ready.request run _ c.in_ok-ending.ending refl refl refl c.requires.held c.len.ensures.sound c.requires.taken
+    (concluded_on c.args.ready.held c.args.ready.request run _ c.in_ok-ending.ending refl refl c.requires.held c.keeps_rules.ensures c.requires.taken
     (run_on _ c.args.ready c.requires.plan _ c.request.inside.tries tries run refl e.gone e.pays e.fits) c.in_ok-ending.ensures)

@@ -1,6 +1,6 @@
 use Rattle.fund_plan.specs.declared.outcome.Outcome.TheVariants as answers
 use Rattle.command_work.proofs.BookLaws.{load_sound}
-use Rattle.command_work.proofs.DueLaws.{answer_due, collision_due, only_collision}
+use Rattle.command_work.proofs.OutcomeLaws.{answer_due, collision_due, only_collision}
 use Rattle.command_work.proofs.PlanLaws.{load_keeps}
 use Rattle.command_work.proofs.laws.workloads_are_due.Goals as goal
 

@@ -2,8 +2,8 @@ use Rattle.std.proofs.Common.{[], ◌∙◌, ap, refl, sym}
 use Rattle.std.proofs.lemmas.Result.{err_from_is_err_and}
 use Rattle.wallet_text.specs.PlainWallet.{PlainWallet}
 use Rattle.request_text.specs.PlainRequest.{PlainRequest}
-use Rattle.fund_files.specs.Chain.{held_of}
-use Rattle.command_inputs.specs.Due.{bump_fault_in, terms_for}
+use Rattle.fund_files.specs.Chain.{chain_from}
+use Rattle.command_inputs.specs.Outcome.{bump_fault_in, terms_for}
 use Rattle.command_work.proofs.RunLaws.{hold_stops, if_ends, if_stops}
 use Rattle.command_work.proofs.running.conclude_load.Goals as goal
 
@@ -22,9 +22,9 @@ returns-in_err-held-clause-stop c =
 pub returns-clause-ends : goal.returns-clause-ends
 returns-clause-ends c =
     let l = c.in_ok-wallet.ensures in
-    if_ends c.args.number c.args.count c.in_ok-held.held _ c.conclude.result (c.in_ok-held.ensures.value ∙ ap (λ (w : PlainWallet). held_of w []) l.wallet) l.request c.conclude.ensures.ends
+    if_ends c.args.number c.args.count c.in_ok-held.held _ c.conclude.result (c.in_ok-held.ensures.value ∙ ap (λ (w : PlainWallet). chain_from w []) l.wallet) l.request c.conclude.ensures.ends
 
 pub returns-clause-stop : goal.returns-clause-stop
 returns-clause-stop c =
     let l = c.in_ok-wallet.ensures in
-    if_stops c.args.number c.args.count c.in_ok-held.held _ c.conclude.result c.requires.some c.requires.most l.distinct (c.in_ok-held.ensures.value ∙ ap (λ (w : PlainWallet). held_of w []) l.wallet) l.request c.conclude.ensures.stop
+    if_stops c.args.number c.args.count c.in_ok-held.held _ c.conclude.result c.requires.some c.requires.most l.distinct (c.in_ok-held.ensures.value ∙ ap (λ (w : PlainWallet). chain_from w []) l.wallet) l.request c.conclude.ensures.stop

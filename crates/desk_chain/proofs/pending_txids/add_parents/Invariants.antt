@@ -1,7 +1,7 @@
 use Rattle.std.proofs.Common.{ℕ, ◌≡◌, ◌≤◌, ◌+◌, ◌||◌, List, length, take}
 use Rattle.std.specs.Prelude.{bytes_eq}
 use Rattle.indexmap.specs.IndexSet.{contains, spare}
-use Rattle.desk_chain.specs.Kept.{has_parent}
+use Rattle.desk_chain.specs.PendingTxids.{has_parent}
 use Rattle.desk_chain.proofs.pending_txids.add_parents.Given as goal
 
 abbrev pub invariant-loop-input : goal.invariant-loop-input

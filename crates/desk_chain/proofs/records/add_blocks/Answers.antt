@@ -1,9 +1,10 @@
 use Rattle.std.specs.Prelude.{ℕ, ◌≡◌, ◌≤◌, List, Some, None, Ok, Err, codes, length}
 use Rattle.std.proofs.Common.{ap, refl, subst, ◌∙◌}
 use Rattle.block_feed.specs.Feed.{next_of}
-use Rattle.fund_files.specs.declared.held.Held.{Held}
+use Rattle.block_feed.proofs.Limits.{gives_limit}
+use Rattle.fund_files.specs.declared.chain.Chain.{Chain}
 use Rattle.desk_machine.proofs.RecordLaws.{so_far_more, so_far_none}
-use Rattle.desk_chain.proofs.BlockLaws.{any_err, book_ends, bytes_end, never_limit, never_rose, none_added, on_ends, part_added, reply_of, tip_ends}
+use Rattle.desk_chain.proofs.BlockLaws.{any_err, book_ends, bytes_end, never_limit, never_rose, none_added, on_ends, own_of, part_added, reply_of, tip_ends}
 use Rattle.desk_chain.proofs.records.add_blocks.Goals as goal
 
 pub returns-in_err-shelf-clause-memory : goal.returns-in_err-shelf-clause-memory
@@ -38,7 +39,15 @@ returns-in-Err-clause-reply c =
     let e = c.in-Err.fault in
     reply_of c.args.bytes.now c.args.held.now c.reading.held c.refuse_bytes.result
     (bytes_end c.args.bytes.now c.args.held.now c.reading.held c.reading.feed e c.refuse_bytes.result i.so_far (λ memory read. subst (λ (file : List ℕ). next_of file c.reading.feed ≡ Err e) i.file (c.in-Err.ensures.exact tt i.fine memory read))
-    (λ same. never_rose (c.in-Err.ensures.frame.cause (cc))) (λ same. never_limit _ c.args.bytes.now i.file c.requires.fits (c.in-Err.ensures.limit tt i.fine (cc))) c.refuse_bytes.ensures.reply)
+    (λ same. never_rose (c.in-Err.ensures.frame.cause (cc))) (λ same. never_limit c.args.bytes.now c.args.bytes.now refl c.requires.fits (gives_limit 1_073_741_824 c.args.bytes.now c.reading.feed c.next.new.self (Err e) (λ memory read. subst (λ (file : List ℕ). next_of file c.reading.feed ≡ Err e) i.file (c.in-Err.ensures.exact tt i.fine memory read)) (cc))) c.refuse_bytes.ensures.reply)
+
+pub returns-in-Err-clause-own : goal.returns-in-Err-clause-own
+returns-in-Err-clause-own c =
+    let i = c.reading.invariant in
+    let e = c.in-Err.fault in
+    own_of c.args.bytes.now c.args.held.now c.reading.held c.refuse_bytes.result
+    (bytes_end c.args.bytes.now c.args.held.now c.reading.held c.reading.feed e c.refuse_bytes.result i.so_far (λ memory read. subst (λ (file : List ℕ). next_of file c.reading.feed ≡ Err e) i.file (c.in-Err.ensures.exact tt i.fine memory read))
+    (λ same. never_rose (c.in-Err.ensures.frame.cause (cc))) (λ same. never_limit c.args.bytes.now c.args.bytes.now refl c.requires.fits (gives_limit 1_073_741_824 c.args.bytes.now c.reading.feed c.next.new.self (Err e) (λ memory read. subst (λ (file : List ℕ). next_of file c.reading.feed ≡ Err e) i.file (c.in-Err.ensures.exact tt i.fine memory read)) (cc))) c.refuse_bytes.ensures.reply)
 
 pub returns-in-Err-clause-next : goal.returns-in-Err-clause-next
 returns-in-Err-clause-next c =
@@ -46,7 +55,7 @@ returns-in-Err-clause-next c =
     let e = c.in-Err.fault in
     on_ends c.args.bytes.now c.args.held.now c.reading.held c.refuse_bytes.result
     (bytes_end c.args.bytes.now c.args.held.now c.reading.held c.reading.feed e c.refuse_bytes.result i.so_far (λ memory read. subst (λ (file : List ℕ). next_of file c.reading.feed ≡ Err e) i.file (c.in-Err.ensures.exact tt i.fine memory read))
-    (λ same. never_rose (c.in-Err.ensures.frame.cause (cc))) (λ same. never_limit _ c.args.bytes.now i.file c.requires.fits (c.in-Err.ensures.limit tt i.fine (cc))) c.refuse_bytes.ensures.reply)
+    (λ same. never_rose (c.in-Err.ensures.frame.cause (cc))) (λ same. never_limit c.args.bytes.now c.args.bytes.now refl c.requires.fits (gives_limit 1_073_741_824 c.args.bytes.now c.reading.feed c.next.new.self (Err e) (λ memory read. subst (λ (file : List ℕ). next_of file c.reading.feed ≡ Err e) i.file (c.in-Err.ensures.exact tt i.fine memory read)) (cc))) c.refuse_bytes.ensures.reply)
 
 pub returns-in-Err-clause-memory : goal.returns-in-Err-clause-memory
 returns-in-Err-clause-memory c = any_err c.refuse_bytes.result _ (part_added c.args.bytes.now c.args.held.now c.reading.held c.reading.held c.reading.feed c.reading.invariant.so_far refl)
@@ -84,7 +93,7 @@ reading-preserved c =
       held = c.in-Ok.ensures.held;
       file = ap (λ (files : List ℕ → List ℕ). files (codes "blocks")) (e.frame.same tt) ∙ i.file;
       fine = e.fine;
-      wallet = ap (λ (k : Held). k.wallet) c.in-Ok.ensures.added ∙ i.wallet;
+      wallet = ap (λ (k : Chain). k.wallet) c.in-Ok.ensures.added ∙ i.wallet;
       so_far = so_far_more c.args.bytes.now c.args.held.now c.reading.held c.add_block.new.held c.reading.feed c.next.new.self b i.so_far
           (subst (λ (file : List ℕ). next_of file c.reading.feed ≡ Ok (Some (b, c.next.new.self.place))) i.file (exact tt i.fine)) (within tt i.fine).0 (subst (λ (file : List ℕ). c.next.new.self.place ≤ length file) i.file (within tt i.fine).1) moves.1
           moves.2 c.in-Ok.ensures.exact c.in-Ok.ensures.added;

@@ -27,6 +27,10 @@ pub returns-clause-long_log : goal.returns-clause-long_log
 unfolding line_sentence words_sentence kept_line limit_line kept_sentence
 returns-clause-long_log c = refl
 
+pub returns-clause-parts : goal.returns-clause-parts
+unfolding line_sentence words_sentence kept_line limit_line kept_sentence
+returns-clause-parts c = λ kept now rest. refl
+
 pub returns-clause-section : goal.returns-clause-section
 unfolding line_sentence words_sentence kept_line limit_line kept_sentence
 returns-clause-section c = λ index rest. refl

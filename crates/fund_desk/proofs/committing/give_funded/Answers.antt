@@ -8,7 +8,7 @@ give_unless-requires-clause-funded c = selection_in c.args.held.now.wallet.chang
 pub returns-in-Ok : goal.returns-in-Ok
 returns-in-Ok c =
     let out = rw c.in-Ok.is at c.in_ok-given.ensures.given in
-    given_is c.args.held.now c.args.committed.now c.args.job.now c.args.funded.now c.request-asked.result.now c.in-Ok.given c.coins_have_makers.ensures c.requires.funded c.request-asked.ensures (sym out.0 ∙ c.in_ok-taken.ensures) out.1
+    given_is c.args.held.now c.args.committed.now c.args.job.now c.args.funded.now c.request-asked.result.now c.in-Ok.given (c.coins_have_makers.ensures 0) c.requires.funded c.request-asked.ensures (sym out.0 ∙ c.in_ok-taken.ensures) out.1
 
 pub returns-in-Err : goal.returns-in-Err
 returns-in-Err c =

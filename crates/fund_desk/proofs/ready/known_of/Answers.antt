@@ -4,7 +4,7 @@ use Rattle.std.specs.List.{list_any}
 use Rattle.coin_book.specs.Spends.{has_input}
 use Rattle.fund_base.specs.Outpoints.{same_outpoint}
 use Rattle.fund_base.specs.declared.outpoint.OutPoint.{OutPoint}
-use Rattle.fund_files.specs.declared.held.Held.{Held}
+use Rattle.fund_files.specs.declared.chain.Chain.{Chain}
 use Rattle.payment_states.proofs.Below.{length-map_below}
 use Rattle.payment_states.proofs.ChoiceSteps.{claimed_are}
 use Rattle.payment_states.proofs.FactSteps.{opened, pending_are}
@@ -23,7 +23,7 @@ spoken_for-requires c =
     c.in_ok-pending.ensures.pending
     ∙ ap (map (λ (p : Payment). is_pending_state p.state)) (opened k.wallet k.book c.payments.result.now (c.payments.ensures ∙ c.in_ok-states.ensures))
     ∙ pending_are view in
-    let txs = c.deref.ensures.value ∙ ap (λ (x : Held). x.wallet.pending) c.held.view_is in
+    let txs = c.deref.ensures.value ∙ ap (λ (x : Chain). x.wallet.pending) c.held.view_is in
     ap (λ (l : List Bool). length l) (c.deref-2.ensures.value ∙ flags)
     ∙ length-map_below (is_pending view) (length k.wallet.pending)
     ∙ sym (ap (λ (ts : List Transaction). length ts) txs)
@@ -36,8 +36,8 @@ returns c =
     c.in_ok-pending.ensures.pending
     ∙ ap (map (λ (p : Payment). is_pending_state p.state)) (opened k.wallet k.book c.payments.result.now (c.payments.ensures ∙ c.in_ok-states.ensures))
     ∙ pending_are view in
-    let txs = c.deref.ensures.value ∙ ap (λ (x : Held). x.wallet.pending) c.held.view_is in
-    let points = c.deref-3.ensures.value ∙ ap (λ (x : Held). x.wallet.locked) c.held.view_is in
+    let txs = c.deref.ensures.value ∙ ap (λ (x : Chain). x.wallet.pending) c.held.view_is in
+    let points = c.deref-3.ensures.value ∙ ap (λ (x : Chain). x.wallet.locked) c.held.view_is in
     record {
       states = c.in_ok-states.ensures;
       pending = flags;

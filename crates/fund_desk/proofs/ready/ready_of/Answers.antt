@@ -12,8 +12,8 @@ pub returns-clause-exact : goal.returns-clause-exact
 returns-clause-exact c =
     let k = c.args.held.now in
     c.in_ok-ready.ensures.exact
-    ∙ ap (λ (os : List OutPoint). facts_among k.wallet k.book k.tip.height os) (c.deref.ensures.value ∙ c.in_ok-points.ensures)
-    ∙ all_ready k.wallet k.book k.tip.height (points c.args.coins.now) c.requires.rules (held_book k c.requires) c.len.ensures.sound
+    ∙ ap (λ (os : List OutPoint). facts_among k.wallet k.book k.tip.height 0 os) (c.deref.ensures.value ∙ c.in_ok-points.ensures)
+    ∙ all_ready k.wallet k.book k.tip.height 0 (points c.args.coins.now) c.requires.rules (held_book k c.requires) c.keeps_rules.ensures
 
 pub returns-clause-one : goal.returns-clause-one
 returns-clause-one c = subst IsOneAtEach (sym (returns-clause-exact c)) (one_at_each (candidates_in c.args.held.now) (points c.args.coins.now))
@@ -21,4 +21,4 @@ returns-clause-one c = subst IsOneAtEach (sym (returns-clause-exact c)) (one_at_
 pub returns-clause-fit : goal.returns-clause-fit
 returns-clause-fit c =
     let k = c.args.held.now in
-    fit k.wallet k.book c.requires.rules (held_book k c.requires) c.len.ensures.sound k.tip.height
+    fit k.wallet k.book c.requires.rules (held_book k c.requires) c.keeps_rules.ensures k.tip.height 0

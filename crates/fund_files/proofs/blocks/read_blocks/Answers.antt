@@ -1,8 +1,9 @@
-use Rattle.std.proofs.Common.{[], ◌∷◌, ◌≡◌, ◌≤◌, ◌∙◌, ap, subst, List, ℕ, length, arith, refl, Err, None}
+use Rattle.std.proofs.Common.{[], ◌∷◌, ◌≡◌, ◌∙◌, ap, subst, List, ℕ, arith, refl, Ok, Err, Some, None}
 use Rattle.std.proofs.lemmas.Result.{err_from_is_err_and}
 use Rattle.fund_shelf.proofs.Asking.{asks_again, asks_none}
 use Rattle.block_feed.specs.Block.{ChainBlock}
-use Rattle.block_feed.specs.Feed.{StandsBefore, next_of}
+use Rattle.block_feed.specs.Feed.{IsEnd, next_of}
+use Rattle.block_feed.proofs.FeedLaws.{file_none, gives_before}
 use Rattle.wallet_text.specs.PlainWallet.{PlainWallet}
 use Rattle.fund_files.proofs.DigestSteps.{taken_all, taken_more, taken_none}
 use Rattle.fund_files.proofs.FeedSteps.{so_far_none, so_far_all, so_far_fault, so_far_more}
@@ -33,11 +34,13 @@ returns-in_err-block-clause-fault g c = λ t.
 
 pub returns-in_default-2-clause-read : goal.returns-in_default-2-clause-read
 returns-in_default-2-clause-read g c =
-    let before = rw c.in_default-2.is at c.in_ok-block.ensures.before in
-    let found = rw c.in_default-2.is at c.in_ok-block.ensures.found in
+    let exact = rw c.in_default-2.is at c.in_ok-block.ensures.exact in
+    let file : List ℕ = (g.H.Shelf.view c.args.shelf.now).files c.args.name.now in
+    let ends : g.H.Shelf.tells → IsEnd file c.reading.feed.place = λ t.
+    file_none 1_073_741_824 file c.reading.feed.hash c.reading.feed.height c.reading.feed.place
+    (subst (λ (files : List ℕ → List ℕ). next_of (files c.args.name.now) c.reading.feed ≡ Ok None) (c.reading.invariant.frame.same t) (exact t c.reading.invariant.fine)) in
     so_far_all g.H.Shelf.tells _ _ _ c.reading.feed c.next.new.self _
-    (λ t. subst (λ (files : List ℕ → List ℕ). StandsBefore (files c.args.name.now) c.reading.feed c.next.new.self None) (c.reading.invariant.frame.same t) (before t c.reading.invariant.fine))
-    (λ t. subst (λ (files : List ℕ → List ℕ). length (files c.args.name.now) ≤ 1_073_741_824) (c.reading.invariant.frame.same t) (found t c.reading.invariant.fine).1)
+    (λ t. (ends t).0) (λ t. (ends t).1)
     c.reading.invariant.so_far
 
 pub returns-in_default-2-clause-digest : goal.returns-in_default-2-clause-digest
@@ -53,7 +56,7 @@ reading-preserved g c =
     let linked = rw c.in-Some.is at e.linked in
     let exact = rw c.in-Some.is at e.exact in
     let within = rw c.in-Some.is at e.within in
-    let before = rw c.in-Some.is at e.before in
+    let bytes = rw c.in-Some.is at e.bytes in
     let digests = rw c.in-Some.is at e.digests in
     let hash = ap (λ (b : ChainBlock). b.hash) c.block.view_is in
     let height = ap (λ (b : ChainBlock). b.height) c.block.view_is in
@@ -70,7 +73,7 @@ reading-preserved g c =
       taken = taken_more g.H.Shelf.tells _ ((g.H.Shelf.view c.reading.shelf).files c.args.name.now) c.reading.feed c.next.new.self c.in-Some.block (λ t. ap (λ (files : List ℕ → List ℕ). files c.args.name.now) (c.reading.invariant.frame.same t))
           (λ t. digests t c.reading.invariant.fine) (λ t. (within t c.reading.invariant.fine).0) c.reading.invariant.taken;
       so_far = so_far_more g.H.Shelf.tells _ _ _ _ c.reading.feed c.next.new.self c.reading.booked c.add_block.new.booked c.in-Some.block _ _ linked moves (λ t. ap (λ (files : List ℕ → List ℕ). files c.args.name.now) (c.reading.invariant.frame.same t))
-          (λ t. exact t c.reading.invariant.fine) (λ t. within t c.reading.invariant.fine) (λ t. before t c.reading.invariant.fine) _ _ height hash c.in_default-add_block.ensures c.reading.invariant.so_far;
+          (λ t. exact t c.reading.invariant.fine) (λ t. within t c.reading.invariant.fine) (λ t. gives_before 1_073_741_824 ((g.H.Shelf.view c.reading.shelf).files c.args.name.now) c.reading.feed c.next.new.self (Ok (Some c.in-Some.block)) (exact t c.reading.invariant.fine) (bytes t) moves) _ _ height hash c.in_default-add_block.ensures c.reading.invariant.so_far;
     }
 
 pub returns-in_err-block-clause-asked : goal.returns-in_err-block-clause-asked

@@ -1,7 +1,7 @@
 use Rattle.std.proofs.Common.{refl}
 use Rattle.fund_plan.specs.declared.outcome.Outcome.TheVariants as answers
-use Rattle.command_resume.specs.Due as resumes
-use Rattle.fund_top.proofs.DueLaws.{answer_due, listing_due, load_due, one_due, refusal_due}
+use Rattle.command_resume.specs.Outcome as resumes
+use Rattle.fund_top.proofs.OutcomeLaws.{answer_due, listing_due, load_due, one_due, refusal_due}
 use Rattle.fund_top.proofs.laws.outcomes_are_due.Goals as goal
 
 pub returns-clause-refused : goal.returns-clause-refused

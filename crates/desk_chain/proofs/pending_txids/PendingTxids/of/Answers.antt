@@ -1,7 +1,7 @@
 use Rattle.std.proofs.Common.{◌∙◌, ◌++◌, ◌∷◌, [], List, take, ap, subst, sym}
 use Rattle.std.proofs.lemmas.List.{take_more}
 use Rattle.tx_codec.specs.Transaction.{Transaction}
-use Rattle.desk_chain.specs.Kept.{AreTxidsOf}
+use Rattle.desk_chain.specs.PendingTxids.{AreTxidsOf}
 use Rattle.desk_chain.proofs.TxidLaws.{none_kept}
 use Rattle.desk_chain.proofs.pending_txids.PendingTxids.of.Goals as goal
 

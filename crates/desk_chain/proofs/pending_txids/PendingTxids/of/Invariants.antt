@@ -1,5 +1,5 @@
 use Rattle.std.proofs.Common.{take}
-use Rattle.desk_chain.specs.Kept.{AreTxidsOf}
+use Rattle.desk_chain.specs.PendingTxids.{AreTxidsOf}
 use Rattle.desk_chain.proofs.pending_txids.PendingTxids.of.Given as goal
 
 abbrev pub invariant-loop-tx : goal.invariant-loop-tx

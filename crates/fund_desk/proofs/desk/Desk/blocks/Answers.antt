@@ -1,7 +1,7 @@
 use Rattle.std.proofs.Common.{ap, subst, sym}
 use Rattle.wallet_text.specs.PlainWallet.{PlainWallet}
 use Rattle.desk_machine.specs.State.{PlainDesk}
-use Rattle.desk_chain.specs.Kept.{AreTxidsOf}
+use Rattle.desk_chain.specs.PendingTxids.{AreTxidsOf}
 use Rattle.fund_desk.proofs.DeskLaws.{desk_grown}
 use Rattle.fund_desk.proofs.StepLaws.{blocks_left, blocks_next, blocks_reply}
 use Rattle.fund_desk.proofs.desk.Desk.blocks.Goals as goal

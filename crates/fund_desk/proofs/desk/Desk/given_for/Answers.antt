@@ -6,7 +6,7 @@ use Rattle.desk_machine.specs.Does.{TakesMemory}
 use Rattle.desk_machine.specs.Replies.{plain_reply}
 use Rattle.desk_machine.specs.Rules.{IsJob}
 use Rattle.desk_machine.specs.State.{Job, Payment, PlainDesk, job_at}
-use Rattle.fund_desk.specs.Due.{IsDue, IsNotDue}
+use Rattle.fund_desk.specs.JobPayment.{IsPaymentOfJob, HasNoPayment}
 use Rattle.fund_desk.specs.Given.{IsGiven, IsNotGiven}
 use Rattle.fund_desk.proofs.CommitLaws.{due_or_not, job_stands, none_due}
 use Rattle.fund_desk.proofs.JobLaws.{on_err}
@@ -25,7 +25,7 @@ returns-in-Some-clause-given c =
     let name = c.args.name.now in
     let j = c.in-Some.job.now in
     let at = sym (c.in-Some.ensures ∙ ap (λ (js : List Job). job_at js name) c.deref.ensures.value) in
-    subst (λ (x : PlainDesk). IfOk c.give_out.result (λ r. MatchResult r (IsDue x name) (λ reply. IsNotDue x name (plain_reply reply)))) c.self.view_is
+    subst (λ (x : PlainDesk). IfOk c.give_out.result (λ r. MatchResult r (IsPaymentOfJob x name) (λ reply. HasNoPayment x name (plain_reply reply)))) c.self.view_is
     (due_or_not d name j c.give_out.result at
     (subst (λ (ps : List Payment). IfOk c.give_out.result (λ r. MatchResult r (IsGiven d.held ps j) (λ reply. IsNotGiven d.held ps j (plain_reply reply)))) c.deref-in-Some.ensures.value c.give_out.ensures.given))
 
@@ -41,4 +41,4 @@ returns-in-None-clause-given c =
     let d : PlainDesk = record { held = c.self.inside.held; committed = c.self.inside.committed.items; jobs = c.self.inside.jobs.items } in
     let name = c.args.name.now in
     let at = sym (c.in-None.ensures ∙ ap (λ (js : List Job). job_at js name) c.deref.ensures.value) in
-    subst (λ (x : PlainDesk). IsNotDue x name _) c.self.view_is (none_due d name at)
+    subst (λ (x : PlainDesk). HasNoPayment x name _) c.self.view_is (none_due d name at)

@@ -6,15 +6,15 @@ use Rattle.fund_outside.specs.Kept.{KeptJob}
 use Rattle.fund_report.specs.declared.report.Report.{Report}
 use Rattle.report_check.specs.declared.fault.CheckFault.{CheckFault}
 use Rattle.kept_job.specs.declared.fault.KeptFault.{KeptFault}
-use Rattle.command_check.specs.Due as checks
-use Rattle.command_check.specs.declared.stop.Evidence.{Evidence}
-use Rattle.command_coins.specs.Due as listings
-use Rattle.command_desk.specs.Due as desks
+use Rattle.command_check.specs.Outcome as checks
+use Rattle.command_check.specs.declared.stop.CheckedFile.{CheckedFile}
+use Rattle.command_coins.specs.Outcome as listings
+use Rattle.command_desk.specs.Outcome as desks
 use Rattle.command_inputs.specs.Cause.{Cause, Files, Bump, Plan}
-use Rattle.command_inputs.specs.Due as payments
+use Rattle.command_inputs.specs.Outcome as payments
 use Rattle.command_inputs.specs.Meant as payment_causes
-use Rattle.command_resume.specs.Due as resumes
-use Rattle.command_work.specs.Due as loads
+use Rattle.command_resume.specs.Outcome as resumes
+use Rattle.command_work.specs.Outcome as loads
 use Rattle.command_end.specs.declared.status.Status.{Status}
 use Rattle.fund_top.specs.Words.{Command, Coins, Fund, Resume, Check, Work, Desk}
 
@@ -28,7 +28,7 @@ pub data Outcome : Type 0 where
   Unfinished : (report : List ℕ) → Outcome
   NoSelection : (report log : List ℕ) → Outcome
   Funded : (report log : List ℕ) → Outcome
-  TooLong : Evidence → Outcome
+  TooLong : CheckedFile → Outcome
   Broken : CheckFault → Outcome
   Accepted : Report → Outcome
   Summed : (status : Status) → (summary : List ℕ) → Outcome
@@ -74,12 +74,12 @@ resume_outcome (resumes.Gone due) = payment_outcome due
 -- What a command comes to, by the content of files, and by the jobs of a keeper where it goes on with one; a workload is made
 -- without any.
 abbrev pub ComesTo : (List ℕ → List ℕ) → (List ℕ → Option KeptJob) → Command → Outcome → Type 0
-ComesTo files jobs (Coins s) o = o ≡ listing_outcome (listings.due_of files s)
-ComesTo files jobs (Fund s p job) o = o ≡ payment_outcome (payments.due_of files s p)
+ComesTo files jobs (Coins s) o = o ≡ listing_outcome (listings.outcome_of files s)
+ComesTo files jobs (Fund s p job) o = o ≡ payment_outcome (payments.outcome_of files s p)
 ComesTo files jobs (Resume s p job) o = (due : resumes.Outcome) × resumes.ComesTo files s p (jobs job) due × (o ≡ resume_outcome due)
 ComesTo files jobs (Check s p report) o = (due : checks.Outcome) × checks.ComesTo files s p report due × (o ≡ check_outcome due)
-ComesTo files jobs (Work number count) o = o ≡ load_outcome (loads.due_of number count)
-ComesTo files jobs (Desk s script) o = o ≡ desk_outcome (desks.due_of files s script)
+ComesTo files jobs (Work number count) o = o ≡ load_outcome (loads.outcome_of number count)
+ComesTo files jobs (Desk s script) o = o ≡ desk_outcome (desks.outcome_of files s script)
 
 -- where what a command comes to is told: its files are, and the jobs too where it goes on with one
 abbrev pub IsTold : (told_files told_jobs : Type 0) → Command → Type 0

@@ -16,7 +16,7 @@ use Rattle.command_end.specs.declared.status.Status.TheVariants as statuses
 use Rattle.desk_machine.specs.State.{PlainDesk}
 use Rattle.command_desk.specs.Script.{lines_of}
 use Rattle.command_desk.specs.Asked.{first_names}
-use Rattle.command_desk.specs.Due.{Outcome, Refused, TooLong, Halted, Replied, IsRefusal, by_chain, by_lines, by_script, due_of, is_long, status_of}
+use Rattle.command_desk.specs.Outcome.{Outcome, Refused, TooLong, Halted, Replied, IsRefusal, by_chain, by_lines, by_script, outcome_of, is_long, status_of}
 use Rattle.command_desk.specs.Running.{StopsInside}
 use Rattle.command_desk.specs.Starts.{StartsFrom}
 use Rattle.command_desk.specs.Statuses.{Ends, EndsRunning, NoneFailed, NoneUnread}
@@ -67,32 +67,32 @@ short_script files text h = cond-false (nat_lt 16777216 (length text)) TooLong (
 -- ---- by the files
 
 module _ (s : Sources) (script : List ℕ) (shelf shelf' : ShelfView) where
-  held_due : (w : PlainWallet) (bs : List ChainBlock) → HasChain (shelf.files s.wallet) (shelf.files s.blocks) w bs → due_of shelf.files s script ≡ by_script shelf.files (shelf.files script)
+  held_due : (w : PlainWallet) (bs : List ChainBlock) → HasChain (shelf.files s.wallet) (shelf.files s.blocks) w bs → outcome_of shelf.files s script ≡ by_script shelf.files (shelf.files script)
   held_due w bs h = ap (by_chain shelf.files (shelf.files script)) (chain_held (shelf.files s.wallet) (shelf.files s.blocks) w bs h)
 
-  cause_due : (cause : FileCause) → chain_of (shelf.files s.wallet) (shelf.files s.blocks) ≡ Err cause → due_of shelf.files s script ≡ Refused cause
+  cause_due : (cause : FileCause) → chain_of (shelf.files s.wallet) (shelf.files s.blocks) ≡ Err cause → outcome_of shelf.files s script ≡ Refused cause
   cause_due cause is = ap (by_chain shelf.files (shelf.files script)) is
 
   module _ (told_files : Type 0) (t : told_files) (text : List ℕ) (d : PlainDesk) (h : StartsFrom told_files shelf.files s script text d) where
-    text_due : due_of shelf.files s script ≡ by_script shelf.files text
+    text_due : outcome_of shelf.files s script ≡ by_script shelf.files text
     text_due = held_due h.wallet h.blocks (h.inputs t).chain ∙ ap (by_script shelf.files) (sym (h.text_is t))
 
     text_fits : length text ≤ 16777216
     text_fits = subst (λ (said : List ℕ). length said ≤ 16777216) (sym (h.text_is t)) (h.inputs t).fits
 
-    lines_due : due_of shelf.files s script ≡ by_lines shelf.files (lines_of text)
+    lines_due : outcome_of shelf.files s script ≡ by_lines shelf.files (lines_of text)
     lines_due = text_due ∙ short_script shelf.files text text_fits
 
-    status_is : (b : Bool) → list_any (is_long shelf.files) (lines_of text) ≡ b → status_of (due_of shelf.files s script) ≡ cond b statuses.Limit statuses.Done
+    status_is : (b : Bool) → list_any (is_long shelf.files) (lines_of text) ≡ b → status_of (outcome_of shelf.files s script) ≡ cond b statuses.Limit statuses.Done
     status_is b is = ap status_of lines_due ∙ lines_status shelf.files (lines_of text) b is
 
-    none_refused : first_is_long shelf.files (lines_of text) ≡ false → IsRefusal (due_of shelf.files s script) → ⊥
+    none_refused : first_is_long shelf.files (lines_of text) ≡ false → IsRefusal (outcome_of shelf.files s script) → ⊥
     none_refused is refusal = lines_begun shelf.files (lines_of text) is (subst IsRefusal lines_due refusal)
 
-    limit_refused : IsRefusal (due_of shelf.files s script) → status_of (due_of shelf.files s script) ≡ statuses.Limit
+    limit_refused : IsRefusal (outcome_of shelf.files s script) → status_of (outcome_of shelf.files s script) ≡ statuses.Limit
     limit_refused refusal = ap status_of text_due ∙ script_limit shelf.files text (subst IsRefusal text_due refusal)
 
-    inside_refused : (told : Type 0) (names : List (List ℕ)) (sink sink' : SinkView) → StopsInside told_files told names text d shelf shelf' sink sink' → IsRefusal (due_of shelf.files s script) → ⊥
+    inside_refused : (told : Type 0) (names : List (List ℕ)) (sink sink' : SinkView) → StopsInside told_files told names text d shelf shelf' sink sink' → IsRefusal (outcome_of shelf.files s script) → ⊥
     inside_refused told names sink sink' x refusal =
         none_refused (ap (first_is_long shelf.files) x.stands.parts ∙ first_begun shelf.files x.front x.stands.rest x.line d x.new x.next x.printed x.reply (x.stands.course t) (x.answers t)) refusal
 
@@ -104,7 +104,7 @@ module _ (s : Sources) (script : List ℕ) (shelf shelf' : ShelfView) where
 
 module _ (told_files told : Type 0) (s : Sources) (script : List ℕ) (shelf shelf' : ShelfView) (sink sink' : SinkView) (t : told_files) where
   due : Outcome
-  due = due_of shelf.files s script
+  due = outcome_of shelf.files s script
 
   run_due : NoneFailed s script shelf shelf' sink sink' → (result : Status) → EndsRunning told_files told s script shelf shelf' sink sink' result → (result ≡ status_of due) ⊎ (result ≡ statuses.Memory)
   unfolding due
@@ -125,7 +125,7 @@ module _ (told_files told : Type 0) (s : Sources) (script : List ℕ) (shelf she
   run_due none statuses.Saved h = absurd h.runs
   run_due none statuses.CheckRefused h = absurd h.runs
 
-  pub ends_complete : NoneFailed s script shelf shelf' sink sink' → (result : Status) → Ends told_files told s script shelf shelf' sink sink' result → (result ≡ status_of (due_of shelf.files s script)) ⊎ (result ≡ statuses.Memory)
+  pub ends_complete : NoneFailed s script shelf shelf' sink sink' → (result : Status) → Ends told_files told s script shelf shelf' sink sink' result → (result ≡ status_of (outcome_of shelf.files s script)) ⊎ (result ≡ statuses.Memory)
   unfolding due
   ends_complete none result (inr h) = run_due none result h
   ends_complete none statuses.Input (inl h) = inl (sym (ap status_of (cause_due s script shelf shelf' (cause_of h.0) (h.2 t).due) ∙ h.1))
@@ -147,7 +147,7 @@ module _ (told_files told : Type 0) (s : Sources) (script : List ℕ) (shelf she
 
   -- ---- what is refused
 
-  module _ (none : NoneUnread s script shelf shelf') (refusal : IsRefusal (due_of shelf.files s script)) where
+  module _ (none : NoneUnread s script shelf shelf') (refusal : IsRefusal (outcome_of shelf.files s script)) where
     run_refused : (result : Status) → EndsRunning told_files told s script shelf shelf' sink sink' result → (result ≡ status_of due) ⊎ (result ≡ statuses.Memory)
     unfolding due
     run_refused statuses.Done h =
@@ -166,7 +166,7 @@ module _ (told_files told : Type 0) (s : Sources) (script : List ℕ) (shelf she
     run_refused statuses.Saved h = absurd h.runs
     run_refused statuses.CheckRefused h = absurd h.runs
 
-    pub ends_refused : (result : Status) → Ends told_files told s script shelf shelf' sink sink' result → (result ≡ status_of (due_of shelf.files s script)) ⊎ (result ≡ statuses.Memory)
+    pub ends_refused : (result : Status) → Ends told_files told s script shelf shelf' sink sink' result → (result ≡ status_of (outcome_of shelf.files s script)) ⊎ (result ≡ statuses.Memory)
     unfolding due
     ends_refused result (inr h) = run_refused result h
     ends_refused statuses.Input (inl h) = inl (sym (ap status_of (cause_due s script shelf shelf' (cause_of h.0) (h.2 t).due) ∙ h.1))

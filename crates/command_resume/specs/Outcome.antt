@@ -12,20 +12,20 @@ use Rattle.fund_steps.specs.Plan.{IsPlan}
 use Rattle.request_text.specs.PlainRequest.{PlainRequest}
 use Rattle.search_run.specs.Step.{AreSteps}
 use Rattle.wallet_text.specs.PlainWallet.{PlainWallet}
-use Rattle.fund_files.specs.Chain.{held_of}
-use Rattle.fund_files.specs.declared.held.Held.{Held}
+use Rattle.fund_files.specs.Chain.{chain_from}
+use Rattle.fund_files.specs.declared.chain.Chain.{Chain}
 use Rattle.fund_payment.specs.Report.{report_of}
-use Rattle.kept_job.specs.Gone.{HasGoneOn}
+use Rattle.kept_job.specs.Continued.{HasContinued}
 use Rattle.kept_job.specs.Refused.{IsNotResumed, IsOfJob}
 use Rattle.kept_job.specs.declared.fault.KeptFault.{KeptFault}
 use Rattle.command_end.specs.Names.{Sources}
 use Rattle.command_end.specs.declared.status.Status.{Status}
 use Rattle.command_inputs.specs.Cause.{Cause, status_of_cause}
 use Rattle.command_inputs.specs.Digest.{digest_in}
-use Rattle.command_inputs.specs.Due.{Funded, NoSelection, Unfinished, none_report, open_report, plan_of}
-use Rattle.command_inputs.specs.Due as payments
+use Rattle.command_inputs.specs.Outcome.{Funded, NoSelection, Unfinished, none_report, open_report, plan_of}
+use Rattle.command_inputs.specs.Outcome as payments
 use Rattle.command_inputs.specs.Inputs.{AreInputs}
-use Rattle.command_inputs.specs.Meant.{IsDue}
+use Rattle.command_inputs.specs.Meant.{AreRefusedFor}
 use Rattle.command_inputs.specs.Names.{Payment}
 use Rattle.command_inputs.specs.Results as payment_ends
 use Rattle.command_resume.specs.Words.{kept_status}
@@ -37,7 +37,7 @@ pub data Outcome : Type 0 where
   Gone : payments.Outcome → Outcome
 
 -- what a plan comes to where it stands
-abbrev pub by_answer_on : Held → PlainRequest → PlanState → Answer → payments.Outcome
+abbrev pub by_answer_on : Chain → PlainRequest → PlanState → Answer → payments.Outcome
 by_answer_on k r s answers.Unfinished = Unfinished (open_report s.stand.past.tries s.stand.left)
 by_answer_on k r s answers.NoSelection = NoSelection (none_report s.stand.past.tries) (logs.text_of (log_in s))
 by_answer_on k r s (answers.Funded f) = Funded (report_of k.book r k.wallet.change s.stand.past.tries f) (logs.text_of (log_in s))
@@ -48,7 +48,7 @@ pub record AreReady (files : List ℕ → List ℕ) (s : Sources) (p : Payment) 
   pub blocks : List ChainBlock
   pub asked : PlainRequest
   pub inputs : AreInputs files s p wallet blocks asked
-  pub plan : IsPlan (plan_of (held_of wallet blocks) asked)
+  pub plan : IsPlan (plan_of (chain_from wallet blocks) asked)
 
 -- the files hold a request whose plan keeps its rules, and the job has this fault for it, which is its own
 pub record IsNotKept (files : List ℕ → List ℕ) (s : Sources) (p : Payment) (o : Option KeptJob) (fault : KeptFault) : Type 0 where
@@ -56,10 +56,10 @@ pub record IsNotKept (files : List ℕ → List ℕ) (s : Sources) (p : Payment)
   pub blocks : List ChainBlock
   pub asked : PlainRequest
   pub inputs : AreInputs files s p wallet blocks asked
-  pub plan : IsPlan (plan_of (held_of wallet blocks) asked)
-  pub steps : AreSteps (steps_of (plan_of (held_of wallet blocks) asked))
+  pub plan : IsPlan (plan_of (chain_from wallet blocks) asked)
+  pub steps : AreSteps (steps_of (plan_of (chain_from wallet blocks) asked))
   pub own : IsOfJob fault
-  pub fault_is : IsNotResumed (plan_of (held_of wallet blocks) asked) (digest_in files s p) o asked.tries fault
+  pub fault_is : IsNotResumed (plan_of (chain_from wallet blocks) asked) (digest_in files s p) o asked.tries fault
 
 -- they do, and the plan went on from the job and came to this
 pub record IsGone (files : List ℕ → List ℕ) (s : Sources) (p : Payment) (o : Option KeptJob) (due : payments.Outcome) : Type 0 where
@@ -67,17 +67,17 @@ pub record IsGone (files : List ℕ → List ℕ) (s : Sources) (p : Payment) (o
   pub blocks : List ChainBlock
   pub asked : PlainRequest
   pub inputs : AreInputs files s p wallet blocks asked
-  pub plan : IsPlan (plan_of (held_of wallet blocks) asked)
-  pub steps : AreSteps (steps_of (plan_of (held_of wallet blocks) asked))
+  pub plan : IsPlan (plan_of (chain_from wallet blocks) asked)
+  pub steps : AreSteps (steps_of (plan_of (chain_from wallet blocks) asked))
   pub state : PlanState
   pub answer : Answer
-  pub gone : HasGoneOn (Unit {0}) (plan_of (held_of wallet blocks) asked) (digest_in files s p) o asked.tries state answer
-  pub due_is : due ≡ by_answer_on (held_of wallet blocks) asked state answer
+  pub gone : HasContinued (Unit {0}) (plan_of (chain_from wallet blocks) asked) (digest_in files s p) o asked.tries state answer
+  pub due_is : due ≡ by_answer_on (chain_from wallet blocks) asked state answer
 
 -- The files and the job come to this: the files are taken one by one, the wallet, the blocks, the request and its plan, and
 -- then the job.
 abbrev pub ComesTo : (List ℕ → List ℕ) → Sources → Payment → Option KeptJob → Outcome → Type 0
-ComesTo files s p o (Refused cause) = IsDue files s p cause
+ComesTo files s p o (Refused cause) = AreRefusedFor files s p cause
 ComesTo files s p o (NotKept fault) = IsNotKept files s p o fault
 ComesTo files s p o (Gone due) = IsGone files s p o due
 

@@ -4,7 +4,7 @@ use Rattle.std.specs.List.{list_any}
 use Rattle.std.specs.Option.{option_map_or}
 use Rattle.fund_files.specs.Cause.{FileCause}
 use Rattle.fund_files.specs.Outcome.{chain_of}
-use Rattle.fund_files.specs.declared.held.Held.{Held}
+use Rattle.fund_files.specs.declared.chain.Chain.{Chain}
 use Rattle.command_end.specs.Lines.{status_of_file}
 use Rattle.command_end.specs.Names.{Sources}
 use Rattle.command_end.specs.declared.status.Status.{Status}
@@ -34,12 +34,12 @@ abbrev pub by_script : (List ℕ → List ℕ) → (text : List ℕ) → Outcome
 by_script files text = if nat_lt 16777216 (length text) then TooLong else by_lines files (lines_of text)
 
 -- by the wallet and the blocks, or the cause for which they are refused
-abbrev pub by_chain : (List ℕ → List ℕ) → (text : List ℕ) → Result Held FileCause → Outcome
+abbrev pub by_chain : (List ℕ → List ℕ) → (text : List ℕ) → Result Chain FileCause → Outcome
 by_chain files text (Err cause) = Refused cause
 by_chain files text (Ok k) = by_script files text
 
-abbrev pub due_of : (List ℕ → List ℕ) → Sources → (script : List ℕ) → Outcome
-due_of files s script = by_chain files (files script) (chain_of (files s.wallet) (files s.blocks))
+abbrev pub outcome_of : (List ℕ → List ℕ) → Sources → (script : List ℕ) → Outcome
+outcome_of files s script = by_chain files (files script) (chain_of (files s.wallet) (files s.blocks))
 
 -- the status of that, where nothing fails
 abbrev pub status_of : Outcome → Status

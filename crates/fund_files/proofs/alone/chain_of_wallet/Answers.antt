@@ -3,7 +3,7 @@ use Rattle.coin_book.specs.History.{start_of}
 use Rattle.wallet_text.specs.PlainWallet.{PlainWallet}
 use Rattle.fund_files.specs.declared.booking.Booked.TheVariants.{Kept, Broken}
 use Rattle.fund_files.proofs.AloneLaws.{booked_alone, held_alone, value_alone}
-use Rattle.fund_files.proofs.alone.hold.Goals as goal
+use Rattle.fund_files.proofs.alone.chain_of_wallet.Goals as goal
 
 pub add_waiting-requires-clause-begun : goal.add_waiting-requires-clause-begun
 add_waiting-requires-clause-begun c = (start_of c.args.wallet, refl, c.in-Ok.ensures)

@@ -1,8 +1,8 @@
 -- What the run on the workload of a number and a count comes to.
 use Rattle.std.specs.Prelude.{ℕ, ◌≡◌, List, [], codes, Option, Some, None}
 use Rattle.fund_files.specs.Cause as files
-use Rattle.fund_files.specs.Chain.{held_of}
-use Rattle.fund_files.specs.declared.held.Held.{Held}
+use Rattle.fund_files.specs.Chain.{chain_from}
+use Rattle.fund_files.specs.declared.chain.Chain.{Chain}
 use Rattle.fund_steps.specs.Plan.{PlainPlan}
 use Rattle.json_fields.specs.Repeats.{IsFirstRepeat}
 use Rattle.wallet_text.specs.WalletText.{earlier_txids, repeat_from, told_index}
@@ -11,14 +11,14 @@ use Rattle.command_work.specs.Load.{earlier_of, request_of, wallet_of}
 use Rattle.command_work.specs.Summary.{summary_text}
 use Rattle.command_end.specs.declared.status.Status.{Status}
 use Rattle.command_inputs.specs.Cause.{Cause, Files}
-use Rattle.command_inputs.specs.Due as payments
+use Rattle.command_inputs.specs.Outcome as payments
 use Rattle.command_inputs.specs.Results as payment_ends
 
 -- ---- the run
 
 -- the workload's wallet, with the book of its coins; no block stands behind it
-abbrev pub load_of : ℕ → ℕ → Held
-load_of number count = held_of (wallet_of number count) []
+abbrev pub load_of : ℕ → ℕ → Chain
+load_of number count = chain_from (wallet_of number count) []
 
 -- the plan of its request
 abbrev pub load_plan : ℕ → ℕ → PlainPlan
@@ -52,8 +52,8 @@ by_repeat number count (Some place) = Refused (repeat_cause place)
 by_repeat number count None = summed number count (run_of number count)
 
 -- What a number and a count come to: no wallet has two earlier transactions of one txid; otherwise it is the run.
-unfoldable pub due_of : ℕ → ℕ → Outcome
-due_of number count = by_repeat number count (repeat_from [] (earlier_txids (earlier_of number count)))
+unfoldable pub outcome_of : ℕ → ℕ → Outcome
+outcome_of number count = by_repeat number count (repeat_from [] (earlier_txids (earlier_of number count)))
 
 -- ---- what a refusal means
 

@@ -1,10 +1,10 @@
 //! A wallet, its coins, and where its chain ends.
 
-ghost use Rattle.std.specs.Prelude.{◌≡◌, IfOk};
+ghost use Rattle.std.specs.Prelude.{◌≡◌, ◌≤◌, IfOk};
 ghost use Rattle.coin_candidates.specs.Candidates.{AreCandidates};
 ghost use Rattle.payment_states.specs.Candidates.{candidates_of};
 ghost use Rattle.payment_states.specs.Payments.{payments_of};
-ghost use Rattle.fund_files.specs.Chain.{IsHeld};
+ghost use Rattle.fund_files.specs.Chain.{IsChain};
 
 use coin_book::Book;
 use coin_candidates::Candidate;
@@ -24,7 +24,7 @@ pub struct Tip {
 
 /// A wallet, the book of what it and the blocks behind it hold, and where its chain ends.
 #[derive(Drop)]
-pub struct Held {
+pub struct Chain {
     /// The wallet.
     pub wallet: Wallet,
     /// The coins of the wallet, of the blocks and of pending transactions.
@@ -33,16 +33,23 @@ pub struct Held {
     pub tip: Tip,
 }
 
-impl Held {
-    /// What has become of the pending payments, and the coins that may be spent.
-    pub fn states_and_coins(&self, alloc: Global) -> Result<(States, Vec<Candidate>), Memory>
-        requires { IsHeld self.now }
+impl Chain {
+    /// What has become of the pending payments, and the coins that may be spent, with their prices at a rate of at most
+    /// 100,000,000 satoshi per 1,000 virtual bytes.
+    pub fn states_and_coins(
+        &self,
+        alloc: Global,
+        rate: u64,
+    ) -> Result<(States, Vec<Candidate>), Memory>
+        requires held { IsChain self.now }
+        requires rate { rate ≤ 100_000_000 }
         ensures states { IfOk result (λ r. r.0 ≡ payments_of self.now.wallet self.now.book) }
-        ensures coins { IfOk result (λ r. r.1.items ≡ candidates_of self.now.wallet self.now.book self.now.tip.height) }
+        ensures coins { IfOk result (λ r. r.1.items ≡ candidates_of self.now.wallet self.now.book self.now.tip.height rate) }
         ensures fit { IfOk result (λ r. AreCandidates r.1.items) }
     {
         let states = all_states(alloc, &self.book, &self.wallet)?;
-        let coins = candidates(alloc, &self.book, &self.wallet, &states, self.tip.height)?;
+        let tip = self.tip.height;
+        let coins = candidates(alloc, &self.book, &self.wallet, &states, tip, rate)?;
         Ok((states, coins))
     }
 }

@@ -4,23 +4,23 @@ use Rattle.closing_log.specs.Exact.{IsFirstFault}
 use Rattle.fund_report.specs.ReportText.{IsReportText}
 use Rattle.fund_report.specs.declared.report.Report.{Report}
 use Rattle.fund_steps.specs.Plan.{PlainPlan}
-use Rattle.report_check.specs.Verdict.{HasLog, IsAccepted, IsFault}
+use Rattle.report_check.specs.Verdict.{HasLog, IsAccepted, IsReportRefusal}
 use Rattle.report_check.specs.declared.fault.CheckFault.{CheckFault}
 use Rattle.report_check.specs.declared.fault.CheckFault.TheVariants as faults
 use Rattle.command_end.specs.Names.{Sources}
 use Rattle.command_end.specs.declared.status.Status.{Status}
 use Rattle.command_end.specs.declared.status.Status.TheVariants as statuses
 use Rattle.command_inputs.specs.Cause.{Cause, status_of_cause}
-use Rattle.command_inputs.specs.Meant.{IsDue}
+use Rattle.command_inputs.specs.Meant.{AreRefusedFor}
 use Rattle.command_inputs.specs.Names.{Payment}
 use Rattle.command_check.specs.Evidence.{HasReport, HavePlan, IsReached, IsTooLong, IsWithin, evidence_name}
-use Rattle.command_check.specs.declared.stop.Evidence.{Evidence}
+use Rattle.command_check.specs.declared.stop.CheckedFile.{CheckedFile}
 
 -- a cause for which the payment is refused; a file that is judged and too long; the first rule that the report breaks; or the
 -- report, which is accepted
 pub data Outcome : Type 0 where
   Refused : Cause → Outcome
-  TooLong : Evidence → Outcome
+  TooLong : CheckedFile → Outcome
   Broken : CheckFault → Outcome
   Accepted : Report → Outcome
 
@@ -42,7 +42,7 @@ pub record BreaksRule (files : List ℕ → List ℕ) (s : Sources) (p : Payment
   pub plan : PlainPlan
   pub found : Report
   pub judged : CanBeJudged files s p report plan found
-  pub first : IsFault plan found (files p.log) fault
+  pub first : IsReportRefusal plan found (files p.log) fault
   pub real : fault ≢ faults.Memory
 
 -- it breaks none
@@ -54,7 +54,7 @@ pub record KeepsRules (files : List ℕ → List ℕ) (s : Sources) (p : Payment
 -- The files come to this. They are taken one by one: those of the payment, which are refused as where it is funded; the
 -- report, for its length and then for its form; the length of the log, where the report has one; and then the rules.
 abbrev pub ComesTo : (List ℕ → List ℕ) → Sources → Payment → (report : List ℕ) → Outcome → Type 0
-ComesTo files s p report (Refused cause) = IsDue files s p cause
+ComesTo files s p report (Refused cause) = AreRefusedFor files s p cause
 ComesTo files s p report (TooLong file) = IsReached files s p report file × IsTooLong (files (evidence_name p report file))
 ComesTo files s p report (Broken fault) =
     (((plan : PlainPlan) × HavePlan files s p plan) × IsFormBroken (files report) fault) ⊎ BreaksRule files s p report fault
