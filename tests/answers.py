@@ -4,7 +4,7 @@
     tests/answers.py stored
     tests/answers.py PROGRAM [COUNT] [SEED]
 
-The first looks at what `methods` in rows_cases has to print. PROGRAM is a built fund_cli: COUNT requests (500) of all methods are made
+The first looks at what `methods`, `prices` and `versions` in rows_cases have to print. PROGRAM is a built fund_cli: COUNT requests (500) of all methods are made
 from the SEED (1), over wallets of a few coins, some of them pending. What may be spent, and which coins of which row are
 chosen, is worked out as docs/FORMATS.md says, by trying every choice. Each section of LOG is checked as docs/CLOSING_LOG.md
 says: its problem by its digest, its letters one by one. It shares no code with the program, and needs Python alone.
@@ -228,6 +228,23 @@ class Chain:
             found.append(coin)
         return found
 
+    def paid(self, place):
+        """What a pending transaction pays, or None where it isn't known."""
+        tx = self.pending[place]
+        outputs = {(one.txid, index): value for one in self.pending for index, (value, _) in enumerate(one.outputs)}
+        worth = [self.coins[point]["value"] if point in self.coins else outputs.get(point) for point in set(tx.inputs)]
+        return None if None in worth else max(0, sum(worth) - sum(value for value, _ in tx.outputs))
+
+    def missing(self, place, rate):
+        """What a pending transaction lacks of the fee at a rate."""
+        paid = self.paid(place)
+        return 0 if paid is None else max(0, fee(rate, -(-self.pending[place].weight // 4)) - paid)
+
+    def price(self, coin, rate):
+        """What raises a coin's transaction and its ancestors to a rate, each by itself."""
+        kin = [] if coin["place"] is None else self.kin(coin["place"])
+        return sum(self.missing(place, rate) for place in kin if self.state[place] == "pending")
+
 
 # ---- fees and payments
 
@@ -264,7 +281,7 @@ class Request:
     burden = 0
 
     def __init__(self, request, wallet, chain):
-        self.given = request
+        self.given, self.chain = request, chain
         self.rate, self.long_term = request["rate"], request.get("long_term", 10_000)
         self.method = request.get("method", "auto")
         self.recipients = [(bytes.fromhex(one["script"]) if "script" in one else script_of(one["address"]), one["amount"])
@@ -285,14 +302,19 @@ class Request:
         """Spends these in any case, and adds of those."""
         points = [coin["point"] for coin in presets]
         self.presets, self.candidates = presets, candidates
+        self.prices = {coin["point"]: self.chain.price(coin, self.rate) for coin in presets + candidates}
         self.rest = [coin for coin in candidates if coin["point"] not in points and self.brings(coin) > 0]
         self.preset_weight = sum(coin["weight"] for coin in presets)
 
+    def charge(self, coin):
+        """What a coin takes for itself: its input's fee, and its price."""
+        return input_fee(self.rate, coin["weight"]) + self.prices[coin["point"]]
+
     def brings(self, coin):
-        return coin["value"] - input_fee(self.rate, coin["weight"])
+        return coin["value"] - self.charge(coin)
 
     def cost(self, coin):
-        return input_fee(self.rate, coin["weight"]) - input_fee(self.long_term, coin["weight"])
+        return self.charge(coin) - input_fee(self.long_term, coin["weight"])
 
     def terms(self, coins):
         """The base weight with so many coins at hand, and what is needed beyond the listed coins."""
@@ -620,19 +642,27 @@ def case(r):
     return wallet, request
 
 
+def stored_end(step, status, text):
+    """What kind of end a stored payment comes to. One that its request or what it replaces refuses isn't judged here."""
+    report, mark, log = text.partition("fund-log 1\n")
+    given, wallet = (json.loads(step.files[name]) for name in ("request.json", "wallet.json"))
+    if "bump" in given or report.startswith("fault input request "):
+        return "beyond this"
+    asked = Request(given, wallet, Chain(wallet, step.files["blocks.dat"]))
+    return judge(asked, status, report.removesuffix("no log\n"), mark + log if mark else None)
+
+
 def stored():
-    """Judges the cases of `methods` in rows_cases: the files of its input, and what is to be printed for them."""
-    ends, printed, cases = collections.Counter(), part_of("rows_cases", "stdout", "methods"), list(commands_of("methods"))
-    for step in reversed(cases):
-        printed, _, told = printed.rpartition(f"{step.columns[0]}status ")
-        status, _, text = told.partition("\n")
-        report, mark, log = text.partition("fund-log 1\n")
-        wallet = json.loads(step.files["wallet.json"])
-        asked = Request(json.loads(step.files["request.json"]), wallet, Chain(wallet, step.files["blocks.dat"]))
-        report = report.removesuffix("no log\n")
-        end = judge(asked, int(status), report, mark + log if mark else None)
-        ends[end] += 1
-    return f"{len(cases)} stored cases", ends
+    """Judges the payments of three parts of rows_cases: the files of their input, and what is to be printed for them."""
+    ends = collections.Counter()
+    for part in ("methods", "prices", "versions"):
+        printed = part_of("rows_cases", "stdout", part)
+        for step in reversed(list(commands_of(part))):
+            printed, _, told = printed.rpartition(f"{step.columns[0]}status ")
+            status, _, text = told.partition("\n")
+            if step.columns[1] == "fund":
+                ends[stored_end(step, int(status), text)] += 1
+    return f"{sum(ends.values())} stored cases", ends
 
 
 def tell(what, ends):

@@ -18,7 +18,7 @@ import os
 import re
 import sys
 
-from answers import Chain, Request, answer, read_blocks, read_tx, shown_point, tell
+from answers import Chain, Request, answer, read_blocks, read_tx, shown_point, size_of, tell
 from stored_rows import commands_of, part_of
 from verdicts import meets, psbt_of
 
@@ -232,7 +232,11 @@ class Desk:
                     assert reply == f"taken {name} {shown_point(self.taken(job, due[3]))}", reply
                 return "taken"
             assert words[:2] == ["committed", name] and len(words) == 4, reply
-            (_, inputs, outputs, locktime), spent = psbt_of(words[3].encode())
+            tx, spent = psbt_of(words[3].encode())
+            _, inputs, outputs, locktime = tx
+            # the first pair of what is written is of type 00 in version 0, and of type 02 in version 2
+            version = job.given.get("psbt", 0)
+            assert base64.b64decode(words[3])[5:7] == bytes([1, version]), f"not of version {version}"
             points = [one[0] for one in inputs]
             assert points == sorted(points) and (due is None or points == due[3]), f"{due}: {reply}"
             assert self.taken(job, points) is None, f"{self.taken(job, points)} is taken"
@@ -246,7 +250,7 @@ class Desk:
             assert outputs[:len(recipients)] == recipients and all(script == change for _, script in rest) and len(rest) <= 1
             if due is not None:
                 assert [value for value, _ in rest] == ([] if due[4] is None else [due[4]]), f"{due}: {reply}"
-            txid = self.txid(words[3])
+            txid = self.txid(tx)
             assert words[2] == shown(txid), f"the txid is {shown(txid)}"
             del self.jobs[name]
             self.payments.append((txid, points))
@@ -254,13 +258,15 @@ class Desk:
         return judged
 
     @staticmethod
-    def txid(text):
-        data = base64.b64decode(text)
-        assert data[5:7] == b"\x01\x00"
-        size, at = data[7], 8
-        if size >= 253:
-            size, at = int.from_bytes(data[8:10], "little"), 10
-        return twice(data[at:at + size])
+    def txid(tx):
+        version, inputs, outputs, locktime = tx
+        data = version.to_bytes(4, "little") + size_of(len(inputs))
+        for (txid, index), script, sequence in inputs:
+            data += txid + index.to_bytes(4, "little") + size_of(len(script)) + script + sequence.to_bytes(4, "little")
+        data += size_of(len(outputs))
+        for value, script in outputs:
+            data += value.to_bytes(8, "little") + size_of(len(script)) + script
+        return twice(data + locktime.to_bytes(4, "little"))
 
     def close(self, name):
         return f"closed {name}" if self.jobs.pop(name, None) is not None else f"no-job {name}"

@@ -163,7 +163,7 @@ class Judge:
             return "the one part isn't the log so far"
         if job[1][0].count(b"I", job[1][0].find(b"tokens")) < said["tries"]:
             return "the log has fewer tries than the saved text"
-        return not_saved(said, digest_of(files), 1, report)
+        return not_saved(job, digest_of(files), 1, report)
 
     # ---- by another command
 

@@ -224,6 +224,7 @@ def tests_of(request):
     yield "bump", lambda value: is_hex(value, 64), None, None
     yield "replaceable", is_bool, None, None
     yield "locktime", lambda value: is_whole(value, 2**32 - 1), None, None
+    yield "psbt", lambda value: is_whole(value) and value in (0, 2), None, None
 
 
 def read_request(data):

@@ -136,7 +136,7 @@ def read_saved(text):
     """What a saved text says, or the place of its fault."""
     reader = Reader(text)
     try:
-        reader.word(b"fund-saved 1\njob ")
+        version = reader.word(b"fund-saved 1\njob ", b"fund-saved 2\njob ")
         said = {"job": reader.digits()}
         reader.word(b"\ntries ")
         said["tries"] = reader.number(0, 2**64 - 1)
@@ -152,6 +152,9 @@ def read_saved(text):
         said["best"] = reader.places(b"none")
         reader.word(b"\nparts ")
         said["parts"] = reader.number(1, min(said["tries"], MOST - 1) + 1)
+        if version.startswith(b"fund-saved 2"):
+            reader.word(b"\nlog ")
+            said["log"] = reader.digits()
         reader.word(b"\n")
         if reader.at < len(text):
             return None, reader.at
@@ -166,6 +169,11 @@ def read_saved(text):
 def digest_of(files):
     """The digest of a job, of the bytes of its wallet, blocks and request."""
     return hashlib.sha256(b"".join(hashlib.sha256(file).digest() for file in files)).hexdigest()
+
+
+def log_digest(parts, count):
+    """The digest of the first parts of a log, one behind the other."""
+    return hashlib.sha256(b"".join(parts[number] for number in range(count))).hexdigest()
 
 
 def refusal_of(job, files):
@@ -187,26 +195,27 @@ def refusal_of(job, files):
         size += len(job[1][number])
         if size > MOST_BYTES:
             return b"fault limit log\n"
-    return None
+    kept, digest = said.get("log"), log_digest(job[1], said["parts"])
+    return None if kept in (None, digest) else f"fault saved SavedFalse Parts {kept} {digest}\n".encode()
 
 
 def gone_on(before, after, report):
     """What is wrong with a job that was gone on with and is unfinished again, by the report; or None. Rows with a number below 0
     are no parts."""
     said, _ = read_saved(before[0])
-    now, place = read_saved(after[0])
-    if now is None:
-        return f"the saved text leaves its form at {place}"
     kept = {number: part for number, part in before[1].items() if 0 <= number < said["parts"]}
     left = {number: part for number, part in after[1].items() if number >= 0}
     if sorted(left) != list(range(said["parts"] + 1)) or any(left[number] != part for number, part in kept.items()):
         return "the parts that were kept aren't followed by one more alone"
-    return not_saved(now, said["job"], said["parts"] + 1, report)
+    return not_saved(after, said["job"], said["parts"] + 1, report)
 
 
-def not_saved(now, digest, parts, report):
-    """What is wrong with a saved text of a report that is unfinished; or None."""
+def not_saved(job, digest, parts, report):
+    """What is wrong with the saved text of a job of a report that is unfinished; or None."""
+    now, place = read_saved(job[0])
+    if now is None:
+        return f"the saved text leaves its form at {place}"
     told = b"unfinished\ntries %d\nrow %d\nstage %s\n" % (now["tries"], now["row"], now["stage"].encode())
-    if told != report or now["job"] != digest or now["parts"] != parts:
+    if told != report or now["job"] != digest or now["parts"] != parts or now.get("log") != log_digest(job[1], parts):
         return f"the saved text has {now}"
     return None

@@ -3,6 +3,7 @@
 Each takes a random.Random and what it mutates, and gives back another of the same kind."""
 
 import base64
+import hashlib
 import json
 import re
 
@@ -130,7 +131,7 @@ def gentle_request(rng, request):
     values = {"rate": rng.randrange(60_000), "long_term": rng.randrange(60_000), "discard": rng.randrange(60_000),
               "change_target": rng.randrange(200_000), "method": rng.choice(("auto", "changeless", "weight", "draw", "manual")),
               "seed": rng.randbytes(32).hex(), "tries": rng.choice((1, 2, 3, 7, 30, 200, 5000)), "locktime": rng.randrange(2**32),
-              "when_unfinished": rng.choice(("take", "stop")), **{name: rng.random() < 0.5 for name in
+              "psbt": rng.choice((0, 2)), "when_unfinished": rng.choice(("take", "stop")), **{name: rng.random() < 0.5 for name in
                                                                  ("zero_conf", "include_unsafe", "group", "replaceable")}}
     kind = rng.randrange(4)
     if kind == 0:
@@ -320,6 +321,21 @@ def mutate_saved(rng, saved):
     return re.sub(rb"stage [^\n]*", b"stage " + rng.choice((b"changeless", b"lean-big", b"lean-small", b"draw")), saved, count=1)
 
 
+def digest_mended(saved, parts):
+    """A saved text of version 2 whose digest is that of the parts that it counts, where these are there."""
+    counted = re.search(rb"\nparts (\d{1,9})\nlog ", saved)
+    numbers = range(int(counted[1])) if counted and int(counted[1]) <= len(parts) else ()
+    if not numbers or any(number not in parts for number in numbers):
+        return saved
+    digest = hashlib.sha256(b"".join(parts[number] for number in numbers)).hexdigest()
+    return re.sub(rb"\nlog [^\n]*", b"\nlog " + digest.encode(), saved, count=1)
+
+
+def first_version(saved):
+    """The same saved text in version 1."""
+    return re.sub(rb"\nlog [^\n]*\n", b"\n", saved.replace(b"fund-saved 2\n", b"fund-saved 1\n", 1), count=1)
+
+
 def mutate_job(rng, job, others):
     """A job of which the text or the parts are others; or which has the text of one of these other jobs."""
     saved, parts = job
@@ -334,4 +350,6 @@ def mutate_job(rng, job, others):
             saved, parts = rng.choice(((other[0], parts), (saved, other[1])))
         elif rng.random() < 0.2:
             saved = None
+    if saved is not None and rng.random() < 0.7:
+        saved = digest_mended(saved, parts) if rng.random() < 0.8 else first_version(saved)
     return saved, parts

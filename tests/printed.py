@@ -23,7 +23,7 @@ WALLET = (
 BLOCKS = f"(?:Magic|Length|Merkle|Mutated|Trailing|Empty) {N}|Tx {N} {TX}|NotLinked {HASH} {HASH}"
 REQUEST = (
     "NotJson|Kind (?:root|recipients|rate|long_term|discard|change_target|method|seed|tries|when_unfinished|zero_conf"
-    "|include_unsafe|group|coins|bump|replaceable|locktime|address|script|amount)"
+    "|include_unsafe|group|coins|bump|replaceable|locktime|psbt|address|script|amount)"
     f"|Member {ESCAPED}|Missing (?:recipients|rate|seed|amount)|Address {N} {ADDRESS}|(?:Script|AmountRange|Dust|Repeat) {N}"
     "|SumRange|NoRecipients|RateRange (?:rate|long_term|discard)|TriesRange"
 )
@@ -33,11 +33,12 @@ BUMP = (
 )
 PLAN = f"Total {N}|NotEligible {COIN}"
 PSBT = (
-    f"(?:Truncated|LongCompact|RepeatKey|Field|Version|WrongParent|Trailing) {N}|Magic|NoUnsigned|Unsigned {TX}|NotBare|NotBase64"
+    f"(?:Truncated|LongCompact|RepeatKey|Field|Version|WrongParent|Trailing|Mixed|Lacking|RequiredLock) {N}|Magic|NoUnsigned"
+    f"|Unsigned {TX}|NotBare|NotBase64"
 )
 LETTERS = f"(?:(?:UnknownToken|ReasonFalse|TooLong|BetterMet) {N}|Open|AnswerNotAdmissible)"
 CHECK = f"(?:Report|LogForm|Section) {N}|Psbt (?:{PSBT})|Coin {COIN}|Pays|Log {N} {LETTERS}|Answer"
-SAVED = f"NoJob|SavedForm {N}|JobElse {HASH} {HASH}|SavedFalse (?:(?:Part|Section) {N}|IllFormed|Log {N} {LETTERS})"
+SAVED = f"NoJob|SavedForm {N}|JobElse {HASH} {HASH}|SavedFalse (?:(?:Part|Section) {N}|Parts {HASH} {HASH}|IllFormed|Log {N} {LETTERS})"
 
 COUNTS = rf"weight {N}\nvsize {N}\nfee {N}\nwaste -?{N}\nchange (?:none|{N})\n"
 PLACE = rf"row [0-7]\nstage (?:{STAGES})\ntries {N}\n"

@@ -91,14 +91,15 @@ def read_tx(data, is_legacy):
     return inputs, outputs, hashlib.sha256(hashlib.sha256(bare).digest()).digest()
 
 
-def pairs(data, own, judge):
-    """Reads a map: keys of these types have no key data, and `judge` takes each such value."""
-    seen = set()
+def pairs(data, own, judge=None):
+    """Reads a map: keys of these types have no key data, and `judge` takes each such value. The pairs, each as its type, whether
+    its key is the type alone, its value and its place."""
+    seen, every = set(), []
     while True:
         start = data.at
         size = data.compact()
         if size == 0:
-            return
+            return every
         place = data.at
         key = Bytes(data.take(size))
         try:
@@ -111,55 +112,151 @@ def pairs(data, own, judge):
         if kind in own and key.at < size:
             raise Fault(f"Field {start}")
         value = data.string()
-        if kind in own:
-            judge(kind, value, start)
+        if kind in own and judge:
+            try:
+                judge(kind, value)
+            except Fault as fault:
+                raise Fault(f"Field {start}") from fault
+        every.append((kind, key.at == size, value, start))
 
 
-def unsigned_of(data):
-    """The transaction of the global map."""
-    found = {}
+def value_of(every, kind):
+    """The value of the pair whose key is this type alone, or None."""
+    return next((value for one, alone, value, _ in every if one == kind and alone), None)
 
-    def judge(kind, value, start):
-        if kind == 0xFB:
-            if len(value) != 4:
-                raise Fault(f"Field {start}")
-            if any(value):
-                raise Fault(f"Version {int.from_bytes(value, 'little')}")
-        found[kind] = value
 
-    pairs(data, (0, 0xFB), judge)
-    if 0 not in found:
+def lacks(every, kinds):
+    for kind in kinds:
+        if value_of(every, kind) is None:
+            raise Fault(f"Lacking {kind}")
+
+
+def has_size(value, size):
+    if len(value) != size:
+        raise Fault("another size")
+
+
+def count(value):
+    """A CompactSize that is the whole value."""
+    value = Bytes(value)
+    number = value.compact()
+    value.ends()
+    return number
+
+
+# ---- the global map
+
+
+def version_of(every):
+    version = int.from_bytes(value_of(every, 0xFB) or b"", "little")
+    if version not in (0, 2):
+        raise Fault(f"Version {version}")
+    return version
+
+
+def unsigned_of(every):
+    """The points of the inputs and the number of the outputs of the transaction of a global map of version 0."""
+    unsigned = value_of(every, 0)
+    if unsigned is None:
         raise Fault("NoUnsigned")
     try:
-        inputs, outputs, _ = transaction(found[0], True)
+        inputs, outputs, _ = transaction(unsigned, True)
     except Fault as fault:
         raise Fault(f"Unsigned {fault}") from fault
     if any(script for _, script in inputs):
         raise Fault("NotBare")
+    return [point for point, _ in inputs], len(outputs)
+
+
+def counts_of(every):
+    """The numbers of the inputs and of the outputs that a global map of version 2 tells."""
+    for kind, _, _, start in every:
+        if kind == 0:
+            raise Fault(f"Mixed {start}")
+    for field in (2, 3, 4, 5):
+        for kind, alone, value, start in every:
+            if kind != field:
+                continue
+            try:
+                if not alone:
+                    raise Fault("key data")
+                has_size(value, 4) if kind in (2, 3) else count(value)
+            except Fault as fault:
+                raise Fault(f"Field {start}") from fault
+    lacks(every, (2, 4, 5))
+    inputs, outputs = (count(value_of(every, kind)) for kind in (4, 5))
+    if inputs == 0 or outputs == 0:
+        raise Fault("Unsigned NoInputs" if inputs == 0 else "Unsigned NoOutputs")
     return inputs, outputs
 
 
-def read_input(data, index, point):
-    """An input's map, and whether its whole transaction is the one that it spends."""
-    found = {}
+# ---- the other maps
 
-    def judge(kind, value, start):
-        try:
-            if kind == 0:
-                found[0] = transaction(value, False)
-                return
-            output = Bytes(value)
-            amount = output.number(8)
-            output.string()
-            output.ends()
-        except Fault as fault:
-            raise Fault(f"Field {start}") from fault
+
+def judge_input(kind, value):
+    """The value of an input's field in its form."""
+    if kind == 0:
+        transaction(value, False)
+    elif kind == 1:
+        output = Bytes(value)
+        amount = output.number(8)
+        output.string()
+        output.ends()
         if amount > MAX_MONEY:
-            raise Fault(f"Field {start}")
+            raise Fault("ValueRange")
+    else:
+        has_size(value, 32 if kind == 0x0E else 4)
 
-    pairs(data, (0, 1), judge)
-    if 0 in found and (found[0][2] != point[0] or point[1] >= len(found[0][1])):
-        raise Fault(f"WrongParent {index}")
+
+def judge_output(kind, value):
+    if kind == 3:
+        has_size(value, 8)
+
+
+def check_parent(every, index, point):
+    """That the whole transaction beside an input, where there is one, is that which it spends."""
+    whole = value_of(every, 0)
+    if whole is not None:
+        _, outputs, txid = transaction(whole, False)
+        if txid != point[0] or point[1] >= len(outputs):
+            raise Fault(f"WrongParent {index}")
+
+
+def read_whole(data, every):
+    """What is behind the global map in version 0."""
+    points, outputs = unsigned_of(every)
+    for index, point in enumerate(points):
+        check_parent(pairs(data, (0, 1), judge_input), index, point)
+    for _ in range(outputs):
+        pairs(data, ())
+
+
+def read_fields(data, every):
+    """The same in version 2."""
+    inputs, outputs = counts_of(every)
+    for index in range(inputs):
+        one = pairs(data, (0, 1, 0x0E, 0x0F, 0x10), judge_input)
+        lacks(one, (0x0E, 0x0F))
+        if any(kind in (0x11, 0x12) for kind, *_ in one):
+            raise Fault(f"RequiredLock {index}")
+        check_parent(one, index, (value_of(one, 0x0E), int.from_bytes(value_of(one, 0x0F), "little")))
+    total = 0
+    for index in range(outputs):
+        one = pairs(data, (3, 4), judge_output)
+        lacks(one, (3, 4))
+        total += int.from_bytes(value_of(one, 3), "little")
+        if total > MAX_MONEY:
+            raise Fault(f"Unsigned ValueRange {index}")
+
+
+def read_psbt(data):
+    if data[:5] != b"psbt\xff":
+        raise Fault("Magic")
+    data = Bytes(data)
+    data.take(5)
+    every = pairs(data, (0, 0xFB), lambda kind, value: has_size(value, 4) if kind == 0xFB else None)
+    (read_fields if version_of(every) == 2 else read_whole)(data, every)
+    data.ends()
 
 
 def fault_of(text):
@@ -171,16 +268,7 @@ def fault_of(text):
             raise Fault("NotBase64") from wrong
         if base64.b64encode(data) != text:
             raise Fault("NotBase64")
-        if data[:5] != b"psbt\xff":
-            raise Fault("Magic")
-        data = Bytes(data)
-        data.take(5)
-        inputs, outputs = unsigned_of(data)
-        for index, (point, _) in enumerate(inputs):
-            read_input(data, index, point)
-        for _ in outputs:
-            pairs(data, (), None)
-        data.ends()
+        read_psbt(data)
     except Fault as fault:
         return str(fault)
     return None

@@ -106,16 +106,28 @@ def psbt_of(request, coins, change):
     """The PSBT of a payment, written with as few pairs as will do."""
     sequence = 0xFFFFFFFD if request.given.get("replaceable", True) else 0xFFFFFFFE
     outputs = request.recipients + ([] if change is None else [(request.change, change)])
-    tx = (2).to_bytes(4, "little") + size_of(len(coins))
-    for txid, index in [coin["point"] for coin in coins]:
-        tx += txid + index.to_bytes(4, "little") + b"\0" + sequence.to_bytes(4, "little")
-    tx += size_of(len(outputs)) + b"".join(amount.to_bytes(8, "little") + string(script) for script, amount in outputs)
-    tx += request.given.get("locktime", 0).to_bytes(4, "little")
-    data = b"psbt\xff\x01\x00" + string(tx) + b"\0"
-    for coin in coins:
-        paid = coin["value"].to_bytes(8, "little") + string(coin["script"])
-        data += (b"\x01\x01" + string(paid) if is_program(coin["script"]) else b"\x01\x00" + string(coin["whole"])) + b"\0"
-    return data + b"\0" * len(outputs)
+    version, locktime = (number.to_bytes(4, "little") for number in (2, request.given.get("locktime", 0)))
+    inputs = [(coin["point"][0], coin["point"][1].to_bytes(4, "little"), sequence.to_bytes(4, "little")) for coin in coins]
+    paid = [(amount.to_bytes(8, "little"), script) for script, amount in outputs]
+    fields = request.given.get("psbt", 0) == 2
+    if fields:
+        counts = size_of(len(inputs)), size_of(len(paid))
+        data = b"psbt\xff" + map_of((2, version), (3, locktime), (4, counts[0]), (5, counts[1]), (0xFB, version))
+    else:
+        tx = version + size_of(len(inputs)) + b"".join(txid + index + b"\0" + last for txid, index, last in inputs)
+        tx += size_of(len(paid)) + b"".join(amount + string(script) for amount, script in paid) + locktime
+        data = b"psbt\xff" + map_of((0, tx))
+    for coin, own in zip(coins, inputs):
+        known = 1, coin["value"].to_bytes(8, "little") + string(coin["script"])
+        if not is_program(coin["script"]):
+            known = 0, coin["whole"]
+        data += map_of(known, *zip((0x0E, 0x0F, 0x10), own if fields else ()))
+    return data + b"".join(map_of(*zip((3, 4), one if fields else ())) for one in paid)
+
+
+def map_of(*pairs):
+    """A map of pairs, each of a type and a value."""
+    return b"".join(b"\x01" + bytes([kind]) + string(value) for kind, value in pairs) + b"\0"
 
 
 class Outcome(typing.NamedTuple):

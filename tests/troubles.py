@@ -45,6 +45,7 @@ OTHERS = {
     "plan_sentence TooMany": "limit groups",
     "kept_sentence Form": "saved SavedForm", "kept_sentence Spent": "limit tries",
     "kept_sentence LongLog": "limit log", "kept_sentence Part": "saved SavedFalse Part",
+    "kept_sentence Parts": "saved SavedFalse Parts",
     "kept_sentence Section": "saved SavedFalse Section", "kept_sentence IllFormed": "saved SavedFalse IllFormed",
     "kept_sentence Log": "saved SavedFalse Log",
 }
@@ -64,7 +65,7 @@ SAME = {"Method": "fault input request Kind method", "Seed": "fault input reques
 # of a field its place in the line, as the pages write it
 FIELDS = {"place": "PLACE", "output": "OUTPUT", "height": "HEIGHT", "name": "NAME", "index": "INDEX", "list": "LIST",
           "fault": "FAULT", "coin": "COIN", "sum": "SUM", "number": "NUMBER", "kept": "KEPT", "found": "FOUND", "now": "NOW", "txid": "TXID", "n": "COUNT", "fee": "FEE", "vsize": "VSIZE",
-          "version": "VERSION", "input": "INPUT"}
+          "version": "VERSION", "input": "INPUT", "kind": "TYPE"}
 CASE = re.compile(r'^(\w+) \(?\w+\.(\w+)((?: \w+)*)\)? = codes "([^"]*)"$')
 NONE = re.compile(r'^(\w+) None = codes "([^"]*)"$')
 KIND = re.compile(r'^ +if bytes_eq name \(codes "(\w+)"\) then codes "([^"]*)" else$')

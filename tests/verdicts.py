@@ -15,7 +15,7 @@ import os
 import re
 import sys
 
-from answers import compact, fee, input_fee, read_tx, steps
+from answers import compact, fee, read_tx, steps
 from replacements import asked
 
 MAX_MONEY = 2_100_000_000_000_000
@@ -80,6 +80,80 @@ def transaction_of(data):
     return int.from_bytes(data[:4], "little"), inputs, outputs, int.from_bytes(data[at:], "little")
 
 
+def number(data, size):
+    if len(data) != size:
+        raise Bad
+    return int.from_bytes(data, "little")
+
+
+def counted(data):
+    count, end = shortest(data, 0)
+    if end != len(data):
+        raise Bad
+    return count
+
+
+def without_key_data(pairs, kinds):
+    if any(key[0] in kinds and len(key) > 1 for key in pairs):
+        raise Bad
+
+
+def spent_of(pairs, point):
+    """What an input's map tells of what it spends: the whole transaction's outputs, and the output."""
+    without_key_data(pairs, (0, 1))
+    whole = paid = None
+    if b"\x00" in pairs:
+        parent = read_tx(pairs[b"\x00"])
+        if parent[3] != len(pairs[b"\x00"]) or parent[0] != point[0] or point[1] >= len(parent[2]):
+            raise Bad
+        whole = parent[2]
+    if b"\x01" in pairs:
+        value = pairs[b"\x01"]
+        script, end = string(value, 8)
+        if end != len(value) or int.from_bytes(value[:8], "little") > MAX_MONEY:
+            raise Bad
+        paid = (int.from_bytes(value[:8], "little"), script)
+    return whole, paid
+
+
+def read_whole(data, pairs, at):
+    """A PSBT of version 0 behind its global map (BIP 174), and the place behind it."""
+    tx = transaction_of(pairs[b"\x00"])
+    if any(script for _, script, _ in tx[1]):
+        raise Bad
+    shown = []
+    for point, _, _ in tx[1]:
+        pairs, at = read_map(data, at)
+        shown.append(spent_of(pairs, point))
+    for _ in tx[2]:
+        _, at = read_map(data, at)
+    return tx, shown, at
+
+
+def read_fields(data, pairs, at):
+    """A PSBT of version 2 behind its global map (BIP 370), and the place behind it."""
+    without_key_data(pairs, (2, 3, 4, 5, 0xFB))
+    if any(key[0] == 0 for key in pairs):
+        raise Bad
+    inputs, outputs, shown = [], [], []
+    for _ in range(counted(pairs[b"\x04"])):
+        own, at = read_map(data, at)
+        without_key_data(own, (0x0E, 0x0F, 0x10))
+        if any(key[0] in (0x11, 0x12) for key in own) or len(own[b"\x0e"]) != 32:
+            raise Bad
+        point = own[b"\x0e"], number(own[b"\x0f"], 4)
+        inputs.append((point, b"", number(own.get(b"\x10", b"\xff" * 4), 4)))
+        shown.append(spent_of(own, point))
+    for _ in range(counted(pairs[b"\x05"])):
+        own, at = read_map(data, at)
+        without_key_data(own, (3, 4))
+        outputs.append((number(own[b"\x03"], 8), own[b"\x04"]))
+    if not inputs or not outputs or sum(value for value, _ in outputs) > MAX_MONEY:
+        raise Bad
+    tx = number(pairs[b"\x02"], 4), inputs, outputs, number(pairs.get(b"\x03", bytes(4)), 4)
+    return tx, shown, at
+
+
 def psbt_of(text):
     """The transaction, and for each input the whole transaction's outputs and the output; None where it isn't readable."""
     try:
@@ -87,29 +161,10 @@ def psbt_of(text):
         if base64.b64encode(data) != text or data[:5] != b"psbt\xff":
             raise Bad
         pairs, at = read_map(data, 5)
-        tx = transaction_of(pairs[b"\x00"])
-        if any(script for _, script, _ in tx[1]) or pairs.get(b"\xfb", bytes(4)) != bytes(4):
+        version = number(pairs.get(b"\xfb", bytes(4)), 4)
+        if version not in (0, 2):
             raise Bad
-        shown = []
-        for point, _, _ in tx[1]:
-            pairs, at = read_map(data, at)
-            if any(key[:1] in (b"\x00", b"\x01") and len(key) > 1 for key in pairs):
-                raise Bad
-            whole = paid = None
-            if b"\x00" in pairs:
-                parent = read_tx(pairs[b"\x00"])
-                if parent[3] != len(pairs[b"\x00"]) or parent[0] != point[0] or point[1] >= len(parent[2]):
-                    raise Bad
-                whole = parent[2]
-            if b"\x01" in pairs:
-                value = pairs[b"\x01"]
-                script, end = string(value, 8)
-                if end != len(value) or int.from_bytes(value[:8], "little") > MAX_MONEY:
-                    raise Bad
-                paid = (int.from_bytes(value[:8], "little"), script)
-            shown.append((whole, paid))
-        for _ in tx[2]:
-            _, at = read_map(data, at)
+        tx, shown, at = (read_fields if version == 2 else read_whole)(data, pairs, at)
         if at != len(data):
             raise Bad
         return tx, shown
@@ -157,7 +212,7 @@ def pays(request, report, rows, version, inputs, outputs, locktime, shown, coins
     if version != 2 or locktime != request.given.get("locktime", 0) or outputs != due or any(one[2] != sequence for one in inputs):
         return False
     worth = sum(coin["value"] for coin in coins)
-    fees = sum(input_fee(request.rate, coin["weight"]) for coin in coins)
+    fees = sum(map(request.charge, coins))
     needed = request.paid + fee(request.rate, -(-base // 4)) + request.burden
     needed += fees + (0 if request.presets else max(0, 1 - needed))
     if change is None:
@@ -179,7 +234,7 @@ def pays(request, report, rows, version, inputs, outputs, locktime, shown, coins
     return True
 
 
-# ---- the log: specs/Due.antt, Proved.antt, Answer.antt
+# ---- the log: specs/DueSections.antt, Proved.antt, Answer.antt
 
 
 SECTION = re.compile(rf"section {N} (changeless|lean-big|lean-small) ([0-9a-fA-F]{{64}})\ntokens ([!-~]+)\nanswer (none|{N}(?: {N})*)\n")

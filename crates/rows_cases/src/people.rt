@@ -40,7 +40,7 @@ fn show_ending(rt: &HostRuntime, ending: Ending) -> Result<(), Memory> {
     match ending {
         Ending::Paid(report, log) => return show_payment(rt, report, &log),
         Ending::NotPaid(status, said) => show_unpaid(rt, status.code(), &said),
-        Ending::HighFee(fee, most) => show_high(rt, fee, most),
+        Ending::FeeAboveMaximum(fee, most) => show_high(rt, fee, most),
         Ending::Unwritten(NewFile::Log) => show(rt, b"log not written\n"),
         Ending::Unwritten(NewFile::Psbt) => show(rt, b"psbt not written\n"),
         Ending::Memory => return Err(Memory),

@@ -1,13 +1,13 @@
 //! What replacements are made from, a line each.
 
 ghost use Rattle.std.specs.Prelude.{◌<◌, IsSome};
-ghost use Rattle.fund_files.specs.Chain.{IsHeld};
+ghost use Rattle.fund_files.specs.Chain.{IsChain};
 
 use crate::candidates::put_candidates;
 use crate::shown::{put_fault, put_shown};
 use command_end::bump_fault_parts;
 use fee_bump::{BumpFault, BumpTerms, bump_terms};
-use fund_files::{Held, hold};
+use fund_files::{Chain, chain_of_wallet};
 use payment_facts::confirmed_without;
 use payment_states::all_states;
 use request_text::Request;
@@ -27,8 +27,8 @@ fn put_terms(out: &mut Answer, terms: &BumpTerms) {
 }
 
 /// Puts the terms, and the confirmed coins that may be spent without what is replaced.
-fn put_all(out: &mut Answer, held: &Held, tip: u32, terms: &BumpTerms) -> Result<(), BumpFault>
-    requires held { IsHeld held.now }
+fn put_all(out: &mut Answer, held: &Chain, tip: u32, terms: &BumpTerms) -> Result<(), BumpFault>
+    requires held { IsChain held.now }
     requires tip { tip < 4294967295 }
 {
     put_terms(out, terms);
@@ -40,8 +40,8 @@ fn put_all(out: &mut Answer, held: &Held, tip: u32, terms: &BumpTerms) -> Result
 }
 
 /// Puts what the request's payment comes to, by the wallet's book.
-fn put_held(out: &mut Answer, held: &Held, tip: u32, request: &Request) -> Result<(), BumpFault>
-    requires held { IsHeld held.now }
+fn put_held(out: &mut Answer, held: &Chain, tip: u32, request: &Request) -> Result<(), BumpFault>
+    requires held { IsChain held.now }
     requires tip { tip < 4294967295 }
     requires bump { IsSome request.now.bump }
 {
@@ -53,8 +53,8 @@ fn put_held(out: &mut Answer, held: &Held, tip: u32, request: &Request) -> Resul
 }
 
 /// Puts what the request's payment comes to, or why there is no replacement.
-fn put_ended(out: &mut Answer, held: &Held, tip: u32, request: &Request)
-    requires held { IsHeld held.now }
+fn put_ended(out: &mut Answer, held: &Chain, tip: u32, request: &Request)
+    requires held { IsChain held.now }
     requires tip { tip < 4294967295 }
     requires bump { IsSome request.now.bump }
 {
@@ -68,7 +68,7 @@ pub(crate) fn put_bump(out: &mut Answer, wallet: Wallet, tip: u32, request: &Req
     if tip == u32::MAX || request.bump.is_none() {
         return out.word("no tip or nothing to replace");
     }
-    match hold(out.alloc, wallet) {
+    match chain_of_wallet(out.alloc, wallet) {
         Ok(held) => put_ended(out, &held, tip, request),
         Err(_) => out.word("no book"),
     }

@@ -15,8 +15,15 @@ pub(crate) fn put_txid(out: &mut Answer, word: &str, txid: &Txid, is_short: bool
     }
 }
 
-/// Puts coins with their values, their depths, whether they are mine and safe, and how many ancestors and descendants they
-/// have.
+/// Puts the price of a coin that has one.
+fn put_price(out: &mut Answer, price: u64) {
+    if price > 0 {
+        out.number(" price ", price);
+    }
+}
+
+/// Puts coins with their values, their depths, whether they are mine and safe, how many ancestors and descendants they have, and
+/// their prices.
 pub(crate) fn put_candidates(out: &mut Answer, word: &str, coins: &[Candidate], is_short: bool) {
     for coin in coins {
         put_txid(out, word, &coin.coin.txid, is_short);
@@ -27,5 +34,6 @@ pub(crate) fn put_candidates(out: &mut Answer, word: &str, coins: &[Candidate], 
         out.word(if coin.safe { " safe" } else { " unsafe" });
         out.number(" ", coin.ancestors as u64);
         out.number(" ", coin.descendants as u64);
+        put_price(out, coin.price);
     }
 }

@@ -21,6 +21,7 @@ fn candidate(alloc: Global, index: u32) -> Result<Candidate, Memory> {
         safe: false,
         ancestors: 2,
         descendants: 5,
+        price: 0,
     })
 }
 

@@ -2,7 +2,8 @@
 //!
 //! - `request LABEL REQUEST`: what a copy of the request holds
 //! - `wallet LABEL WALLET`: what the wallet holds
-//! - `states LABEL WALLET TIP`: the states of a wallet's payments, and what may be spent at this tip
+//! - `states LABEL WALLET TIP RATE`: the states of a wallet's payments, and what may be spent at this tip, with its price at this
+//!   rate; a RATE may be left out for 0. `coins` with the same columns: what may be spent alone, each coin on a line
 //! - `bump LABEL WALLET TIP REQUEST`: what a replacement of the payment that the request names is made from, or why there is
 //!   none. The wallet has no blocks.
 //! - `book LABEL WALLET BLOCKS`: the coins of the book of a wallet and its blocks, and what spends them, with the blocks added
@@ -12,7 +13,7 @@ use crate::requests::{put_request, put_wallet};
 use crate::{books, bumps, states};
 use fund_base::Memory;
 use request_text::{Request, read_request};
-use row_columns::{Answer, bytes_in, column, short_in};
+use row_columns::{Answer, bytes_in, column, number_in, short_in};
 use wallet_text::{Wallet, read_wallet};
 
 /// Puts a copy of a request.
@@ -51,10 +52,18 @@ fn look(out: &mut Answer, verb: &str, wallet: &Wallet, columns: &[&str]) {
     }
 }
 
+/// Puts what may be spent of a wallet, alone or behind its states.
+fn coins(out: &mut Answer, wallet: Wallet, columns: &[&str], is_alone: bool) {
+    let tip = short_in(column(columns, 2));
+    let rate = number_in(column(columns, 3), 0);
+    states::put_states(out, wallet, tip, rate, is_alone);
+}
+
 /// Puts what a verb asks of a wallet.
 fn put_verb(out: &mut Answer, verb: &str, wallet: Wallet, columns: &[&str]) {
     match verb {
-        "states" => states::put_states(out, wallet, short_in(column(columns, 2))),
+        "states" => coins(out, wallet, columns, false),
+        "coins" => coins(out, wallet, columns, true),
         "bump" => bump(out, wallet, columns),
         _ => look(out, verb, &wallet, columns),
     }

@@ -33,6 +33,7 @@ fn pending_coin(alloc: Global, byte: u8, index: u32, value: u64) -> Result<Candi
         safe: false,
         ancestors: 1,
         descendants: 1,
+        price: 0,
     })
 }
 

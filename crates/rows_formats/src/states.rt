@@ -1,11 +1,13 @@
-//! What has become of a wallet's payments, and what it may spend. Of each txid the first four digits are put.
+//! What has become of a wallet's payments, and what it may spend. Of each txid the first four digits are put, but for coins that
+//! are put by themselves.
 
-ghost use Rattle.std.specs.Prelude.{◌<◌};
-ghost use Rattle.fund_files.specs.Chain.{IsHeld};
+ghost use Rattle.std.specs.Prelude.{◌<◌, ◌≤◌};
+ghost use Rattle.fund_files.specs.Chain.{IsChain};
 
 use crate::candidates::{put_candidates, put_txid};
+use fee_rates::MAX_RATE;
 use fund_base::{Memory, Txid};
-use fund_files::{Held, hold};
+use fund_files::{Chain, chain_of_wallet};
 use payment_states::{State, States, all_states, candidates};
 use row_columns::Answer;
 use wallet_text::Wallet;
@@ -33,26 +35,39 @@ fn put_payments(out: &mut Answer, states: &States) {
     out.word(if foreign.is_none() { "-" } else { "?" });
 }
 
-/// Puts the states of the payments of a wallet and what it may spend, by its book. The error is out of memory.
-fn put_held(out: &mut Answer, held: &Held, tip: u32) -> Result<(), Memory>
-    requires held { IsHeld held.now }
+/// Puts the states of the payments of a wallet and what it may spend at a tip and a rate, by its book; or the latter alone, each
+/// coin on a line. The error is out of memory.
+fn put_held(
+    out: &mut Answer,
+    held: &Chain,
+    tip: u32,
+    rate: u64,
+    is_alone: bool,
+) -> Result<(), Memory>
+    requires held { IsChain held.now }
     requires tip { tip < 4294967295 }
+    requires rate { rate ≤ MAX_RATE }
 {
     let states = all_states(out.alloc, &held.book, &held.wallet)?;
-    put_payments(out, &states);
-    let coins = candidates(out.alloc, &held.book, &held.wallet, &states, tip)?;
-    put_candidates(out, "; ", &coins, true);
+    let coins = candidates(out.alloc, &held.book, &held.wallet, &states, tip, rate)?;
+    if is_alone {
+        out.number("coins ", coins.len() as u64);
+        put_candidates(out, "\n", &coins, false);
+    } else {
+        put_payments(out, &states);
+        put_candidates(out, "; ", &coins, true);
+    }
     Ok(())
 }
 
-/// Puts the states of a wallet's payments and what it may spend.
-pub(crate) fn put_states(out: &mut Answer, wallet: Wallet, tip: u32) {
-    if tip == u32::MAX {
-        return out.word("no tip");
+/// Puts the states of a wallet's payments and what it may spend, or the latter alone.
+pub(crate) fn put_states(out: &mut Answer, wallet: Wallet, tip: u32, rate: u64, is_alone: bool) {
+    if tip == u32::MAX || rate > MAX_RATE {
+        return out.word("no tip or no rate");
     }
-    match hold(out.alloc, wallet) {
+    match chain_of_wallet(out.alloc, wallet) {
         Ok(held) => {
-            let ended = put_held(out, &held, tip);
+            let ended = put_held(out, &held, tip, rate, is_alone);
             out.end(ended);
         }
         Err(_) => out.word("no book"),

@@ -109,7 +109,7 @@ fn half_written(bytes: &Vec<u8>, at: usize, more: &[u8]) -> Result<Vec<u8>, Allo
     Ok(torn)
 }
 
-/// Counts a failure for want of memory.
+/// Counts a failure for being out of memory.
 fn count(outcome: Result<(), AllocError>, faults: &mut u64) -> io::Result<()>
     ensures variant { is_ok result ≡ is_ok outcome }
     ensures kind { finds_no_room result ≡ false }

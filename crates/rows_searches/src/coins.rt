@@ -1,6 +1,6 @@
-//! Coins as rows spell them: `COUNT*TXID/VALUE/WEIGHT/SCRIPT/DEPTH/mine/safe/ANCESTORS/DESCENDANTS` each, with blanks
-//! between them, where TXID is one byte of 32 and SCRIPT the second of two. A coin is the output of its place in the
-//! list.
+//! Coins as rows spell them: `COUNT*TXID/VALUE/WEIGHT/SCRIPT/DEPTH/mine/safe/ANCESTORS/DESCENDANTS/PRICE` each, with blanks
+//! between them, where TXID is one byte of 32 and SCRIPT the second of two. PRICE may be left out for 0. A coin is the
+//! output of its place in the list.
 
 ghost use Rattle.std.specs.Prelude.{◌≤◌, IfOk, IfSome, length};
 ghost use Rattle.coin_candidates.specs.Candidates.{AreCandidates};
@@ -22,6 +22,7 @@ struct Coin {
     safe: bool,
     ancestors: u32,
     descendants: u32,
+    price: u64,
 }
 
 /// The coin of these words. A word that is no number is read as 0.
@@ -36,6 +37,7 @@ fn coin_of(words: &[&str]) -> Coin {
         safe: column(words, 6) == "safe",
         ancestors: short_in(column(words, 7)),
         descendants: short_in(column(words, 8)),
+        price: number_in(column(words, 9), 0),
     }
 }
 
@@ -83,6 +85,7 @@ fn listed(alloc: Global, coins: &[Coin]) -> Result<Vec<Candidate>, Memory>
             safe: coin.safe,
             ancestors: coin.ancestors,
             descendants: coin.descendants,
+            price: coin.price.min(MAX_MONEY),
         })?;
     }
     Ok(list)

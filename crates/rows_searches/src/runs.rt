@@ -5,7 +5,7 @@
 //! - `go=TRIES`: goes on, and tells the tries so far and the step at which it stands
 //! - `end=stop` or `end=take`: what it comes to, a result being taken for want of tries or not
 //! - `log=whole` or `log=partial`: the text of its log
-//! - `saved=JOB=PARTS`: the text of what is saved of it
+//! - `saved=JOB=PARTS=LOG`: the text of what is saved of it, with this digest of its log; without one where the last word is left out
 //! - `restore=SAVED=LOG`: goes on from two texts, or tells why not
 //! - `verify`: whether its log is accepted
 //! - `step`: the step at which it stands
@@ -20,8 +20,9 @@ use closing_log::{LogText, Worded, read_sections, write_sections};
 use fund_base::Memory;
 use pick_problem::Progress;
 use row_columns::{Answer, column, digest_in, number_in, short_in, unescaped};
-use search_keep::{Saved, Walk, read_saved, write_saved};
+use search_keep::{Saved, read_saved, write_saved};
 use search_run::{RestoreRefused, SearchRun, Step, VerifyFault, open_section, section};
+use walk_engine::Search;
 
 /// Puts where a run stands: its tries, and the row and the stage of its step.
 fn put_stand(out: &mut Answer, run: &SearchRun) {
@@ -51,7 +52,8 @@ fn put_saved(out: &mut Answer, run: &SearchRun, columns: &[&str]) -> Result<(), 
         out.word("no job");
         return Ok(());
     };
-    match run.saved(job, short_in(column(columns, 2)))? {
+    let log = digest_in(column(columns, 3));
+    match run.saved(job, short_in(column(columns, 2)), log)? {
         Some(saved) => out.bytes("saved ", write_saved(out.alloc, &saved)),
         None => out.word("saved none"),
     }
@@ -121,7 +123,7 @@ fn put_step(out: &mut Answer, step: &Step) {
 
 /// Puts the section of a new search of a step after so many tries. The error is out of memory.
 fn put_section(out: &mut Answer, step: &Step, tries: u64) -> Result<(), Memory> {
-    let mut walk = Walk::new(out.alloc, step.problem())?;
+    let mut walk = Search::new(out.alloc, step.problem())?;
     walk.reserve(tries)?;
     match walk.advance(tries) {
         Progress::Open => {

@@ -6,7 +6,7 @@ use fund_base::Memory;
 use row_columns::{Answer, places_of};
 use search_keep::{Saved, SavedFault, read_saved, write_saved};
 
-/// Puts all that is saved.
+/// Puts all that is saved, the digest of the log where there is one.
 fn put_saved(out: &mut Answer, saved: &Saved) {
     out.digits("job ", &saved.job);
     out.number(", tries ", saved.tries);
@@ -17,6 +17,9 @@ fn put_saved(out: &mut Answer, saved: &Saved) {
     out.number(", next ", u64::from(saved.next));
     out.best(", best ", places_of(&saved.best));
     out.number(", parts ", u64::from(saved.parts));
+    if let Some(digest) = &saved.log {
+        out.digits(", log ", digest);
+    }
 }
 
 /// Puts a fault by its name, with its place or its digests.
