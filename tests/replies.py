@@ -62,7 +62,7 @@ class Open:
         if said[0] != b"committed":
             return None
         read = psbt_of(said[3])
-        if read is None or shown(Desk.txid(said[3].decode())).encode() != said[2]:
+        if read is None or shown(Desk.txid(read[0])).encode() != said[2]:
             return "no PSBT, or another txid than its own"
         points = {one[0] for one in read[0][1]}
         if any(points & other for other in self.payments.values()):
