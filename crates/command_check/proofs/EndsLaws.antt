@@ -94,6 +94,7 @@ module _ (told_files told : Type 0) (s : Sources) (p : Payment) (report : List �
     ends_due none statuses.Unfinished h = absurd h
     ends_due none statuses.NoSelection h = absurd h
     ends_due none statuses.CheckRefused h = inl (inl (status_by (Broken h.0) (h.2 t)))
+    ends_due none statuses.Settle h = absurd h
 
     or_less : (result : Status) → ((result ≡ status_of o) ⊎ (result ≡ statuses.Memory)) ⊎ (IsAnAcceptance o × Rose sink.faults sink'.faults) → (IsAnAcceptance o → Rose sink.faults sink'.faults → ⊥) → (result ≡ status_of o) ⊎ (result ≡ statuses.Memory)
     or_less result (inl h) not = h

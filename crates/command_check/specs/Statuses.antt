@@ -28,7 +28,7 @@ use Rattle.command_inputs.specs.Inputs as inputs
 use Rattle.command_inputs.specs.Names.{Payment}
 use Rattle.command_inputs.specs.Replacing.{ReplacesIf}
 use Rattle.command_inputs.specs.Results as payments
-use Rattle.command_check.specs.Outcome.{Accepted, Broken, ComesTo, TooLong}
+use Rattle.command_check.specs.Outcome.{Accepted, Broken, ComesTo, IsAnAcceptance, Outcome, TooLong, status_of}
 use Rattle.command_check.specs.Evidence.{IsPlanOf, IsReached, IsUnread, evidence_name}
 use Rattle.command_check.specs.Words.{accepted_text, check_fault_words, evidence_word}
 use Rattle.command_check.specs.declared.stop.CheckedFile.{CheckedFile}
@@ -127,6 +127,7 @@ Ends told_files told s p report shelf shelf' sink sink' statuses.KeepFault = ⊥
 Ends told_files told s p report shelf shelf' sink sink' statuses.Memory = EndsWithoutMemory told_files told s p report shelf sink sink'
 Ends told_files told s p report shelf shelf' sink sink' statuses.Saved = ⊥
 Ends told_files told s p report shelf shelf' sink sink' statuses.CheckRefused = EndsBroken told_files told s p report shelf sink sink'
+Ends told_files told s p report shelf shelf' sink sink' statuses.Settle = ⊥
 
 -- ---- where nothing failed
 
@@ -139,3 +140,12 @@ pub record NoneUnread (s : Sources) (p : Payment) (report : List ℕ) (shelf she
 pub record NoneFailed (s : Sources) (p : Payment) (report : List ℕ) (shelf shelf' : ShelfView) (sink sink' : SinkView) : Type 0 where
   pub reads : NoneUnread s p report shelf shelf'
   pub sinks : Rose sink.faults sink'.faults → ⊥
+
+-- ---- the status that is due
+
+-- What the files come to is told, or that there was not enough memory.
+pub record IsDueStatus (told : Type 0) (s : Sources) (p : Payment) (report : List ℕ) (shelf shelf' : ShelfView) (sink sink' : SinkView) (status : Status) : Type 0 where
+  -- Where the report isn't accepted and the files were read, the status is that of the refusal, even if the sink fails.
+  pub refused : told → NoneUnread s p report shelf shelf' → (o : Outcome) → ComesTo shelf.files s p report o → (IsAnAcceptance o → ⊥) → (status ≡ status_of o) ⊎ (status ≡ statuses.Memory)
+  -- Where no count rose, the status is that of what the files come to, or out of memory.
+  pub complete : told → NoneFailed s p report shelf shelf' sink sink' → (o : Outcome) → ComesTo shelf.files s p report o → (status ≡ status_of o) ⊎ (status ≡ statuses.Memory)

@@ -1,16 +1,12 @@
 //! The command.
 
-ghost use Rattle.std.specs.Prelude.{◌≡◌, ◌≢◌, ◌⊎◌};
+ghost use Rattle.std.specs.Prelude.{◌≡◌, ◌≢◌};
 ghost use Rattle.fund_shelf.specs.Causes.{CountsNeverFall, OnlyReads};
-ghost use Rattle.fund_steps.specs.Plan.{PlainPlan};
 ghost use Rattle.command_end.specs.Names.{plain_sources};
 ghost use Rattle.command_end.specs.Printed.{TellsWhole, TookAll};
-ghost use Rattle.command_inputs.specs.Inputs.{NoneBehind};
 ghost use Rattle.command_inputs.specs.Names.{plain_payment};
-ghost use Rattle.command_check.specs.Asked.{AsksInOrder, AsksNoLog, AsksPayment};
-ghost use Rattle.command_check.specs.Outcome.{ComesTo, IsAnAcceptance, Outcome, status_of};
-ghost use Rattle.command_check.specs.Evidence.{HasLoggedReport, HavePlan};
-ghost use Rattle.command_check.specs.Statuses.{Ends, NoneFailed, NoneUnread};
+ghost use Rattle.command_check.specs.Asked.{AsksFiles};
+ghost use Rattle.command_check.specs.Statuses.{Ends, IsDueStatus};
 
 use crate::answer::answer;
 use crate::judging::accepted;
@@ -39,13 +35,12 @@ pub fn check<H: Shelf, O: Sink>(
     // By the status: what was found in the files, what an accepted report vouches for, and what the sink has got.
     ensures ends { Ends H.tells O.tells (plain_sources sources.now) (plain_payment payment.now) report.now (H.view shelf.old) (H.view shelf.new) (O.view out.old) (O.view out.new) result }
 
-    // Where the report isn't accepted and the files were read, the status is that of the refusal, even if the sink fails.
-    ensures refused { H.tells → NoneUnread (plain_sources sources.now) (plain_payment payment.now) report.now (H.view shelf.old) (H.view shelf.new) → (o : Outcome) → ComesTo (H.view shelf.old).files (plain_sources sources.now) (plain_payment payment.now) report.now o → (IsAnAcceptance o → ⊥) → (result ≡ status_of o) ⊎ (result ≡ Status.Memory) }
+    // Where the report isn't accepted and the files were read, the status is that of the refusal, even if the sink fails. Where
+    // no count rose, it is that of what the files come to. Out of memory may come in place of either.
+    ensures due { IsDueStatus H.tells (plain_sources sources.now) (plain_payment payment.now) report.now (H.view shelf.old) (H.view shelf.new) (O.view out.old) (O.view out.new) result }
 
-    // Where no count rose, the status is that of what the files come to, or out of memory.
-    ensures complete { H.tells → NoneFailed (plain_sources sources.now) (plain_payment payment.now) report.now (H.view shelf.old) (H.view shelf.new) (O.view out.old) (O.view out.new) → (o : Outcome) → ComesTo (H.view shelf.old).files (plain_sources sources.now) (plain_payment payment.now) report.now o → (result ≡ status_of o) ⊎ (result ≡ Status.Memory) }
-
-    // A read that failed is told as that, and as nothing else; an output that failed is never told as an acceptance.
+    // A read that failed is told as that, and as nothing else; an output that failed or found no memory is never told as an
+    // acceptance.
     ensures all_read { result ≢ Status.ReadFault → (H.view shelf.new).reads ≡ (H.view shelf.old).reads }
     ensures all_put { TellsWhole result → TookAll (O.view out.old) (O.view out.new) }
 
@@ -56,10 +51,7 @@ pub fn check<H: Shelf, O: Sink>(
     // It asks for the wallet file, the block file, the request, the report and the log, in this order, and for no other
     // name: for no log where the report isn't in its grammar, is too long, or is of an unfinished run; for neither where the
     // payment is refused; and behind a file that is refused for none.
-    ensures asked { H.tells → AsksInOrder (plain_sources sources.now) (plain_payment payment.now) report.now (H.view shelf.old) (H.view shelf.new) }
-    ensures none_behind { H.tells → NoneBehind (plain_sources sources.now) (H.view shelf.old) (H.view shelf.new) }
-    ensures no_log { H.tells → (HasLoggedReport ((H.view shelf.old).files report.now) → ⊥) → AsksNoLog (plain_sources sources.now) (plain_payment payment.now) report.now (H.view shelf.old) (H.view shelf.new) }
-    ensures unread { H.tells → ((plan : PlainPlan) → HavePlan (H.view shelf.old).files (plain_sources sources.now) (plain_payment payment.now) plan → ⊥) → AsksPayment (plain_sources sources.now) (plain_payment payment.now) (H.view shelf.old) (H.view shelf.new) }
+    ensures asks { AsksFiles H.tells (plain_sources sources.now) (plain_payment payment.now) report.now (H.view shelf.old) (H.view shelf.new) }
 {
     match accepted(alloc, sources, payment, report, shelf) {
         Ok(text) => put_report(text.as_bytes(), Status::Done, out),

@@ -82,3 +82,4 @@ Ends told_files told s shelf shelf' sink sink' statuses.KeepFault = ⊥
 Ends told_files told s shelf shelf' sink sink' statuses.Memory = EndsWithoutMemory told_files told s shelf sink sink'
 Ends told_files told s shelf shelf' sink sink' statuses.Saved = ⊥
 Ends told_files told s shelf shelf' sink sink' statuses.CheckRefused = ⊥
+Ends told_files told s shelf shelf' sink sink' statuses.Settle = ⊥

@@ -99,6 +99,7 @@ module _ (told_files told : Type 0) (s : Sources) (name : List ℕ) (shelf shelf
     ends_due none statuses.Unfinished h = absurd h
     ends_due none statuses.NoSelection h = absurd h
     ends_due none statuses.CheckRefused h = absurd h
+    ends_due none statuses.Settle h = absurd h
 
     or_less : (result : Status) → ((result ≡ status_of o) ⊎ (result ≡ statuses.Memory)) ⊎ (IsACompletion o × Rose sink.faults sink'.faults) → (IsACompletion o → Rose sink.faults sink'.faults → ⊥) → (result ≡ status_of o) ⊎ (result ≡ statuses.Memory)
     or_less result (inl h) not = h

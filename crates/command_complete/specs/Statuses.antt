@@ -15,7 +15,7 @@ use Rattle.command_end.specs.Lines.{GotLine, fault_line, file_refusal_words, sta
 use Rattle.command_end.specs.Names.{Sources}
 use Rattle.command_end.specs.declared.status.Status.{Status}
 use Rattle.command_end.specs.declared.status.Status.TheVariants as statuses
-use Rattle.command_complete.specs.Outcome.{BadPsbt, ComesTo, Completed, HasBook, Refused, TooLong}
+use Rattle.command_complete.specs.Outcome.{BadPsbt, ComesTo, Completed, HasBook, IsACompletion, Outcome, Refused, TooLong, status_of}
 use Rattle.command_complete.specs.Made.{IsCompletedFile}
 use Rattle.command_complete.specs.Words.{refusal_words}
 use Rattle.command_complete.specs.declared.stop.Refusal.{Refusal}
@@ -83,6 +83,7 @@ Ends told_files told s name shelf shelf' sink sink' statuses.KeepFault = ⊥
 Ends told_files told s name shelf shelf' sink sink' statuses.Memory = EndsWithoutMemory told_files told s name shelf sink sink'
 Ends told_files told s name shelf shelf' sink sink' statuses.Saved = ⊥
 Ends told_files told s name shelf shelf' sink sink' statuses.CheckRefused = ⊥
+Ends told_files told s name shelf shelf' sink sink' statuses.Settle = ⊥
 
 -- ---- where nothing failed
 
@@ -95,3 +96,12 @@ pub record NoneUnread (s : Sources) (name : List ℕ) (shelf shelf' : ShelfView)
 pub record NoneFailed (s : Sources) (name : List ℕ) (shelf shelf' : ShelfView) (sink sink' : SinkView) : Type 0 where
   pub reads : NoneUnread s name shelf shelf'
   pub sinks : Rose sink.faults sink'.faults → ⊥
+
+-- ---- the status that is due
+
+-- What the files come to is told, or that there was not enough memory.
+pub record IsDueStatus (told : Type 0) (s : Sources) (name : List ℕ) (shelf shelf' : ShelfView) (sink sink' : SinkView) (status : Status) : Type 0 where
+  -- Where the PSBT isn't made whole and the files were read, the status is that of the refusal, even if the sink fails.
+  pub refused : told → NoneUnread s name shelf shelf' → (o : Outcome) → ComesTo shelf.files s name o → (IsACompletion o → ⊥) → (status ≡ status_of o) ⊎ (status ≡ statuses.Memory)
+  -- Where no count rose, the status is that of what the files come to, or out of memory.
+  pub complete : told → NoneFailed s name shelf shelf' sink sink' → (o : Outcome) → ComesTo shelf.files s name o → (status ≡ status_of o) ⊎ (status ≡ statuses.Memory)

@@ -1,15 +1,11 @@
 //! The command.
 
-ghost use Rattle.std.specs.Prelude.{◌≡◌, ◌≢◌, ◌⊎◌, [], ◌∷◌};
-ghost use Rattle.fund_shelf.specs.Causes.{Asks, CountsNeverFall, OnlyReads};
-ghost use Rattle.coin_book.specs.History.{History};
-ghost use Rattle.fund_files.specs.Cause.{FileCause};
-ghost use Rattle.fund_files.specs.FileStops.{IsWalletCause};
+ghost use Rattle.std.specs.Prelude.{◌≡◌, ◌≢◌};
+ghost use Rattle.fund_shelf.specs.Causes.{CountsNeverFall, OnlyReads};
 ghost use Rattle.command_end.specs.Names.{plain_sources};
 ghost use Rattle.command_end.specs.Printed.{TellsWhole, TookAll};
-ghost use Rattle.command_complete.specs.Asked.{AsksChain, AsksInOrder, AsksToUnread};
-ghost use Rattle.command_complete.specs.Outcome.{ComesTo, HasBook, IsACompletion, Outcome, status_of};
-ghost use Rattle.command_complete.specs.Statuses.{Ends, NoneFailed, NoneUnread};
+ghost use Rattle.command_complete.specs.Asked.{AsksFiles};
+ghost use Rattle.command_complete.specs.Statuses.{Ends, IsDueStatus};
 
 use crate::answer::answer;
 use crate::files::completed;
@@ -34,14 +30,12 @@ pub fn complete<H: Shelf, O: Sink>(
     // By the status: what was found in the files, and what the sink has got.
     ensures ends { Ends H.tells O.tells (plain_sources sources.now) psbt.now (H.view shelf.old) (H.view shelf.new) (O.view out.old) (O.view out.new) result }
 
-    // Where the PSBT isn't made whole and the files were read, the status is that of the refusal, even if the sink fails.
-    ensures refused { H.tells → NoneUnread (plain_sources sources.now) psbt.now (H.view shelf.old) (H.view shelf.new) → (o : Outcome) → ComesTo (H.view shelf.old).files (plain_sources sources.now) psbt.now o → (IsACompletion o → ⊥) → (result ≡ status_of o) ⊎ (result ≡ Status.Memory) }
+    // Where the PSBT isn't made whole and the files were read, the status is that of the refusal, even if the sink fails. Where
+    // no count rose, it is that of what the files come to. Out of memory may come in place of either.
+    ensures due { IsDueStatus H.tells (plain_sources sources.now) psbt.now (H.view shelf.old) (H.view shelf.new) (O.view out.old) (O.view out.new) result }
 
-    // Where no count rose, the status is that of what the files come to, or out of memory.
-    ensures complete { H.tells → NoneFailed (plain_sources sources.now) psbt.now (H.view shelf.old) (H.view shelf.new) (O.view out.old) (O.view out.new) → (o : Outcome) → ComesTo (H.view shelf.old).files (plain_sources sources.now) psbt.now o → (result ≡ status_of o) ⊎ (result ≡ Status.Memory) }
-
-    // Nothing is written; a read that failed is told as that, and as nothing else; and an output that failed is never told as
-    // a PSBT made whole.
+    // Nothing is written; a read that failed is told as that, and as nothing else; and an output that failed or found no memory
+    // is never told as a PSBT made whole.
     ensures frame { OnlyReads H.tells (H.view shelf.old) (H.view shelf.new) }
     ensures all_read { result ≢ Status.ReadFault → (H.view shelf.new).reads ≡ (H.view shelf.old).reads }
     ensures all_put { TellsWhole result → TookAll (O.view out.old) (O.view out.new) }
@@ -50,10 +44,7 @@ pub fn complete<H: Shelf, O: Sink>(
     // It asks for the wallet file, the block file and the PSBT file, in this order, and for no other name: for none after
     // one that wasn't read, for none after a wallet file that is refused, and for no PSBT file where the other two hold no
     // book.
-    ensures asked { H.tells → AsksInOrder (plain_sources sources.now) psbt.now (H.view shelf.old) (H.view shelf.new) }
-    ensures unread_last { H.tells → result ≡ Status.ReadFault → AsksToUnread (plain_sources sources.now) psbt.now (H.view shelf.old) (H.view shelf.new) }
-    ensures refused_alone { H.tells → (cause : FileCause) → IsWalletCause ((H.view shelf.old).files sources.now.wallet.now) cause → Asks (sources.now.wallet.now ∷ []) (H.view shelf.old).asked (H.view shelf.new).asked }
-    ensures chain_alone { H.tells → ((h : History) → HasBook (H.view shelf.old).files (plain_sources sources.now) h → ⊥) → AsksChain (plain_sources sources.now) (H.view shelf.old) (H.view shelf.new) }
+    ensures asks { AsksFiles H.tells (plain_sources sources.now) psbt.now (H.view shelf.old) (H.view shelf.new) result }
 {
     match completed(alloc, sources, psbt, shelf) {
         Ok(text) => put_report(&text, Status::Done, out),

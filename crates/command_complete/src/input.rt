@@ -8,7 +8,7 @@ ghost use Rattle.command_complete.specs.Completed.{IsCompletedInput, due_for};
 ghost use Rattle.command_complete.specs.Faults.{CanBeCompleted, IsInputFault};
 
 use crate::fault::CompleteFault;
-use coin_book::Book;
+use coin_book::Known;
 use fund_base::Memory;
 use psbt_codec::Spent;
 use std::alloc::Global;
@@ -16,7 +16,7 @@ use tx_codec::{Tx, TxIn, TxOut};
 
 /// The whole transaction that is due beside an input: the one that stands there, or else that of the book's coin at the
 /// outpoint that the input spends.
-fn due_for<'a>(book: &'a Book, input: &TxIn, known: &'a Spent) -> Option<&'a Tx>
+fn due_for<'a>(book: &'a Known<'a>, input: &TxIn, known: &'a Spent) -> Option<&'a Tx>
     ensures { option_copied result ≡ due_for book.now (input.now, known.now) }
 {
     match &known.whole {
@@ -63,7 +63,7 @@ fn copy_paid(alloc: Global, paid: &Option<TxOut>) -> Result<Option<TxOut>, Memor
 /// what is wrong with the input. Memory is taken for what is copied, so only where nothing is wrong.
 pub fn completed_input(
     alloc: Global,
-    book: &Book,
+    book: &Known<'_>,
     index: u64,
     input: &TxIn,
     known: &Spent,

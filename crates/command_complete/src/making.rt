@@ -10,7 +10,7 @@ ghost use Rattle.command_complete.specs.declared.stop.Stop.TheVariants as stops;
 
 use crate::psbt::complete_psbt;
 use crate::stop::{Refusal, Stop};
-use coin_book::Book;
+use coin_book::Known;
 use fund_base::{Memory, are_bytes};
 use fund_files::Chain;
 use psbt_codec::{Psbt, PsbtFault, Versioned, read_text, to_text, write_psbt, write_text};
@@ -81,7 +81,7 @@ fn text_of(alloc: Global, psbt: &Psbt, version: u32) -> Result<Vec<u8>, Memory>
 }
 
 /// What is printed of the bytes of a PSBT file, made whole from a book; or why they are refused.
-fn completed_text(alloc: Global, book: &Book, file: &[u8]) -> Result<Vec<u8>, Stop>
+fn completed_text(alloc: Global, book: &Known<'_>, file: &[u8]) -> Result<Vec<u8>, Stop>
     requires { HasTexts book.now }
     ensures made { IfOk result (λ text. IsCompletedFile book.now file.now text.items) }
     ensures stop { IfErr result (StopsAtFile book.now file.now) }
@@ -101,5 +101,6 @@ pub fn made(alloc: Global, held: &Chain, file: &[u8]) -> Result<Vec<u8>, Stop>
     ensures made { IfOk result (λ text. IsCompletedFile held.now.book file.now text.items) }
     ensures stop { IfErr result (StopsAtFile held.now.book file.now) }
 {
-    completed_text(alloc, &held.book, file)
+    let book = held.book.known();
+    completed_text(alloc, &book, file)
 }

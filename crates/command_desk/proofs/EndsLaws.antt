@@ -58,6 +58,7 @@ module _ (told_files told : Type 0) (names : List (List ℕ)) (text : List ℕ) 
   runs_behind statuses.KeepFault h = absurd h
   runs_behind statuses.Saved h = absurd h
   runs_behind statuses.CheckRefused h = absurd h
+  runs_behind statuses.Settle h = absurd h
 
 -- ---- the command
 

@@ -124,6 +124,7 @@ module _ (told_files told : Type 0) (s : Sources) (script : List ℕ) (shelf she
   run_due none statuses.KeepFault h = absurd h.runs
   run_due none statuses.Saved h = absurd h.runs
   run_due none statuses.CheckRefused h = absurd h.runs
+  run_due none statuses.Settle h = absurd h.runs
 
   pub ends_complete : NoneFailed s script shelf shelf' sink sink' → (result : Status) → Ends told_files told s script shelf shelf' sink sink' result → (result ≡ status_of (outcome_of shelf.files s script)) ⊎ (result ≡ statuses.Memory)
   unfolding due
@@ -144,6 +145,7 @@ module _ (told_files told : Type 0) (s : Sources) (script : List ℕ) (shelf she
   ends_complete none statuses.KeepFault (inl h) = absurd h
   ends_complete none statuses.Saved (inl h) = absurd h
   ends_complete none statuses.CheckRefused (inl h) = absurd h
+  ends_complete none statuses.Settle (inl h) = absurd h
 
   -- ---- what is refused
 
@@ -165,6 +167,7 @@ module _ (told_files told : Type 0) (s : Sources) (script : List ℕ) (shelf she
     run_refused statuses.KeepFault h = absurd h.runs
     run_refused statuses.Saved h = absurd h.runs
     run_refused statuses.CheckRefused h = absurd h.runs
+    run_refused statuses.Settle h = absurd h.runs
 
     pub ends_refused : (result : Status) → Ends told_files told s script shelf shelf' sink sink' result → (result ≡ status_of (outcome_of shelf.files s script)) ⊎ (result ≡ statuses.Memory)
     unfolding due
@@ -185,3 +188,4 @@ module _ (told_files told : Type 0) (s : Sources) (script : List ℕ) (shelf she
     ends_refused statuses.KeepFault (inl h) = absurd h
     ends_refused statuses.Saved (inl h) = absurd h
     ends_refused statuses.CheckRefused (inl h) = absurd h
+    ends_refused statuses.Settle (inl h) = absurd h

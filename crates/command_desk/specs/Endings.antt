@@ -52,3 +52,4 @@ EndsBefore told_files told s script shelf shelf' sink sink' statuses.WriteFault 
 EndsBefore told_files told s script shelf shelf' sink sink' statuses.KeepFault = ⊥
 EndsBefore told_files told s script shelf shelf' sink sink' statuses.Saved = ⊥
 EndsBefore told_files told s script shelf shelf' sink sink' statuses.CheckRefused = ⊥
+EndsBefore told_files told s script shelf shelf' sink sink' statuses.Settle = ⊥

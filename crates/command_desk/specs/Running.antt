@@ -84,3 +84,4 @@ RunsOn told_files told names text d shelf shelf' sink sink' statuses.Input = ⊥
 RunsOn told_files told names text d shelf shelf' sink sink' statuses.KeepFault = ⊥
 RunsOn told_files told names text d shelf shelf' sink sink' statuses.Saved = ⊥
 RunsOn told_files told names text d shelf shelf' sink sink' statuses.CheckRefused = ⊥
+RunsOn told_files told names text d shelf shelf' sink sink' statuses.Settle = ⊥

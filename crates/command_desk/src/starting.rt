@@ -14,7 +14,7 @@ use crate::stop::{Stop, read_stop};
 use command_end::Sources;
 use fund_base::Memory;
 use fund_desk::Desk;
-use fund_files::{Chain, Stop as ChainStop, read_chain};
+use fund_files::{Stop as ChainStop, WholeChain, read_whole_chain};
 use fund_shelf::{Shelf, read_whole};
 use std::alloc::Global;
 
@@ -31,11 +31,11 @@ pub struct Start {
 }
 
 /// The desk of a wallet and its chain, at which nothing was done yet. The error is out of memory.
-fn desk_of(alloc: Global, held: Chain) -> Result<Desk, Memory>
+fn desk_of(alloc: Global, held: WholeChain) -> Result<Desk, Memory>
     requires { IsChain held }
     ensures { IfOk result (λ d. d ≡ new_desk held) }
 {
-    let Chain { wallet, book, tip } = held;
+    let WholeChain { wallet, book, tip } = held;
     Desk::new(alloc, wallet, book, tip.height, tip.hash)
 }
 
@@ -57,7 +57,7 @@ fn script_text<H: Shelf>(alloc: Global, script: &str, shelf: &mut H) -> Result<V
 /// The desk of a wallet and its chain, and the text of the script, which is read.
 fn start_with<H: Shelf>(
     alloc: Global,
-    held: Chain,
+    held: WholeChain,
     script: &str,
     shelf: &mut H,
 ) -> Result<Start, Stop>
@@ -93,7 +93,7 @@ pub fn read_start<H: Shelf>(
     ensures all_read { result ≢ Err Stop.Unread → ((file : File) → result ≢ Err (Stop.Chain (ChainStop.Read file))) → (H.view shelf.new).reads ≡ (H.view shelf.old).reads }
     ensures none_behind { H.tells → NoneBehind (plain_sources sources.now) script.now (H.view shelf.old) (H.view shelf.new) }
 {
-    match read_chain(alloc, sources.wallet, sources.blocks, shelf) {
+    match read_whole_chain(alloc, sources.wallet, sources.blocks, shelf) {
         Ok(held) => start_with(alloc, held, script, shelf),
         Err(stop) => Err(Stop::Chain(stop)),
     }

@@ -23,6 +23,7 @@ TellsWhole statuses.Memory = ⊥
 TellsWhole statuses.Saved = ⊥
 TellsWhole statuses.Limit = ⊥
 TellsWhole statuses.CheckRefused = ⊥
+TellsWhole statuses.Settle = ⊥
 
 -- Between two moments of a sink no put failed and none found no memory.
 pub record TookAll (before now : SinkView) : Type 0 where

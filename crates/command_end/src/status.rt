@@ -30,6 +30,8 @@ pub enum Status {
     NoSelection,
     /// A report isn't accepted with its log.
     CheckRefused,
+    /// A signed transaction isn't the payment of its report, or doesn't pay what was asked.
+    Settle,
 }
 
 impl Status {
@@ -52,6 +54,7 @@ impl Status {
             Status::Unfinished => 10,
             Status::NoSelection => 11,
             Status::CheckRefused => 12,
+            Status::Settle => 13,
         }
     }
 }

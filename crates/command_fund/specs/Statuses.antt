@@ -79,3 +79,4 @@ Ends told_files told told_jobs s p job shelf shelf' sink sink' keeper keeper' st
 Ends told_files told told_jobs s p job shelf shelf' sink sink' keeper keeper' statuses.Memory = EndsWithoutMemory told_files told told_jobs s p job shelf shelf' sink sink' keeper keeper'
 Ends told_files told told_jobs s p job shelf shelf' sink sink' keeper keeper' statuses.Saved = ⊥
 Ends told_files told told_jobs s p job shelf shelf' sink sink' keeper keeper' statuses.CheckRefused = ⊥
+Ends told_files told told_jobs s p job shelf shelf' sink sink' keeper keeper' statuses.Settle = ⊥

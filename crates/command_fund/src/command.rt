@@ -7,7 +7,8 @@ ghost use Rattle.kept_job.specs.SavingRules.{CanBeKept};
 ghost use Rattle.command_end.specs.Names.{plain_sources};
 ghost use Rattle.command_end.specs.Printed.{TellsWhole, TookAll};
 ghost use Rattle.command_inputs.specs.Digest.{HasDigest};
-ghost use Rattle.command_inputs.specs.Inputs.{AsksInOrder, NoneBehind};
+ghost use Rattle.command_inputs.specs.Failures.{TellsEachFailure};
+ghost use Rattle.command_inputs.specs.Inputs.{AsksFiles, AsksInOrder, NoneBehind};
 ghost use Rattle.command_inputs.specs.Jobs.{KeepsJobs};
 ghost use Rattle.command_fund.specs.Leaving.{HasLeft};
 ghost use Rattle.command_inputs.specs.Names.{plain_job, plain_payment};
@@ -77,8 +78,10 @@ fn leave<O: Sink, K: Keeper>(
 /// Funds a payment with the request's tries: it reads the three files, writes the log, and then prints the report to `out`.
 /// Where the run is unfinished, it writes no log: the tries are used up, a search is open, and nothing is taken. Where there
 /// is a job, it then keeps the run as that, from its first part on, before it prints the report, which is made before; the
-/// job's digest is that of the bytes that were read. A finished run keeps nothing. What is refused gets its fault line there. Where the request names a payment to be replaced,
-/// the payment replaces that one by the rules of BIP 125, or the request is refused.
+/// job's digest is that of the bytes that were read. A finished run keeps nothing. What is refused gets its fault line there.
+///
+/// Where the request names a payment to be replaced, the payment replaces that one by the rules of BIP 125, or the request is
+/// refused.
 ///
 /// The clauses on content hold where the shelf, the sink and the keeper tell theirs.
 pub fn fund<H: Shelf, O: Sink, K: Keeper>(
@@ -101,18 +104,11 @@ pub fn fund<H: Shelf, O: Sink, K: Keeper>(
 
     // It asks for the wallet file, then for the block file, then for the request, with a job and without; and for no other
     // name. Behind a file that is refused it asks for none.
-    ensures asked { H.tells → AsksInOrder (plain_sources sources.now) (plain_payment payment.now) (H.view shelf.old) (H.view shelf.new) }
-    ensures none_behind { H.tells → NoneBehind (plain_sources sources.now) (H.view shelf.old) (H.view shelf.new) }
+    ensures asks { AsksFiles H.tells (plain_sources sources.now) (plain_payment payment.now) (H.view shelf.old) (H.view shelf.new) }
 
-    // A read that failed is told as that, and as nothing else.
-    ensures all_read { result ≢ Status.ReadFault → (H.view shelf.new).reads ≡ (H.view shelf.old).reads }
-
-    // So is a write that failed; and an output that failed is never told as success.
-    ensures all_written { result ≢ Status.WriteFault → (H.view shelf.new).writes ≡ (H.view shelf.old).writes }
-    ensures all_put { TellsWhole result → TookAll (O.view out.old) (O.view out.new) }
-
-    // A failure of the keeper is told as that, and as nothing else.
-    ensures unfailed { result ≢ Status.KeepFault → (K.view keeper.new).faults ≡ (K.view keeper.old).faults }
+    // A failed read, write of the log or keeper is told as that, and as nothing else. An output that failed or found no memory
+    // is never told as success.
+    ensures honest { TellsEachFailure (H.view shelf.old) (H.view shelf.new) (O.view out.old) (O.view out.new) (K.view keeper.old) (K.view keeper.new) result }
 
     // No count falls.
     ensures reads { NeverFall (H.view shelf.old).reads (H.view shelf.new).reads }

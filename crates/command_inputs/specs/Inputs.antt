@@ -31,6 +31,13 @@ pub record NoneBehind (s : Sources) (old new : ShelfView) : Type 0 where
   pub wallet_alone : (cause : FileCause) → IsWalletCause (old.files s.wallet) cause → Asks (s.wallet ∷ []) old.asked new.asked
   pub chain_alone : ((w : PlainWallet) (blocks : List ChainBlock) → HasChain (old.files s.wallet) (old.files s.blocks) w blocks → ⊥) → Asks (s.wallet ∷ s.blocks ∷ []) old.asked new.asked
 
+-- What is asked for of a shelf that tells its content.
+pub record AsksFiles (told : Type 0) (s : Sources) (p : Payment) (old new : ShelfView) : Type 0 where
+  -- The wallet file is asked for, then the block file, then the request, and no other name.
+  pub asked : told → AsksInOrder s p old new
+  -- Behind a file that is refused none is asked for.
+  pub none_behind : told → NoneBehind s old new
+
 -- a read of this file failed
 abbrev pub IsUnread : Sources → Payment → File → ShelfView → ShelfView → Type 0
 IsUnread s p file old new = Rose (old.reads (name_of s p file)) (new.reads (name_of s p file))

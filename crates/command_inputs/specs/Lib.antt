@@ -1,5 +1,6 @@
 pub mod Cause
 pub mod Digest
+pub mod Failures
 pub mod Inputs
 pub mod Jobs
 pub mod Meant

@@ -5,6 +5,7 @@ use Rattle.std.specs.List.{AllPairs, Any}
 use Rattle.coin_book.specs.History.{History}
 use Rattle.coin_candidates.specs.declared.candidate.Candidate.{Candidate}
 use Rattle.fee_rates.specs.Fee.{fee_of, vsize_of}
+use Rattle.fund_base.specs.declared.money.TheConstants.{MAX_MONEY}
 use Rattle.fund_plan.specs.Pays.{outputs_of}
 use Rattle.fund_plan.specs.Selection.{PlainFunded}
 use Rattle.fund_steps.specs.Amounts.{value_of}
@@ -36,5 +37,5 @@ fees_at w h places = sum_by (λ j. paid_by h w.pending (tx_at (view_of w h) j)) 
 -- request's rate for the sizes of all of them.
 abbrev pub PaysForPackages : PlainWallet → History → PlainRequest → PlainFunded → Type 0
 PaysForPackages w h r f =
-    (places : List ℕ) → All (λ (c : Candidate). c.price < 2_100_000_000_000_000) f.coins → AreUnder w h f.coins places
+    (places : List ℕ) → All (λ (c : Candidate). c.price < MAX_MONEY) f.coins → AreUnder w h f.coins places
     → fee_of r.rate (vsize_of f.weight + sizes_at w h places) ≤ (value_of f.coins - outputs_of r f.change) + fees_at w h places

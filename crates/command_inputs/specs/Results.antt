@@ -45,8 +45,8 @@ status_of (Funded report log) = statuses.Done
 -- A wallet, blocks and a request with a payment: its coins are candidates or those of a payment that is replaced, the presets
 -- among them, and the others are of groups of the pool of the row that it names; the transaction made of them pays each
 -- recipient exactly, and at least the fee, with the Pending payments that its coins rest on too. Where the request names a
--- payment, it replaces that by the rules of BIP 125. What a signer gets is a PSBT (BIP 174) of which each input shows the value
--- and the script of its coin.
+-- payment, it replaces that by the rules of BIP 125. What a signer gets is a PSBT (BIP 174, or BIP 370 in version 2) of which
+-- each input shows the value and the script of its coin.
 -- An exhausted payment is proved to be the best, by the log. The report and the log tell of it; the log's bytes are a
 -- text of it, which says that it is ended. The searches and draws of its plan keep their rules. Where the files are told, they
 -- hold this wallet, these blocks and this request.
@@ -140,3 +140,4 @@ IsBeforeTheLog statuses.NoSelection = ⊥
 IsBeforeTheLog statuses.WriteFault = ⊥
 IsBeforeTheLog statuses.Memory = ⊥
 IsBeforeTheLog statuses.CheckRefused = Unit {0}
+IsBeforeTheLog statuses.Settle = Unit {0}

@@ -15,11 +15,11 @@ ghost use Rattle.command_inputs.specs.Stops.{StopsFor};
 use crate::names::Payment;
 use crate::refusal::Stop;
 use command_end::Sources;
-use fee_bump::{BumpFault, BumpTerms, bump_terms};
+use fee_bump::{BumpFault, BumpTerms, known_terms};
 use fund_files::{Chain, read_asked, read_asked_with_digest, read_chain, read_chain_with_digests};
 use fund_shelf::Shelf;
 use kept_job::job_digest;
-use payment_states::all_states;
+use payment_states::known_states;
 use request_text::Request;
 use std::alloc::Global;
 
@@ -46,10 +46,11 @@ fn terms_for(alloc: Global, held: &Chain, request: &Request) -> Result<Option<Bu
     if request.bump.is_none() {
         return Ok(None);
     }
-    let states = all_states(alloc, &held.book, &held.wallet)?;
-    let terms = bump_terms(
+    let book = held.book.known();
+    let states = known_states(alloc, &book, &held.wallet)?;
+    let terms = known_terms(
         alloc,
-        &held.book,
+        &book,
         &held.wallet,
         &states,
         held.tip.height,

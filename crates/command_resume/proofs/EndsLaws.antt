@@ -77,6 +77,7 @@ resume_refused tf told tj s p job shelf shelf' sink sink' keeper keeper' statuse
 resume_refused tf told tj s p job shelf shelf' sink sink' keeper keeper' statuses.Unfinished h t none cause due = absurd (ready_not shelf.files s p cause (report_ready tf tj shelf.files s p (keeper.jobs job) h.0 None t h.1) due)
 resume_refused tf told tj s p job shelf shelf' sink sink' keeper keeper' statuses.Usage h t none cause due = absurd h
 resume_refused tf told tj s p job shelf shelf' sink sink' keeper keeper' statuses.CheckRefused h t none cause due = absurd h
+resume_refused tf told tj s p job shelf shelf' sink sink' keeper keeper' statuses.Settle h t none cause due = absurd h
 resume_refused tf told tj s p job shelf shelf' sink sink' keeper keeper' statuses.Input h t none cause due = inl (refused_so statuses.Input tf told s p shelf sink sink' h t cause due)
 resume_refused tf told tj s p job shelf shelf' sink sink' keeper keeper' statuses.Limit h t none cause due = by h
   where
@@ -136,6 +137,7 @@ resume_complete tf told tj s p job shelf shelf' sink sink' keeper keeper' status
     inl (gone_so shelf.files s p (keeper.jobs job) f.wallet f.blocks f.asked f.state answers.Unfinished (f.inputs t) f.gone.rules (gone_there tf tj shelf.files s p (keeper.jobs job) (chain_from f.wallet f.blocks) f.asked f.state answers.Unfinished t u f.gone) due is)
 resume_complete tf told tj s p job shelf shelf' sink sink' keeper keeper' statuses.Usage h t u none due is = absurd h
 resume_complete tf told tj s p job shelf shelf' sink sink' keeper keeper' statuses.CheckRefused h t u none due is = absurd h
+resume_complete tf told tj s p job shelf shelf' sink sink' keeper keeper' statuses.Settle h t u none due is = absurd h
 resume_complete tf told tj s p job shelf shelf' sink sink' keeper keeper' statuses.Input h t u none due is = inl (refusal_so statuses.Input tf told s p (keeper.jobs job) shelf sink sink' h t due is)
 resume_complete tf told tj s p job shelf shelf' sink sink' keeper keeper' statuses.Limit h t u none due is = by h
   where

@@ -57,9 +57,10 @@ IsUninterrupted told_files told_jobs files s p o k r due =
 -- ---- how it ends
 
 -- A wallet, blocks and a request with a payment, to which a run came that went on from the job. As for a payment without a
--- stop: its coins are eligible or those of a payment that is replaced, which is done by the rules of BIP 125; the transaction
--- pays each recipient and at least the fee, and a signer is shown its coins. What its mark claims is so, whatever the keeper
--- returned. The log is the whole log of the job; its bytes are a text of it, which says that it is ended.
+-- stop: its coins are eligible or those of a payment that is replaced, which is done by the rules of BIP 125. The transaction
+-- pays each recipient and at least the fee, with the Pending payments that its coins rest on too, and a signer is shown its
+-- coins. What its mark claims is so, whatever the keeper returned. The log is the whole log of the job; its bytes are a text of
+-- it, which says that it is ended.
 pub record IsFunded (told_files told_jobs : Type 0) (files : List ℕ → List ℕ) (s : Sources) (p : Payment) (o : Option KeptJob) (report log : List ℕ) : Type 0 where
   pub wallet : PlainWallet
   pub blocks : List ChainBlock

@@ -4,7 +4,8 @@ ghost use Rattle.std.specs.Prelude.{◌≡◌, ◌≢◌, ◌≤◌, Some};
 ghost use Rattle.fund_shelf.specs.Causes.{CountsNeverFall, NeverFall, SameElsewhere};
 ghost use Rattle.command_end.specs.Names.{plain_sources};
 ghost use Rattle.command_end.specs.Printed.{TellsWhole, TookAll};
-ghost use Rattle.command_inputs.specs.Inputs.{AsksInOrder, NoneBehind};
+ghost use Rattle.command_inputs.specs.Failures.{TellsEachFailure};
+ghost use Rattle.command_inputs.specs.Inputs.{AsksFiles};
 ghost use Rattle.command_inputs.specs.Jobs.{KeepsJobs};
 ghost use Rattle.command_inputs.specs.Names.{plain_payment};
 ghost use Rattle.command_inputs.specs.Results.{IsBeforeTheLog};
@@ -79,18 +80,11 @@ pub fn resume<H: Shelf, O: Sink, K: Keeper>(
 
     // It asks for the wallet file, then for the block file, then for the request, and for no other name; the job's digest is
     // that of the bytes that were read. Behind a file that is refused it asks for none.
-    ensures asked { H.tells → AsksInOrder (plain_sources sources.now) (plain_payment payment.now) (H.view shelf.old) (H.view shelf.new) }
-    ensures none_behind { H.tells → NoneBehind (plain_sources sources.now) (H.view shelf.old) (H.view shelf.new) }
+    ensures asks { AsksFiles H.tells (plain_sources sources.now) (plain_payment payment.now) (H.view shelf.old) (H.view shelf.new) }
 
-    // A read that failed is told as that, and as nothing else.
-    ensures all_read { result ≢ Status.ReadFault → (H.view shelf.new).reads ≡ (H.view shelf.old).reads }
-
-    // So is a write that failed; and an output that failed is never told as success.
-    ensures all_written { result ≢ Status.WriteFault → (H.view shelf.new).writes ≡ (H.view shelf.old).writes }
-    ensures all_put { TellsWhole result → TookAll (O.view out.old) (O.view out.new) }
-
-    // A failure of the keeper is told as that, and as nothing else.
-    ensures unfailed { result ≢ Status.KeepFault → (K.view keeper.new).faults ≡ (K.view keeper.old).faults }
+    // A failed read, write of the log or keeper is told as that, and as nothing else. An output that failed or found no memory
+    // is never told as success.
+    ensures honest { TellsEachFailure (H.view shelf.old) (H.view shelf.new) (O.view out.old) (O.view out.new) (K.view keeper.old) (K.view keeper.new) result }
 
     // No count falls.
     ensures reads { NeverFall (H.view shelf.old).reads (H.view shelf.new).reads }

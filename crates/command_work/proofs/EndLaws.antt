@@ -34,6 +34,7 @@ whole told number count statuses.KeepFault summary sink sink' h put = absurd h
 whole told number count statuses.Memory summary sink sink' h put = absurd h
 whole told number count statuses.Saved summary sink sink' h put = absurd h
 whole told number count statuses.CheckRefused summary sink sink' h put = absurd h
+whole told number count statuses.Settle summary sink sink' h put = absurd h
 
 pub run_ends : (told : Type 0) (number count : ℕ) (status : Status) (summary : List ℕ) (sink sink' : SinkView) (result : Status) → IsSummary number count status summary → IsPut told summary status sink sink' result → Ends told number count sink sink' result
 run_ends told number count status summary sink sink' result h (inl e) = subst (λ (x : Status). Ends told number count sink sink' x) (sym e.0) (whole told number count status summary sink sink' h e.1)

@@ -75,6 +75,7 @@ run_paid number count report log summary distinct h is = record {
   outcome = h.1.outcome;
   pays = h.1.pays;
   eligible = All-weaker (MaySpend (load_plan number count)) (IsEligible (load_plan number count)) (λ c may. may_plain (load_plan number count) c refl may) h.1.funded.coins h.1.eligible;
+  packages = h.1.packages;
   claims = h.1.claims;
   psbt = h.1.psbt;
   shows = h.1.shows;

@@ -20,6 +20,7 @@ use Rattle.command_end.specs.Lines.{GotLine, fault_line}
 use Rattle.command_end.specs.declared.status.Status.{Status}
 use Rattle.command_end.specs.declared.status.Status.TheVariants as statuses
 use Rattle.command_inputs.specs.Cause.{cause_of, status_of_cause}
+use Rattle.command_inputs.specs.Packages.{PaysForPackages}
 use Rattle.command_inputs.specs.Words.{refusal_words}
 use Rattle.command_inputs.specs.declared.refusal.Refusal.{Refusal}
 use Rattle.command_work.specs.Outcome.{IsCollision, Outcome, Refused, Summed, outcome_of, load_of, load_plan}
@@ -33,8 +34,9 @@ status_of (Summed status summary) = status
 
 -- The summary of a payment from the workload, with its 100,000 tries. The payment's coins are candidates of the wallet,
 -- of groups of the pool of the row that it names; the transaction made of them pays the recipient exactly, and at least the
--- fee. The PSBT in the report is of version 0 (BIP 174), and each of its inputs shows the value and the script of its coin.
--- An exhausted payment is proved to be the best, by the log of the run. The searches and draws of its plan keep their rules.
+-- fee, with the Pending payments that its coins rest on too. The PSBT in the report is of version 0 (BIP 174), and each of its
+-- inputs shows the value and the script of its coin. An exhausted payment is proved to be the best, by the log of the run. The
+-- searches and draws of its plan keep their rules.
 pub record IsFunded (number count : ℕ) (summary : List ℕ) : Type 0 where
   pub funded : PlainFunded
   pub plan : IsPlan (load_plan number count)
@@ -42,6 +44,7 @@ pub record IsFunded (number count : ℕ) (summary : List ℕ) : Type 0 where
   pub outcome : outcome_at (load_plan number count) 100_000 ≡ answers.Funded funded
   pub pays : IsPayment (load_plan number count) funded
   pub eligible : All (IsEligible (load_plan number count)) funded.coins
+  pub packages : PaysForPackages (wallet_of number count) (load_of number count).book (request_of number count) funded
   pub claims : Claims (load_plan number count) 100_000 funded
   pub psbt : IsPsbt (psbt_of (load_of number count).book (request_of number count) (wallet_of number count).change funded)
   pub shows : ShowsCoins funded.coins (psbt_of (load_of number count).book (request_of number count) (wallet_of number count).change funded)
@@ -116,3 +119,4 @@ Ends told number count sink sink' statuses.KeepFault = ⊥
 Ends told number count sink sink' statuses.Memory = EndsWithoutMemory told number count sink sink'
 Ends told number count sink sink' statuses.Saved = ⊥
 Ends told number count sink sink' statuses.CheckRefused = ⊥
+Ends told number count sink sink' statuses.Settle = ⊥

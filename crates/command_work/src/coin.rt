@@ -4,7 +4,7 @@ ghost use Rattle.std.specs.Prelude.{◌≡◌, ◌+◌, ◌*◌, ◌%◌, ◌<�
 ghost use Rattle.command_work.specs.Coins.{coin_at, seed_of, words_at};
 
 use crate::kind::Kind;
-use fund_base::Sat;
+use fund_base::{MAX_MONEY, Sat};
 use rand_chacha::ChaCha20Rng;
 use rand_core::SeedableRng;
 use rand_core::utils::NextWord;
@@ -22,7 +22,7 @@ impl Coin {
     /// What it is worth, in satoshi.
     pub(crate) fn worth(&self) -> u64
         ensures value { result ≡ self.now.value }
-        ensures most { result ≤ 2_100_000_000_000_000 }
+        ensures most { result ≤ MAX_MONEY }
     {
         self.value.get()
     }

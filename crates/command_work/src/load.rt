@@ -9,7 +9,7 @@ ghost use Rattle.command_work.specs.Refused.{IsRefused};
 
 use crate::kind::{Kind, joined, watches};
 use crate::making::earlier_of;
-use fund_base::Memory;
+use fund_base::{MAX_MONEY, Memory};
 use request_text::{Method, Recipient, Request};
 use std::alloc::Global;
 use wallet_text::{Earlier, Wallet, WalletFault, judge_earlier};
@@ -60,7 +60,7 @@ fn recipients(alloc: Global, amount: u64) -> Result<Vec<Recipient>, Memory>
 /// The request that pays so many satoshi.
 fn request_with(alloc: Global, amount: u64) -> Result<Request, Memory>
     requires least { 294 ≤ amount }
-    requires most { amount ≤ 2_100_000_000_000_000 }
+    requires most { amount ≤ MAX_MONEY }
     ensures value { IfOk result (λ request. request ≡ request_with amount) }
     ensures rules { IfOk result IsRequest }
 {
@@ -91,7 +91,7 @@ fn made(alloc: Global, earlier: Vec<Earlier>, amount: u64) -> Result<Workload, M
     requires each { All (IsEarlier 200) earlier.items }
     requires distinct { AreDistinctEarlier earlier.items }
     requires least { 294 ≤ amount }
-    requires most { amount ≤ 2_100_000_000_000_000 }
+    requires most { amount ≤ MAX_MONEY }
     ensures wallet { IfOk result (λ load. load.wallet ≡ wallet_with earlier.items) }
     ensures request { IfOk result (λ load. load.request ≡ request_with amount) }
     ensures wallet_rules { IfOk result (λ load. IsWallet load.wallet) }
@@ -106,7 +106,7 @@ fn made(alloc: Global, earlier: Vec<Earlier>, amount: u64) -> Result<Workload, M
 fn judged(alloc: Global, earlier: Vec<Earlier>, amount: u64) -> Result<Workload, WalletFault>
     requires each { All (IsEarlier 200) earlier.items }
     requires least { 294 ≤ amount }
-    requires most { amount ≤ 2_100_000_000_000_000 }
+    requires most { amount ≤ MAX_MONEY }
     ensures wallet { IfOk result (λ load. load.wallet ≡ wallet_with earlier.items) }
     ensures request { IfOk result (λ load. load.request ≡ request_with amount) }
     ensures wallet_rules { IfOk result (λ load. IsWallet load.wallet) }

@@ -14,12 +14,12 @@ use crate::pending_txids::PendingTxids;
 use block_feed::Block;
 use coin_book::{Book, BookFault};
 use fund_base::Txid;
-use fund_files::{Chain, Tip};
+use fund_files::{Tip, WholeChain};
 use tx_codec::{Tx, TxIn};
 use wallet_text::Wallet;
 
 /// Adds a block behind the tip. The fault is that of the book; the chain is then as before.
-pub fn add_block(held: &mut Chain, block: &Block) -> Result<(), BookFault>
+pub fn add_block(held: &mut WholeChain, block: &Block) -> Result<(), BookFault>
     requires held { IsChain held.old }
     requires texts { All IsTransaction block.now.txs }
     requires height { block.now.height < 4294967295 }
@@ -101,7 +101,7 @@ fn add_waiting(
 /// Adds a transaction of this txid behind those that wait, and to the txids of those. None of them has its txid, and neither
 /// one of them nor itself spends an output of it. The fault is that of the book; the chain is then as before.
 pub fn add_pending(
-    held: &mut Chain,
+    held: &mut WholeChain,
     txids: &mut PendingTxids,
     tx: Tx,
     id: Txid,

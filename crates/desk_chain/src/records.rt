@@ -11,7 +11,7 @@ use block_feed::{Feed, FeedFault};
 use coin_book::BookFault;
 use desk_machine::{Refusal, Reply};
 use fund_base::Memory;
-use fund_files::Chain;
+use fund_files::WholeChain;
 use fund_shelf::SureShelf;
 use std::alloc::Global;
 
@@ -54,7 +54,7 @@ pub fn refuse_book(fault: BookFault) -> Result<Reply, Memory>
 /// Reads the blocks of these bytes one by one behind the tip, and adds each to the chain. The first that is refused, by the
 /// fault of its record or by the book, gives the reply, and those before it are kept. The error is out of memory: some of
 /// the blocks are then added.
-pub fn add_blocks(alloc: Global, held: &mut Chain, bytes: &[u8]) -> Result<Reply, Memory>
+pub fn add_blocks(alloc: Global, held: &mut WholeChain, bytes: &[u8]) -> Result<Reply, Memory>
     requires held { IsChain held.old }
     requires fits { length bytes.now ≤ 67_108_864 }
     ensures reply { IfOk result (λ r. plain_reply r ≡ (add_records held.old (records_at held.old bytes.now)).reply) }

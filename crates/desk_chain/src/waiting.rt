@@ -13,14 +13,14 @@ use crate::pending_txids::PendingTxids;
 use crate::records::refuse_book;
 use desk_machine::{Refusal, Reply};
 use fund_base::Memory;
-use fund_files::Chain;
+use fund_files::WholeChain;
 use hex::FromHexError;
 use std::alloc::Global;
 use tx_codec::{Tx, TxFault, read_whole_tx, txid};
 
 /// Adds a transaction behind those that wait, which have these txids, unless it or the book refuses. The error is out of
 /// memory.
-fn add_tx(held: &mut Chain, txids: &mut PendingTxids, tx: Tx) -> Result<Reply, Memory>
+fn add_tx(held: &mut WholeChain, txids: &mut PendingTxids, tx: Tx) -> Result<Reply, Memory>
     requires held { IsChain held.old }
     requires txids { AreTxidsOf held.old.wallet.pending txids.old }
     requires text { IsTransaction tx }
@@ -71,7 +71,7 @@ fn refuse_hex(error: FromHexError) -> Result<Reply, Memory>
 /// Adds the transaction of these bytes, all of them.
 fn add_bytes(
     alloc: Global,
-    held: &mut Chain,
+    held: &mut WholeChain,
     txids: &mut PendingTxids,
     bytes: &[u8],
 ) -> Result<Reply, Memory>
@@ -96,7 +96,7 @@ fn add_bytes(
 #[tactic(auto, unfolding(desk_machine::specs::Machine::add_pending))]
 pub fn add_hex(
     alloc: Global,
-    held: &mut Chain,
+    held: &mut WholeChain,
     txids: &mut PendingTxids,
     digits: &[u8],
 ) -> Result<Reply, Memory>

@@ -15,7 +15,7 @@ use crate::payments::Committed;
 use crate::taken::first_taken;
 use desk_machine::Reply;
 use fund_base::{Memory, OutPoint, Txid};
-use fund_files::Chain;
+use fund_files::WholeChain;
 use fund_payment::{coins_have_makers, psbt};
 use fund_plan::Funded;
 use psbt_codec::write_psbt;
@@ -37,7 +37,7 @@ pub struct Given {
 /// A payment as it is given out. The error is out of memory.
 fn written_out(
     alloc: Global,
-    held: &Chain,
+    held: &WholeChain,
     request: &Request,
     funded: &Funded,
 ) -> Result<Given, Memory>
@@ -45,7 +45,8 @@ fn written_out(
     requires funded { IsSelection request.now funded.now }
     ensures { IfOk result (IsWrittenOut held.now request.now funded.now) }
 {
-    let made = psbt(alloc, held, request, funded)?;
+    let book = held.book.known();
+    let made = psbt(alloc, &book, &held.wallet.change, request, funded)?;
     let id = txid(&made.tx);
     let bytes = write_psbt(alloc, &made, request.psbt)?;
     let payment = Committed::new(alloc, id, &funded.coins)?;
@@ -60,7 +61,7 @@ fn written_out(
 /// which comes only where there is none.
 fn give_unless(
     alloc: Global,
-    held: &Chain,
+    held: &WholeChain,
     request: &Request,
     funded: &Funded,
     taken: Option<OutPoint>,
@@ -83,7 +84,7 @@ fn give_unless(
 /// memory.
 fn give_funded(
     alloc: Global,
-    held: &Chain,
+    held: &WholeChain,
     committed: &[Committed],
     job: &OpenJob,
     funded: &Funded,
@@ -106,7 +107,7 @@ fn give_funded(
 /// error is out of memory.
 pub fn give_out(
     alloc: Global,
-    held: &Chain,
+    held: &WholeChain,
     committed: &[Committed],
     job: &OpenJob,
 ) -> Result<Result<Given, Reply>, Memory>

@@ -20,7 +20,7 @@ use coin_book::Book;
 use desk_chain::{PendingTxids, add_blocks, add_hex};
 use desk_machine::{Command, Reply};
 use fund_base::{Memory, Txid};
-use fund_files::{Chain, Tip};
+use fund_files::{Tip, WholeChain};
 use std::alloc::Global;
 use std::marker::Model;
 use wallet_text::Wallet;
@@ -32,7 +32,7 @@ use wallet_text::Wallet;
 /// It keeps the rules that [`Desk::keeps_rules`] states.
 pub struct Desk {
     alloc: Global,
-    held: Chain,
+    held: WholeChain,
     // those of the transactions that wait
     txids: PendingTxids,
     committed: Vec<Committed>,
@@ -88,7 +88,7 @@ impl Desk {
         ensures { IfOk result (λ d. d ≡ new_desk (record { wallet = wallet; book = book; tip = record { height = tip; hash = hash } })) }
     {
         let txids = PendingTxids::of(alloc, &wallet.pending)?;
-        let held = Chain {
+        let held = WholeChain {
             wallet,
             book,
             tip: Tip { height: tip, hash },

@@ -16,7 +16,7 @@ ghost use Rattle.request_text.specs.declared.fault.Refusal as requests;
 use crate::payments::{Committed, keep_free};
 use desk_machine::Refusal;
 use fund_base::Memory;
-use fund_files::Chain;
+use fund_files::WholeChain;
 use fund_plan::Plan;
 use fund_steps::{PlanFault, faults_are_found};
 use request_text::{Request, RequestFault, read_request};
@@ -35,7 +35,7 @@ pub struct Made {
 /// for those of committed payments.
 fn plan_of(
     alloc: Global,
-    held: &Chain,
+    held: &WholeChain,
     committed: &[Committed],
     request: &Request,
 ) -> Result<Plan, PlanFault>
@@ -77,7 +77,7 @@ fn plan_refusal(fault: PlanFault) -> Result<Refusal, Memory>
 /// replaces a payment.
 fn made_of(
     alloc: Global,
-    held: &Chain,
+    held: &WholeChain,
     committed: &[Committed],
     request: Request,
 ) -> Result<Result<Made, Refusal>, Memory>
@@ -113,7 +113,7 @@ fn request_refusal(fault: RequestFault) -> Result<Refusal, Memory>
 /// The request of a file of these bytes, and its plan; or why there is none. The error is out of memory.
 pub fn make(
     alloc: Global,
-    held: &Chain,
+    held: &WholeChain,
     committed: &[Committed],
     bytes: &[u8],
 ) -> Result<Result<Made, Refusal>, Memory>

@@ -13,7 +13,7 @@ ghost use Rattle.fund_desk.specs.Ready.{IsOneAtEach, IsKnownOf, is_ready};
 use coin_book::Coin;
 use coin_candidates::Candidate;
 use fund_base::{Memory, OutPoint};
-use fund_files::Chain;
+use fund_files::WholeChain;
 use payment_facts::facts_of_coins;
 use payment_states::{
     SpokenFor, States, all_states, flag_at, is_deep, may_be_spent, pending_of, spoken_for,
@@ -40,7 +40,7 @@ impl Drop for Known {
 }
 
 /// What is known before the coins are looked at. The error is out of memory.
-fn known_of(alloc: Global, held: &Chain) -> Result<Known, Memory>
+fn known_of(alloc: Global, held: &WholeChain) -> Result<Known, Memory>
     requires { IsChain held.now }
     ensures { IfOk result (IsKnownOf held.now) }
 {
@@ -55,7 +55,7 @@ fn known_of(alloc: Global, held: &Chain) -> Result<Known, Memory>
 }
 
 /// Whether the coin's transaction is confirmed or Pending.
-fn is_live(held: &Chain, known: &Known, coin: &Coin) -> bool
+fn is_live(held: &WholeChain, known: &Known, coin: &Coin) -> bool
     requires held { IsChain held.now }
     requires known { IsKnownOf held.now known.now }
     ensures { result ≡ is_live held.now.wallet held.now.book coin.now }
@@ -65,7 +65,7 @@ fn is_live(held: &Chain, known: &Known, coin: &Coin) -> bool
 }
 
 /// Whether a coin of the book may be spent.
-fn is_candidate(held: &Chain, known: &Known, coin: &Coin) -> bool
+fn is_candidate(held: &WholeChain, known: &Known, coin: &Coin) -> bool
     requires held { IsChain held.now }
     requires known { IsKnownOf held.now known.now }
     ensures { result ≡ is_candidate held.now.wallet held.now.book held.now.tip.height coin.now }
@@ -78,7 +78,7 @@ fn is_candidate(held: &Chain, known: &Known, coin: &Coin) -> bool
 }
 
 /// Whether there is a coin at the outpoint that may be spent.
-fn is_ready(held: &Chain, known: &Known, point: &OutPoint) -> bool
+fn is_ready(held: &WholeChain, known: &Known, point: &OutPoint) -> bool
     requires held { IsChain held.now }
     requires known { IsKnownOf held.now known.now }
     ensures { result ≡ is_ready held.now point.now }
@@ -92,7 +92,7 @@ fn is_ready(held: &Chain, known: &Known, point: &OutPoint) -> bool
 /// The outpoints of these coins at which there is a coin that may be spent, in order. The error is out of memory.
 fn ready_points(
     alloc: Global,
-    held: &Chain,
+    held: &WholeChain,
     known: &Known,
     coins: &[Candidate],
 ) -> Result<Vec<OutPoint>, Memory>
@@ -110,7 +110,11 @@ fn ready_points(
 }
 
 /// The coins that may be spent now at the outpoints of these, in order, each as it is now, at no price. The error is out of memory.
-pub fn ready_of(alloc: Global, held: &Chain, coins: &[Candidate]) -> Result<Vec<Candidate>, Memory>
+pub fn ready_of(
+    alloc: Global,
+    held: &WholeChain,
+    coins: &[Candidate],
+) -> Result<Vec<Candidate>, Memory>
     requires { IsChain held.now }
     ensures exact { IfOk result (λ v. v.items ≡ filter_map (λ o. find (is_at o) (candidates_in held.now)) (points coins.now)) }
     ensures one { IfOk result (λ v. IsOneAtEach v.items) }

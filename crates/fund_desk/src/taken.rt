@@ -15,7 +15,7 @@ use crate::payments::{Committed, reserved_of, set_of};
 use crate::ready::ready_of;
 use coin_candidates::Candidate;
 use fund_base::{Memory, OutPoint};
-use fund_files::Chain;
+use fund_files::WholeChain;
 use fund_plan::Funded;
 use indexmap::{IndexMap, IndexSet};
 use output_groups::{Row, ladder, meets};
@@ -151,7 +151,7 @@ fn first_point(look: &Look, request: &Request, number: u8, coins: &[Candidate]) 
 /// meet the row of the payment. The error is out of memory.
 pub fn first_taken(
     alloc: Global,
-    held: &Chain,
+    held: &WholeChain,
     committed: &[Committed],
     request: &Request,
     funded: &Funded,

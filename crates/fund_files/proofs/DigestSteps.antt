@@ -1,6 +1,7 @@
 -- What the digest of a block file has taken while its blocks are read.
-use Rattle.std.proofs.Common.{◌≡◌, ◌<◌, ℕ, true, false, List, [], take, Ok, Option, Some, None, sym, subst, arith}
+use Rattle.std.proofs.Common.{◌≡◌, ◌<◌, ℕ, true, false, List, [], take, Ok, Option, Some, None, ap, sym, subst, arith}
 use Rattle.std.specs.Prelude.{is_some, IsSome}
+use Rattle.std.specs.Option.{option_map_or}
 use Rattle.sha2.specs.Sha256.{sha256}
 use Rattle.sha2.specs.declared.Sha256.{Sha256}
 use Rattle.block_feed.specs.Block.{ChainBlock}
@@ -24,6 +25,10 @@ taken_all told file seen begun feed next asked same digests taken t =
     digest_as feed.hasher begun.hasher file next.digest asked (digest_whole file feed next (subst (λ (f : List ℕ). Digests f feed next (Ok None)) (same t) (digests t)) (taken t))
 
 -- a digest that was asked for is that of the file
-pub digest_there : (hasher : Option Sha256) (file digest : List ℕ) (found : Option (List ℕ)) → IsSome hasher → IsDigest hasher file found → found ≡ Some digest → digest ≡ sha256 file
-digest_there None file digest found asked is e = absurd (let no : false ≡ true = asked in cc)
-digest_there (Some h) file digest found asked is e = cc
+pub digest_is : (hasher : Option Sha256) (file : List ℕ) (found : Option (List ℕ)) → IsSome hasher → IsDigest hasher file found → found ≡ Some (sha256 file)
+digest_is None file found asked is = absurd (let no : false ≡ true = asked in cc)
+digest_is (Some h) file found asked is = is
+
+-- two digests that are there are the same
+pub some_is : {a b : List ℕ} → Some a ≡ Some b → a ≡ b
+some_is {a} is = ap (λ (o : Option (List ℕ)). option_map_or (λ (x : List ℕ). x) o a) is

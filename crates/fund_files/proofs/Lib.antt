@@ -5,4 +5,6 @@ pub mod DigestSteps
 pub mod FeedSteps
 pub mod FrameLaws
 pub mod HeldLaws
+pub mod SetLaws
 pub mod StopLaws
+pub mod WatchedLaws

@@ -1,33 +1,27 @@
 -- A stop at one file is a stop of the reading of all.
-use Rattle.std.proofs.Common.{◌≡◌, ℕ, List, [], Some, Err, Ok, Result, inl, inr, refl, sym, subst, arith}
-use Rattle.std.specs.Prelude.{IfErr}
-use Rattle.fund_shelf.specs.Causes.{ShelfView, OnlyReads, Rose}
+use Rattle.std.proofs.Common.{◌≡◌, ℕ, List, Err, Ok, Result, inl, inr, sym, ap, subst, arith}
+use Rattle.std.specs.Prelude.{IfErr, IsErrOf}
+use Rattle.fund_shelf.specs.Causes.{ReadsOne, ShelfView, OnlyReads, Rose}
+use Rattle.fund_shelf.proofs.FrameLaws.{fault_in, frame_as}
 use Rattle.fund_shelf.proofs.Outside.{rose_earlier}
 use Rattle.block_feed.specs.Blocks.{blocks_of}
 use Rattle.block_feed.specs.declared.fault.FeedFault.{FeedFault}
 use Rattle.block_feed.specs.declared.fault.FeedFault.TheVariants as faults
 use Rattle.block_feed.proofs.Limits.{blocks_limit}
-use Rattle.coin_book.specs.Faults.{fault_of}
-use Rattle.coin_book.specs.History.{History}
 use Rattle.coin_book.specs.declared.fault.BookFault.{BookFault}
 use Rattle.coin_book.specs.declared.fault.BookFault.TheVariants as books
 use Rattle.coin_book.proofs.ToldSteps.{never_memory}
-use Rattle.tx_codec.specs.Transaction.{Transaction}
 use Rattle.wallet_text.specs.PlainWallet.{PlainWallet}
-use Rattle.fund_files.specs.declared.booking.Booked.{Booked}
-use Rattle.fund_files.specs.declared.chain.Tip.{Tip}
 use Rattle.fund_files.specs.declared.refusal.File.{File}
 use Rattle.fund_files.specs.declared.refusal.File.TheVariants.{Wallet, Blocks, Request}
 use Rattle.fund_files.specs.declared.stop.Stop.{Stop}
 use Rattle.fund_files.specs.declared.stop.Stop.TheVariants as stops
-use Rattle.fund_files.specs.Booked.{IsBooked, IsRead}
 use Rattle.fund_files.specs.Cause.{FileCause, cause_of}
-use Rattle.fund_files.specs.Chain.{confirmed_history, history_of}
+use Rattle.fund_files.specs.Chain.{history_of}
 use Rattle.fund_files.specs.Contents.{HasFault, HasNoBook, HasWallet}
-use Rattle.fund_files.specs.FileStops.{IsAskedFault, IsBlocksCause, IsReached, IsUnread, IsWalletCause, StopsAsked, StopsAt, StopsChain}
+use Rattle.fund_files.specs.FileStops.{IsAskedFault, IsBlocksCause, IsBlocksStop, IsReached, IsUnread, IsWalletCause, StopsAsked, StopsAt, StopsChain}
 use Rattle.fund_files.specs.Outcome.{book_cause, feed_cause}
 use Rattle.fund_files.specs.Refusals.{IsChainMeant, IsRequestCause}
-use Rattle.fund_files.proofs.BookSteps.{waiting}
 use Rattle.fund_files.proofs.ChainLaws.{blocks_refused, request_by, request_long, wallet_refused}
 
 -- ---- what a cause means
@@ -78,32 +72,23 @@ at_wallet told wallet blocks old new (stops.Refused refusal) h = λ t. record {
 at_wallet told wallet blocks old new stops.Memory h = tt
 
 -- at the blocks, which were read after the wallet
-pub at_blocks : (told : Type 0) (wallet blocks : List ℕ) (w : PlainWallet) (old middle new : ShelfView) (stop : Stop) → OnlyReads told old middle → (told → HasWallet (old.files wallet) w)
-    → StopsAt Blocks (Rose (middle.reads blocks) (new.reads blocks)) (λ cause. told → IsBlocksCause w (middle.files blocks) cause) stop → StopsChain told wallet blocks old new stop
-at_blocks told wallet blocks w old middle new (stops.Read named) only held h =
-    (subst (λ (f : File). IsUnread wallet blocks f old new) (sym h.0) (rose_earlier _ _ _ (only.reads blocks) h.1), λ t. subst (λ (f : File). IsReached (old.files wallet) f) (sym h.0) (w, held t))
-at_blocks told wallet blocks w old middle new (stops.Refused refusal) only held h = λ t.
-    let cause : IsBlocksCause w (old.files blocks) (cause_of refusal) = subst (λ (files : List ℕ → List ℕ). IsBlocksCause w (files blocks) (cause_of refusal)) (only.same t) (h t) in
+pub at_blocks : {X : Type 0} (told : Type 0) (wallet blocks : List ℕ) (w : PlainWallet) (old middle new : ShelfView) (stop : Stop) → OnlyReads told old middle → (told → HasWallet (old.files wallet) w)
+    → ReadsOne told (IsErrOf {T = X} (Err stop) (stops.Read Blocks)) blocks middle new → IsBlocksStop told w (middle.files blocks) stop → StopsChain told wallet blocks old new stop
+at_blocks told wallet blocks w old middle new (stops.Read named) only held frame h =
+    let rose = frame.cause (ap (λ (f : File). Err (stops.Read f)) h.at.0) in
+    (subst (λ (f : File). IsUnread wallet blocks f old new) (sym h.at.0) (rose_earlier _ _ _ (only.reads blocks) rose), λ t. subst (λ (f : File). IsReached (old.files wallet) f) (sym h.at.0) (w, held t))
+at_blocks told wallet blocks w old middle new (stops.Refused refusal) only held frame h = λ t.
+    let cause : IsBlocksCause w (old.files blocks) (cause_of refusal) = subst (λ (files : List ℕ → List ℕ). IsBlocksCause w (files blocks) (cause_of refusal)) (only.same t) (h.at t) in
     record {
       due = blocks_refused (old.files wallet) (old.files blocks) w (cause_of refusal) (held t) cause;
       meant = blocks_meant (old.files wallet) (old.files blocks) w (cause_of refusal) (held t) cause;
     }
-at_blocks told wallet blocks w old middle new stops.Memory only held h = tt
+at_blocks told wallet blocks w old middle new stops.Memory only held frame h = tt
 
--- ---- the book
-
--- what was read has this fault
-pub book_broken : (told : Type 0) (file : List ℕ) (w : PlainWallet) (tip : Tip) (booked : Booked) (pending : List Transaction) (fault : BookFault) (cause : FileCause) → IsRead told file w tip booked → pending ≡ w.pending
-    → ((h : History) → h.pending ≡ [] → IsBooked booked h → fault_of (waiting h pending) ≡ Some fault) → cause ≡ book_cause fault → told → IsBlocksCause w file cause
-book_broken told file w tip booked pending fault cause r own broken is = λ t.
-    inr (
-      r.blocks,
-      fault,
-      r.read.whole t,
-      r.read.within t,
-      subst (λ (ts : List Transaction). fault_of (waiting (confirmed_history w r.blocks) ts) ≡ Some fault) own (broken (confirmed_history w r.blocks) refl r.booked_is),
-      is,
-    )
+-- what is left of a shelf at a stop, where the stop is passed on
+pub frame_passed_on : {X Y : Type 0} (told : Type 0) (name : List ℕ) (old new : ShelfView) (stop : Stop) → ReadsOne told (IsErrOf {T = X} (Err stop) (stops.Read Blocks)) name old new → ReadsOne told (IsErrOf {T = Y} (Err stop) (stops.Read Blocks)) name old new
+frame_passed_on told name old new stop frame =
+    frame_as told _ _ name old new (λ is. ap (λ (s : Stop). Err s) (ap (fault_in stops.Memory) is)) (λ is. ap (λ (s : Stop). Err s) (ap (fault_in stops.Memory) is)) frame
 
 -- ---- the request
 

@@ -65,6 +65,11 @@ IsBlocksCause w file cause =
     ((fault : FeedFault) × (blocks_of file w.hash w.height ≡ Err fault) × (cause ≡ feed_cause fault))
     ⊎ ((blocks : List ChainBlock) × (fault : BookFault) × IsBlockFile w.hash w.height blocks file × (length file ≤ 1073741824) × (fault_of (history_of w blocks) ≡ Some fault) × (cause ≡ book_cause fault))
 
+-- A read of the block file failed, or it is refused for a cause. It is no stop of the wallet file.
+pub record IsBlocksStop (told : Type 0) (w : PlainWallet) (file : List ℕ) (stop : Stop) : Type 0 where
+  pub at : StopsAt Blocks (Unit {0}) (λ cause. told → IsBlocksCause w file cause) stop
+  pub own : is_of_wallet stop ≡ false
+
 -- the stop of a block file with this fault
 abbrev pub stop_of : FeedFault → Stop
 stop_of feeds.Read = stops.Read Blocks

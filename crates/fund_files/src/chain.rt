@@ -6,10 +6,10 @@ ghost use Rattle.payment_states.specs.Candidates.{candidates_of};
 ghost use Rattle.payment_states.specs.Payments.{payments_of};
 ghost use Rattle.fund_files.specs.Chain.{IsChain};
 
-use coin_book::Book;
+use coin_book::WalletBook;
 use coin_candidates::Candidate;
 use fund_base::Memory;
-use payment_states::{States, all_states, candidates};
+use payment_states::{States, known_candidates, known_states};
 use std::alloc::Global;
 use wallet_text::Wallet;
 
@@ -27,8 +27,8 @@ pub struct Tip {
 pub struct Chain {
     /// The wallet.
     pub wallet: Wallet,
-    /// The coins of the wallet, of the blocks and of pending transactions.
-    pub book: Book,
+    /// The coins of the wallet, of the blocks and of pending transactions, and what a wallet asks of the chain.
+    pub book: WalletBook,
     /// The last block, or the wallet's where there is none.
     pub tip: Tip,
 }
@@ -47,9 +47,10 @@ impl Chain {
         ensures coins { IfOk result (λ r. r.1.items ≡ candidates_of self.now.wallet self.now.book self.now.tip.height rate) }
         ensures fit { IfOk result (λ r. AreCandidates r.1.items) }
     {
-        let states = all_states(alloc, &self.book, &self.wallet)?;
+        let book = self.book.known();
+        let states = known_states(alloc, &book, &self.wallet)?;
         let tip = self.tip.height;
-        let coins = candidates(alloc, &self.book, &self.wallet, &states, tip, rate)?;
+        let coins = known_candidates(alloc, &book, &self.wallet, &states, tip, rate)?;
         Ok((states, coins))
     }
 }

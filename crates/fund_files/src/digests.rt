@@ -12,11 +12,11 @@ ghost use Rattle.fund_files.specs.Contents.{HasRequest};
 ghost use Rattle.fund_files.specs.Digests.{AreDigests};
 ghost use Rattle.fund_files.specs.FileStops.{IsAskedFault, IsWalletCause, StopsAsked, StopsAt, StopsChain, is_of_wallet};
 
-use crate::blocks::{book_from, feed_with_digest};
 use crate::chain::Chain;
 use crate::files::{REQUEST_LIMIT, WALLET_LIMIT, read_input, request_stop, wallet_stop};
 use crate::refusal::File;
 use crate::stop::Stop;
+use crate::wallet_book::wallet_book_from;
 use fund_shelf::Shelf;
 use request_text::{Request, read_request};
 use sha2::{Digest, Sha256};
@@ -86,17 +86,17 @@ pub fn read_chain_with_digests<H: Shelf>(
     ensures refused_alone { H.tells → (cause : FileCause) → IsWalletCause ((H.view shelf.old).files wallet.now) cause → Asks (wallet.now ∷ []) (H.view shelf.old).asked (H.view shelf.new).asked }
 {
     let (wallet, wallet_digest) = wallet_with_digest(alloc, shelf, wallet)?;
-    let mut feed = feed_with_digest(&wallet);
-    let (book, tip) = book_from(alloc, shelf, blocks, &wallet, &mut feed)?;
-    match feed.digest() {
+    let read = wallet_book_from(alloc, shelf, blocks, &wallet, true)?;
+    match read.digest {
         Some(blocks_digest) => {
             let digests = ChainDigests {
                 wallet: wallet_digest,
                 blocks: blocks_digest,
             };
+            let (book, tip) = (read.book, read.tip);
             Ok((Chain { wallet, book, tip }, digests))
         }
-        // a feed that computes a digest has it at the end of the file
+        // the digest was asked for
         None => Err(Stop::Memory),
     }
 }

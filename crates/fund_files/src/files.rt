@@ -10,10 +10,12 @@ ghost use Rattle.fund_files.specs.Cause.{FileCause, TooLong};
 ghost use Rattle.fund_files.specs.Contents.{HasRequest};
 ghost use Rattle.fund_files.specs.FileStops.{IsAskedFault, IsWalletCause, StopsAsked, StopsAt, StopsChain, is_of_wallet, read_stop_of};
 
-use crate::blocks::{book_from, feed_behind};
+use crate::blocks::whole_book_from;
 use crate::chain::Chain;
 use crate::refusal::{File, FileRefusal};
 use crate::stop::Stop;
+use crate::wallet_book::wallet_book_from;
+use crate::whole_chain::WholeChain;
 use fund_shelf::{ReadError, Shelf, read_whole};
 use request_text::{Request, RequestFault, read_request};
 use std::alloc::Global;
@@ -70,8 +72,8 @@ pub fn wallet_stop(fault: WalletFault) -> Stop
     }
 }
 
-/// The wallet.
-fn wallet_from<H: Shelf>(alloc: Global, shelf: &mut H, name: &str) -> Result<Wallet, Stop>
+/// The wallet of the file `name`, alone. It is refused for its length before its form; no file is written, and no other is asked for.
+pub fn wallet_from<H: Shelf>(alloc: Global, shelf: &mut H, name: &str) -> Result<Wallet, Stop>
     ensures form { H.tells → IfOk result (λ w. wallet_of ((H.view shelf.old).files name.now) ≡ Ok w) }
     ensures rules { IfOk result IsWallet }
     ensures fits { H.tells → OnOk result (length ((H.view shelf.old).files name.now) ≤ WALLET_LIMIT) }
@@ -90,6 +92,9 @@ fn wallet_from<H: Shelf>(alloc: Global, shelf: &mut H, name: &str) -> Result<Wal
 /// The wallet of the file `wallet`, which is read first, and the book of it and of the blocks of the file `blocks`, which
 /// stand behind the wallet's; and where that chain ends. A file that is refused leaves the next unread. A file is refused
 /// for its length before its form, and for its form before the coins of both files are; none is written.
+///
+/// The block file is read twice, so that no more memory is needed than the wallet takes: once to find the coins, and once to
+/// find what spends them. If it changes in between, so that a coin was missed, it is read a third time.
 pub fn read_chain<H: Shelf>(
     alloc: Global,
     wallet: &str,
@@ -110,9 +115,37 @@ pub fn read_chain<H: Shelf>(
     ensures refused_alone { H.tells → (cause : FileCause) → IsWalletCause ((H.view shelf.old).files wallet.now) cause → Asks (wallet.now ∷ []) (H.view shelf.old).asked (H.view shelf.new).asked }
 {
     let wallet = wallet_from(alloc, shelf, wallet)?;
-    let mut feed = feed_behind(&wallet);
-    let (book, tip) = book_from(alloc, shelf, blocks, &wallet, &mut feed)?;
-    Ok(Chain { wallet, book, tip })
+    let read = wallet_book_from(alloc, shelf, blocks, &wallet, false)?;
+    Ok(Chain {
+        wallet,
+        book: read.book,
+        tip: read.tip,
+    })
+}
+
+/// What [`read_chain`] reads, with a book that keeps all that the chain spends. The block file is read once.
+pub fn read_whole_chain<H: Shelf>(
+    alloc: Global,
+    wallet: &str,
+    blocks: &str,
+    shelf: &mut H,
+) -> Result<WholeChain, Stop>
+    ensures held { IfOk result (λ k. IsChainOf H.tells ((H.view shelf.old).files wallet.now) ((H.view shelf.old).files blocks.now) k) }
+    ensures frame { OnlyReads H.tells (H.view shelf.old) (H.view shelf.new) }
+    ensures stop { IfErr result (StopsChain H.tells wallet.now blocks.now (H.view shelf.old) (H.view shelf.new)) }
+
+    // A count of failed reads rises only where one of the two files wasn't read.
+    ensures unfailed { result ≢ Err (Stop.Read File.Wallet) → result ≢ Err (Stop.Read File.Blocks) → (H.view shelf.new).reads ≡ (H.view shelf.old).reads }
+
+    // It asks for the wallet file, and then for the block file. Where the wallet file isn't read or is refused, it asks
+    // for no other.
+    ensures asked { H.tells → Asks (wallet.now ∷ blocks.now ∷ []) (H.view shelf.old).asked (H.view shelf.new).asked }
+    ensures wallet_alone { H.tells → IfErr result (λ stop. is_of_wallet stop ≡ true → Asks (wallet.now ∷ []) (H.view shelf.old).asked (H.view shelf.new).asked) }
+    ensures refused_alone { H.tells → (cause : FileCause) → IsWalletCause ((H.view shelf.old).files wallet.now) cause → Asks (wallet.now ∷ []) (H.view shelf.old).asked (H.view shelf.new).asked }
+{
+    let wallet = wallet_from(alloc, shelf, wallet)?;
+    let (book, tip) = whole_book_from(alloc, shelf, blocks, &wallet)?;
+    Ok(WholeChain { wallet, book, tip })
 }
 
 /// Why the reading stops at a request file with this fault.

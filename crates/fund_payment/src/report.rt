@@ -52,7 +52,8 @@ pub fn payment_report(
 {
     inputs_show_coins();
     let figures = Figures::new(request, funded);
-    let text = psbt_text(alloc, held, request, funded)?;
+    let book = held.book.known();
+    let text = psbt_text(alloc, &book, &held.wallet.change, request, funded)?;
     let coins = lines(alloc, &funded.coins)?;
     let report = Report::Funded(FundedReport {
         mark: funded.mark,

@@ -10,20 +10,21 @@ ghost use Rattle.payment_states.specs.Candidates.{candidates_of};
 ghost use Rattle.payment_states.specs.Makers.{HasMaker};
 ghost use Rattle.fund_payment.specs.Report.{psbt_of, psbt_text_of, spent_of};
 
-use coin_book::Book;
+use coin_book::Known;
 use coin_candidates::Candidate;
 use fee_rates::is_program;
 use fund_base::{MAX_MONEY, Memory, Sat, are_bytes};
-use fund_files::Chain;
+use fund_files::WholeChain;
 use fund_plan::{Funded, pays_in_text, unsigned};
 use payment_states::candidates_have_makers;
 use psbt_codec::{Psbt, Spent, write_text};
 use request_text::Request;
 use std::alloc::Global;
 use tx_codec::TxOut;
+use wallet_text::Watch;
 
 // That what a signer needs to know of the coin fits an input that spends it. A call does nothing.
-fn known_fits(book: &Book, coin: &Candidate)
+fn known_fits(book: &Known<'_>, coin: &Candidate)
     requires value { coin.now.value ≤ MAX_MONEY }
     requires texts { HasTexts book.now }
     ensures { (i : TxIn) → i.prev ≡ coin.now.coin → IsSpent i (spent_of book.now coin.now) }
@@ -34,7 +35,7 @@ fn known_fits(book: &Book, coin: &Candidate)
 
 /// What a signer needs to know of the coin, which the book has. The error is out of memory.
 #[tactic(auto, unfolding(crate::specs::Report::spent_of))]
-fn spent(alloc: Global, book: &Book, coin: &Candidate) -> Result<Spent, Memory>
+fn spent(alloc: Global, book: &Known<'_>, coin: &Candidate) -> Result<Spent, Memory>
     requires { coin.now.value ≤ MAX_MONEY }
     ensures { IfOk result (λ s. s ≡ spent_of book.now coin.now) }
 {
@@ -54,7 +55,7 @@ fn spent(alloc: Global, book: &Book, coin: &Candidate) -> Result<Spent, Memory>
 }
 
 /// What a signer needs to know of the coins, in order. The error is out of memory.
-fn spent_of(alloc: Global, book: &Book, coins: &[Candidate]) -> Result<Vec<Spent>, Memory>
+fn spent_of(alloc: Global, book: &Known<'_>, coins: &[Candidate]) -> Result<Vec<Spent>, Memory>
     requires values { All (λ (c : Candidate). c.value ≤ MAX_MONEY) coins.now }
     requires texts { HasTexts book.now }
     ensures value { IfOk result (λ v. v.items ≡ map (spent_of book.now) coins.now) }
@@ -69,7 +70,7 @@ fn spent_of(alloc: Global, book: &Book, coins: &[Candidate]) -> Result<Vec<Spent
 }
 
 /// That the book has the transactions which made the coins that may be spent. A call does nothing.
-pub fn coins_have_makers(held: &Chain)
+pub fn coins_have_makers(held: &WholeChain)
     requires { IsChain held.now }
     ensures { (rate : ℕ) → All (HasMaker held.now.book) (candidates_of held.now.wallet held.now.book held.now.tip.height rate) }
 {
@@ -77,33 +78,40 @@ pub fn coins_have_makers(held: &Chain)
     candidates_have_makers();
 }
 
-/// The payment to be signed: its unsigned transaction, and for each input what a signer needs to know of its coin. The
-/// error is out of memory.
+/// The payment to be signed, whose change is paid to this script: its unsigned transaction, and for each input what a signer
+/// needs to know of its coin. The error is out of memory.
 #[tactic(auto, unfolding(crate::specs::Report::psbt_of))]
-pub fn psbt(alloc: Global, held: &Chain, request: &Request, funded: &Funded) -> Result<Psbt, Memory>
-    requires held { IsChain held.now }
+pub fn psbt(
+    alloc: Global,
+    book: &Known<'_>,
+    change: &Watch,
+    request: &Request,
+    funded: &Funded,
+) -> Result<Psbt, Memory>
+    requires texts { HasTexts book.now }
     requires funded { IsSelection request.now funded.now }
-    ensures value { IfOk result (λ p. p ≡ psbt_of held.now.book request.now held.now.wallet.change funded.now) }
+    ensures value { IfOk result (λ p. p ≡ psbt_of book.now request.now change.now funded.now) }
     ensures fits { IfOk result IsPsbt }
 {
     pays_in_text();
-    let tx = unsigned(alloc, request, &held.wallet.change, funded)?;
-    let spent = spent_of(alloc, &held.book, &funded.coins)?;
+    let tx = unsigned(alloc, request, change, funded)?;
+    let spent = spent_of(alloc, book, &funded.coins)?;
     Ok(Psbt { tx, spent })
 }
 
 /// The payment to be signed, as text in the version of a PSBT that the request asks for. The error is out of memory.
 pub fn psbt_text(
     alloc: Global,
-    held: &Chain,
+    book: &Known<'_>,
+    change: &Watch,
     request: &Request,
     funded: &Funded,
 ) -> Result<String, Memory>
-    requires held { IsChain held.now }
+    requires texts { HasTexts book.now }
     requires funded { IsSelection request.now funded.now }
-    ensures value { IfOk result (λ text. string_bytes text ≡ psbt_text_of held.now.book request.now held.now.wallet.change funded.now) }
-    ensures fits { IfOk result (λ _. IsPsbt (psbt_of held.now.book request.now held.now.wallet.change funded.now)) }
+    ensures value { IfOk result (λ text. string_bytes text ≡ psbt_text_of book.now request.now change.now funded.now) }
+    ensures fits { IfOk result (λ _. IsPsbt (psbt_of book.now request.now change.now funded.now)) }
 {
-    let psbt = psbt(alloc, held, request, funded)?;
+    let psbt = psbt(alloc, book, change, request, funded)?;
     write_text(alloc, &psbt, request.psbt)
 }

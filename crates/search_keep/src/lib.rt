@@ -1,5 +1,5 @@
 //! A position of a search as a saved text: what is saved, its text, reading it back with the exact place of a fault, and
-//! the search that goes on from it.
+//! the search of either kind that goes on from it.
 #![tactic(auto)]
 
 mod fault;
@@ -8,6 +8,7 @@ mod lines;
 mod reading;
 mod resuming;
 mod saved;
+mod walk;
 mod writing;
 
 pub use fault::SavedFault;
@@ -15,4 +16,5 @@ pub use laws::{faults_have_one_place, saved_walks_can_go_on, texts_have_one_posi
 pub use reading::read_saved;
 pub use resuming::resume;
 pub use saved::Saved;
+pub use walk::Walk;
 pub use writing::write_saved;

@@ -4,15 +4,17 @@ ghost use Rattle.std.specs.Prelude.{◌≡◌, ◌↔◌, ◌≤◌, ℕ, Err, I
 ghost use Rattle.pick_problem.specs.Walk.{walk};
 ghost use Rattle.search_keep.specs.declared.fault.SavedFault.TheVariants as faults;
 ghost use Rattle.search_keep.specs.Resumed.{CanStand, MayGoOn, IsRefusal, IsSavedWalk, open_position};
+ghost use Rattle.search_keep.specs.Walks.{kind_of, search_of};
 ghost use Rattle.walk_engine.specs.Search.{IsAfter, restored};
 
 use crate::fault::SavedFault;
 use crate::saved::Saved;
+use crate::walk::Walk;
 use closing_log::tries_in;
 use fund_base::{MOST_TRIES, Memory, Places};
 use pick_problem::{Position, Problem};
 use std::alloc::Global;
-use walk_engine::{Search, may_stand};
+use walk_engine::may_stand;
 
 fn copy_best(alloc: Global, best: &Option<Places>) -> Result<Option<Places>, Memory>
     ensures { IfOk result (λ copied. copied ≡ best.now) }
@@ -47,19 +49,15 @@ fn can_stand(saved: &Saved, problem: &Problem, _tokens: &[u8]) -> bool
 }
 
 /// The search that goes on from a position where it may stand. The error is out of memory.
-fn go_on(
-    alloc: Global,
-    saved: &Saved,
-    problem: &Problem,
-    tokens: &[u8],
-) -> Result<Search, SavedFault>
+fn go_on(alloc: Global, saved: &Saved, problem: &Problem, tokens: &[u8]) -> Result<Walk, SavedFault>
     requires { CanStand saved.now problem.now tokens.now }
-    ensures goes_on { IfOk result (λ w. w ≡ restored problem.now (open_position saved.now tokens.now) tokens.now) }
-    ensures same { (n : ℕ) → IsSavedWalk saved.now tokens.now (walk problem.now n) → IfOk result (λ w. IsAfter w n) }
+    ensures goes_on { IfOk result (λ w. search_of w ≡ restored problem.now (open_position saved.now tokens.now) tokens.now) }
+    ensures kind { IfOk result (λ w. kind_of w ≡ problem.now.kind) }
+    ensures same { (n : ℕ) → IsSavedWalk saved.now tokens.now (walk problem.now n) → IfOk result (λ w. IsAfter (search_of w) n) }
     ensures memory { IfErr result (λ e. e ≡ faults.Memory) }
 {
     let position = open_position(alloc, saved, tokens)?;
-    let walk = Search::restore(alloc, problem, &position, tokens)?;
+    let walk = Walk::restore(alloc, problem, &position, tokens)?;
     Ok(walk)
 }
 
@@ -74,12 +72,13 @@ pub fn resume(
     now: [u8; 32],
     problem: &Problem,
     tokens: &[u8],
-) -> Result<Search, SavedFault>
+) -> Result<Walk, SavedFault>
     // It stands where the position says and goes on by the rules of its walk, whatever the letters are.
-    ensures goes_on { IfOk result (λ w. w ≡ restored problem.now (open_position saved.now tokens.now) tokens.now) }
+    ensures goes_on { IfOk result (λ w. search_of w ≡ restored problem.now (open_position saved.now tokens.now) tokens.now) }
+    ensures kind { IfOk result (λ w. kind_of w ≡ problem.now.kind) }
     ensures can { IfOk result (λ w. MayGoOn saved.now now × CanStand saved.now problem.now tokens.now) }
     // From what is saved of a new search after n tries, with its letters, it is that search.
-    ensures same { (n : ℕ) → IsSavedWalk saved.now tokens.now (walk problem.now n) → IfOk result (λ w. IsAfter w n) }
+    ensures same { (n : ℕ) → IsSavedWalk saved.now tokens.now (walk problem.now n) → IfOk result (λ w. IsAfter (search_of w) n) }
 
     // Why not.
     ensures job { (result ≡ Err (faults.JobElse saved.now.job now)) ↔ ¬ (saved.now.job ≡ now) }

@@ -29,22 +29,28 @@ pub returns-in-Err-clause-all_put : goal.returns-in-Err-clause-all_put
 returns-in-Err-clause-all_put g c = λ whole.
     absurd (stop_untold _ (plain_sources c.args.sources.now) (plain_payment c.args.payment.now) c.args.report.now c.in-Err.stop (g.O.Sink.view c.args.out.now) (g.O.Sink.view c.answer.new.out) c.answer.result c.answer.ensures.answered whole)
 
-pub returns-in-Ok-clause-refused : goal.returns-in-Ok-clause-refused
-returns-in-Ok-clause-refused g c = λ t none o due not.
-    ends_refused _ g.O.Sink.tells (plain_sources c.args.sources.now) (plain_payment c.args.payment.now) c.args.report.now (g.H.Shelf.view c.args.shelf.now) (g.H.Shelf.view c.accepted.new.shelf) (g.O.Sink.view c.args.out.now) (g.O.Sink.view c.put_report.new.out) t o due
-    none not c.put_report.result (returns-in-Ok-clause-ends g c)
+pub returns-in-Ok-clause-due : goal.returns-in-Ok-clause-due
+returns-in-Ok-clause-due g c = record {
+  refused = λ t none o due not.
+      ends_refused _ g.O.Sink.tells (plain_sources c.args.sources.now) (plain_payment c.args.payment.now) c.args.report.now (g.H.Shelf.view c.args.shelf.now) (g.H.Shelf.view c.accepted.new.shelf) (g.O.Sink.view c.args.out.now) (g.O.Sink.view c.put_report.new.out) t o due
+      none not c.put_report.result (returns-in-Ok-clause-ends g c);
+  complete = λ t none o due.
+      ends_complete _ g.O.Sink.tells (plain_sources c.args.sources.now) (plain_payment c.args.payment.now) c.args.report.now (g.H.Shelf.view c.args.shelf.now) (g.H.Shelf.view c.accepted.new.shelf) (g.O.Sink.view c.args.out.now) (g.O.Sink.view c.put_report.new.out) t o due
+      none c.put_report.result (returns-in-Ok-clause-ends g c);
+}
 
-pub returns-in-Err-clause-refused : goal.returns-in-Err-clause-refused
-returns-in-Err-clause-refused g c = λ t none o due not.
-    ends_refused _ g.O.Sink.tells (plain_sources c.args.sources.now) (plain_payment c.args.payment.now) c.args.report.now (g.H.Shelf.view c.args.shelf.now) (g.H.Shelf.view c.accepted.new.shelf) (g.O.Sink.view c.args.out.now) (g.O.Sink.view c.answer.new.out) t o due
-    none not c.answer.result (returns-in-Err-clause-ends g c)
+pub returns-in-Err-clause-due : goal.returns-in-Err-clause-due
+returns-in-Err-clause-due g c = record {
+  refused = λ t none o due not.
+      ends_refused _ g.O.Sink.tells (plain_sources c.args.sources.now) (plain_payment c.args.payment.now) c.args.report.now (g.H.Shelf.view c.args.shelf.now) (g.H.Shelf.view c.accepted.new.shelf) (g.O.Sink.view c.args.out.now) (g.O.Sink.view c.answer.new.out) t o due
+      none not c.answer.result (returns-in-Err-clause-ends g c);
+  complete = λ t none o due.
+      ends_complete _ g.O.Sink.tells (plain_sources c.args.sources.now) (plain_payment c.args.payment.now) c.args.report.now (g.H.Shelf.view c.args.shelf.now) (g.H.Shelf.view c.accepted.new.shelf) (g.O.Sink.view c.args.out.now) (g.O.Sink.view c.answer.new.out) t o due
+      none c.answer.result (returns-in-Err-clause-ends g c);
+}
 
-pub returns-in-Ok-clause-complete : goal.returns-in-Ok-clause-complete
-returns-in-Ok-clause-complete g c = λ t none o due.
-    ends_complete _ g.O.Sink.tells (plain_sources c.args.sources.now) (plain_payment c.args.payment.now) c.args.report.now (g.H.Shelf.view c.args.shelf.now) (g.H.Shelf.view c.accepted.new.shelf) (g.O.Sink.view c.args.out.now) (g.O.Sink.view c.put_report.new.out) t o due
-    none c.put_report.result (returns-in-Ok-clause-ends g c)
+pub returns-in-Ok-clause-asks : goal.returns-in-Ok-clause-asks
+returns-in-Ok-clause-asks g c = record { asked = c.accepted.ensures.asked; none_behind = c.accepted.ensures.none_behind; no_log = c.accepted.ensures.no_log; unread = c.accepted.ensures.unread }
 
-pub returns-in-Err-clause-complete : goal.returns-in-Err-clause-complete
-returns-in-Err-clause-complete g c = λ t none o due.
-    ends_complete _ g.O.Sink.tells (plain_sources c.args.sources.now) (plain_payment c.args.payment.now) c.args.report.now (g.H.Shelf.view c.args.shelf.now) (g.H.Shelf.view c.accepted.new.shelf) (g.O.Sink.view c.args.out.now) (g.O.Sink.view c.answer.new.out) t o due
-    none c.answer.result (returns-in-Err-clause-ends g c)
+pub returns-in-Err-clause-asks : goal.returns-in-Err-clause-asks
+returns-in-Err-clause-asks g c = record { asked = c.accepted.ensures.asked; none_behind = c.accepted.ensures.none_behind; no_log = c.accepted.ensures.no_log; unread = c.accepted.ensures.unread }

@@ -21,20 +21,28 @@ returns-in-Ok-clause-all_read g c = λ other. c.in-Ok.ensures.unfailed
 pub returns-in-Err-clause-all_read : goal.returns-in-Err-clause-all_read
 returns-in-Err-clause-all_read g c = λ other. c.in-Err.ensures.unfailed (λ tells. other (c.answer.ensures.read tells))
 
-pub returns-in-Ok-clause-unread_last : goal.returns-in-Ok-clause-unread_last
-returns-in-Ok-clause-unread_last g c = λ t is.
-    absurd (printed_read _ c.in-Ok.text.items (g.O.Sink.view c.args.out.now) (g.O.Sink.view c.put_report.new.out) c.put_report.result (rw c.deref.ensures.value at c.put_report.ensures.ends) is)
+-- ---- what is asked for
 
-pub returns-in-Err-clause-unread_last : goal.returns-in-Err-clause-unread_last
-returns-in-Err-clause-unread_last g c = λ t is.
-    stop_asks _ _ (plain_sources c.args.sources.now) c.args.psbt.now c.in-Err.stop (g.H.Shelf.view c.args.shelf.now) (g.H.Shelf.view c.completed.new.shelf) (g.O.Sink.view c.args.out.now) (g.O.Sink.view c.answer.new.out) c.answer.result c.in-Err.ensures.stop c.answer.ensures.answered
-    (c.in-Err.ensures.up_to t) is
+pub returns-in-Ok-clause-asks : goal.returns-in-Ok-clause-asks
+returns-in-Ok-clause-asks g c = record {
+  asked = c.completed.ensures.asked;
+  unread_last = λ t is.
+      absurd (printed_read _ c.in-Ok.text.items (g.O.Sink.view c.args.out.now) (g.O.Sink.view c.put_report.new.out) c.put_report.result (rw c.deref.ensures.value at c.put_report.ensures.ends) is);
+  refused_alone = c.completed.ensures.refused_alone;
+  chain_alone = c.completed.ensures.chain_alone;
+}
 
-pub returns-in-Ok-clause-refused_alone : goal.returns-in-Ok-clause-refused_alone
-returns-in-Ok-clause-refused_alone g c = c.in-Ok.ensures.refused_alone
+pub returns-in-Err-clause-asks : goal.returns-in-Err-clause-asks
+returns-in-Err-clause-asks g c = record {
+  asked = c.completed.ensures.asked;
+  unread_last = λ t is.
+      stop_asks _ _ (plain_sources c.args.sources.now) c.args.psbt.now c.in-Err.stop (g.H.Shelf.view c.args.shelf.now) (g.H.Shelf.view c.completed.new.shelf) (g.O.Sink.view c.args.out.now) (g.O.Sink.view c.answer.new.out) c.answer.result c.in-Err.ensures.stop c.answer.ensures.answered
+      (c.in-Err.ensures.up_to t) is;
+  refused_alone = c.completed.ensures.refused_alone;
+  chain_alone = c.completed.ensures.chain_alone;
+}
 
-pub returns-in-Err-clause-refused_alone : goal.returns-in-Err-clause-refused_alone
-returns-in-Err-clause-refused_alone g c = c.in-Err.ensures.refused_alone
+-- ---- failed puts
 
 pub returns-in-Ok-clause-all_put : goal.returns-in-Ok-clause-all_put
 returns-in-Ok-clause-all_put g c = put_whole (g.O.Sink.view c.args.out.now) (g.O.Sink.view c.put_report.new.out) c.put_report.result c.put_report.ensures.all_put
@@ -43,18 +51,20 @@ pub returns-in-Err-clause-all_put : goal.returns-in-Err-clause-all_put
 returns-in-Err-clause-all_put g c = λ whole.
     absurd (stop_untold _ (plain_sources c.args.sources.now) c.args.psbt.now c.in-Err.stop (g.O.Sink.view c.args.out.now) (g.O.Sink.view c.answer.new.out) c.answer.result c.answer.ensures.answered whole)
 
-pub returns-in-Ok-clause-refused : goal.returns-in-Ok-clause-refused
-returns-in-Ok-clause-refused g c = λ t none o due not.
-    ends_refused _ g.O.Sink.tells (plain_sources c.args.sources.now) c.args.psbt.now (g.H.Shelf.view c.args.shelf.now) (g.H.Shelf.view c.completed.new.shelf) (g.O.Sink.view c.args.out.now) (g.O.Sink.view c.put_report.new.out) t o due none not c.put_report.result (returns-in-Ok-clause-ends g c)
+-- ---- the status that is due
 
-pub returns-in-Err-clause-refused : goal.returns-in-Err-clause-refused
-returns-in-Err-clause-refused g c = λ t none o due not.
-    ends_refused _ g.O.Sink.tells (plain_sources c.args.sources.now) c.args.psbt.now (g.H.Shelf.view c.args.shelf.now) (g.H.Shelf.view c.completed.new.shelf) (g.O.Sink.view c.args.out.now) (g.O.Sink.view c.answer.new.out) t o due none not c.answer.result (returns-in-Err-clause-ends g c)
+pub returns-in-Ok-clause-due : goal.returns-in-Ok-clause-due
+returns-in-Ok-clause-due g c = record {
+  refused = λ t none o due not.
+      ends_refused _ g.O.Sink.tells (plain_sources c.args.sources.now) c.args.psbt.now (g.H.Shelf.view c.args.shelf.now) (g.H.Shelf.view c.completed.new.shelf) (g.O.Sink.view c.args.out.now) (g.O.Sink.view c.put_report.new.out) t o due none not c.put_report.result (returns-in-Ok-clause-ends g c);
+  complete = λ t none o due.
+      ends_complete _ g.O.Sink.tells (plain_sources c.args.sources.now) c.args.psbt.now (g.H.Shelf.view c.args.shelf.now) (g.H.Shelf.view c.completed.new.shelf) (g.O.Sink.view c.args.out.now) (g.O.Sink.view c.put_report.new.out) t o due none c.put_report.result (returns-in-Ok-clause-ends g c);
+}
 
-pub returns-in-Ok-clause-complete : goal.returns-in-Ok-clause-complete
-returns-in-Ok-clause-complete g c = λ t none o due.
-    ends_complete _ g.O.Sink.tells (plain_sources c.args.sources.now) c.args.psbt.now (g.H.Shelf.view c.args.shelf.now) (g.H.Shelf.view c.completed.new.shelf) (g.O.Sink.view c.args.out.now) (g.O.Sink.view c.put_report.new.out) t o due none c.put_report.result (returns-in-Ok-clause-ends g c)
-
-pub returns-in-Err-clause-complete : goal.returns-in-Err-clause-complete
-returns-in-Err-clause-complete g c = λ t none o due.
-    ends_complete _ g.O.Sink.tells (plain_sources c.args.sources.now) c.args.psbt.now (g.H.Shelf.view c.args.shelf.now) (g.H.Shelf.view c.completed.new.shelf) (g.O.Sink.view c.args.out.now) (g.O.Sink.view c.answer.new.out) t o due none c.answer.result (returns-in-Err-clause-ends g c)
+pub returns-in-Err-clause-due : goal.returns-in-Err-clause-due
+returns-in-Err-clause-due g c = record {
+  refused = λ t none o due not.
+      ends_refused _ g.O.Sink.tells (plain_sources c.args.sources.now) c.args.psbt.now (g.H.Shelf.view c.args.shelf.now) (g.H.Shelf.view c.completed.new.shelf) (g.O.Sink.view c.args.out.now) (g.O.Sink.view c.answer.new.out) t o due none not c.answer.result (returns-in-Err-clause-ends g c);
+  complete = λ t none o due.
+      ends_complete _ g.O.Sink.tells (plain_sources c.args.sources.now) c.args.psbt.now (g.H.Shelf.view c.args.shelf.now) (g.H.Shelf.view c.completed.new.shelf) (g.O.Sink.view c.args.out.now) (g.O.Sink.view c.answer.new.out) t o due none c.answer.result (returns-in-Err-clause-ends g c);
+}

@@ -37,26 +37,36 @@ returns-in-Err-clause-ends g c =
     stop_ends _ _ _ (plain_sources c.args.sources.now) (plain_payment c.args.payment.now) (plain_job c.args.job) (g.K.Keeper.view c.args.keeper.now) c.in-Err.stop (g.H.Shelf.view c.args.shelf.now) (g.H.Shelf.view c.outcome.new.shelf) (g.O.Sink.view c.args.out.now) (g.O.Sink.view c.answer.new.out) c.answer.result
     c.in-Err.ensures.stop c.outcome.ensures.frame.same c.answer.ensures.answered
 
-pub returns-in-NoSelection-clause-asked : goal.returns-in-NoSelection-clause-asked
-returns-in-NoSelection-clause-asked g c = λ t. asked_on (plain_sources c.args.sources.now) (plain_payment c.args.payment.now) (g.H.Shelf.view c.args.shelf.now) (g.H.Shelf.view c.outcome.new.shelf) (g.H.Shelf.view c.finish.new.shelf) c.finish.ensures.asked (c.outcome.ensures.asked t)
+-- ---- what is asked for
 
-pub returns-in-Funded-clause-asked : goal.returns-in-Funded-clause-asked
-returns-in-Funded-clause-asked g c = λ t. asked_on (plain_sources c.args.sources.now) (plain_payment c.args.payment.now) (g.H.Shelf.view c.args.shelf.now) (g.H.Shelf.view c.outcome.new.shelf) (g.H.Shelf.view c.finish-in-Funded.new.shelf) c.finish-in-Funded.ensures.asked (c.outcome.ensures.asked t)
-
-pub returns-in-Unfinished-clause-none_behind : goal.returns-in-Unfinished-clause-none_behind
-returns-in-Unfinished-clause-none_behind g c =
+pub returns-in-Unfinished-clause-asks : goal.returns-in-Unfinished-clause-asks
+returns-in-Unfinished-clause-asks g c =
     let ended = rw c.in-Unfinished.is at c.in-Ok.ensures.ends in
-    inputs_behind _ (plain_sources c.args.sources.now) (plain_payment c.args.payment.now) ended.0.wallet ended.0.blocks ended.0.asked (g.H.Shelf.view c.args.shelf.now) (g.H.Shelf.view c.outcome.new.shelf) ended.0.inputs
+    record {
+      asked = c.outcome.ensures.asked;
+      none_behind = inputs_behind _ (plain_sources c.args.sources.now) (plain_payment c.args.payment.now) ended.0.wallet ended.0.blocks ended.0.asked (g.H.Shelf.view c.args.shelf.now) (g.H.Shelf.view c.outcome.new.shelf) ended.0.inputs;
+    }
 
-pub returns-in-NoSelection-clause-none_behind : goal.returns-in-NoSelection-clause-none_behind
-returns-in-NoSelection-clause-none_behind g c =
+pub returns-in-NoSelection-clause-asks : goal.returns-in-NoSelection-clause-asks
+returns-in-NoSelection-clause-asks g c =
     let ends = rw c.in-NoSelection.is at c.in-Ok.ensures.ends in
-    inputs_behind _ (plain_sources c.args.sources.now) (plain_payment c.args.payment.now) ends.wallet ends.blocks ends.asked (g.H.Shelf.view c.args.shelf.now) (g.H.Shelf.view c.finish.new.shelf) ends.inputs
+    record {
+      asked = λ t. asked_on (plain_sources c.args.sources.now) (plain_payment c.args.payment.now) (g.H.Shelf.view c.args.shelf.now) (g.H.Shelf.view c.outcome.new.shelf) (g.H.Shelf.view c.finish.new.shelf) c.finish.ensures.asked (c.outcome.ensures.asked t);
+      none_behind = inputs_behind _ (plain_sources c.args.sources.now) (plain_payment c.args.payment.now) ends.wallet ends.blocks ends.asked (g.H.Shelf.view c.args.shelf.now) (g.H.Shelf.view c.finish.new.shelf) ends.inputs;
+    }
 
-pub returns-in-Funded-clause-none_behind : goal.returns-in-Funded-clause-none_behind
-returns-in-Funded-clause-none_behind g c =
+pub returns-in-Funded-clause-asks : goal.returns-in-Funded-clause-asks
+returns-in-Funded-clause-asks g c =
     let ends = rw c.in-Funded.is at c.in-Ok.ensures.ends in
-    inputs_behind _ (plain_sources c.args.sources.now) (plain_payment c.args.payment.now) ends.wallet ends.blocks ends.asked (g.H.Shelf.view c.args.shelf.now) (g.H.Shelf.view c.finish-in-Funded.new.shelf) ends.inputs
+    record {
+      asked = λ t. asked_on (plain_sources c.args.sources.now) (plain_payment c.args.payment.now) (g.H.Shelf.view c.args.shelf.now) (g.H.Shelf.view c.outcome.new.shelf) (g.H.Shelf.view c.finish-in-Funded.new.shelf) c.finish-in-Funded.ensures.asked (c.outcome.ensures.asked t);
+      none_behind = inputs_behind _ (plain_sources c.args.sources.now) (plain_payment c.args.payment.now) ends.wallet ends.blocks ends.asked (g.H.Shelf.view c.args.shelf.now) (g.H.Shelf.view c.finish-in-Funded.new.shelf) ends.inputs;
+    }
+
+pub returns-in-Err-clause-asks : goal.returns-in-Err-clause-asks
+returns-in-Err-clause-asks g c = record { asked = c.outcome.ensures.asked; none_behind = c.outcome.ensures.none_behind }
+
+-- ---- what is kept
 
 pub leave-requires : goal.leave-requires
 leave-requires g c =
@@ -75,45 +85,36 @@ returns-in-Funded-clause-jobs g c = λ t. same_jobs _ _ (g.K.Keeper.view c.args.
 pub returns-in-Err-clause-jobs : goal.returns-in-Err-clause-jobs
 returns-in-Err-clause-jobs g c = λ t. same_jobs _ _ (g.K.Keeper.view c.args.keeper.now) (g.K.Keeper.view c.args.keeper.now) refl
 
--- ---- failed reads
+-- ---- failures
 
-pub returns-in-Unfinished-clause-all_read : goal.returns-in-Unfinished-clause-all_read
-returns-in-Unfinished-clause-all_read g c = λ other. c.in-Ok.ensures.all_read (λ file e. cc)
+pub returns-in-Unfinished-clause-honest : goal.returns-in-Unfinished-clause-honest
+returns-in-Unfinished-clause-honest g c = record {
+  all_read = λ other. c.in-Ok.ensures.all_read (λ file e. cc);
+  all_written = λ other. c.outcome.ensures.frame.writes;
+  all_put = c.leave.ensures.all_put;
+  unfailed = c.leave.ensures.unfailed;
+}
 
-pub returns-in-NoSelection-clause-all_read : goal.returns-in-NoSelection-clause-all_read
-returns-in-NoSelection-clause-all_read g c = λ other. c.finish.ensures.reads ∙ c.in-Ok.ensures.all_read (λ file e. cc)
+pub returns-in-NoSelection-clause-honest : goal.returns-in-NoSelection-clause-honest
+returns-in-NoSelection-clause-honest g c = record {
+  all_read = λ other. c.finish.ensures.reads ∙ c.in-Ok.ensures.all_read (λ file e. cc);
+  all_written = λ other. c.finish.ensures.all_written other ∙ c.outcome.ensures.frame.writes;
+  all_put = put_whole (g.O.Sink.view c.args.out.now) (g.O.Sink.view c.finish.new.out) c.finish.result c.finish.ensures.all_put;
+  unfailed = λ other. refl;
+}
 
-pub returns-in-Funded-clause-all_read : goal.returns-in-Funded-clause-all_read
-returns-in-Funded-clause-all_read g c = λ other. c.finish-in-Funded.ensures.reads ∙ c.in-Ok.ensures.all_read (λ file e. cc)
+pub returns-in-Funded-clause-honest : goal.returns-in-Funded-clause-honest
+returns-in-Funded-clause-honest g c = record {
+  all_read = λ other. c.finish-in-Funded.ensures.reads ∙ c.in-Ok.ensures.all_read (λ file e. cc);
+  all_written = λ other. c.finish-in-Funded.ensures.all_written other ∙ c.outcome.ensures.frame.writes;
+  all_put = put_whole (g.O.Sink.view c.args.out.now) (g.O.Sink.view c.finish-in-Funded.new.out) c.finish-in-Funded.result c.finish-in-Funded.ensures.all_put;
+  unfailed = λ other. refl;
+}
 
-pub returns-in-Err-clause-all_read : goal.returns-in-Err-clause-all_read
-returns-in-Err-clause-all_read g c = λ other. c.in-Err.ensures.all_read (λ file e. other (c.answer.ensures.read file cc))
-
--- ---- failed writes
-
-pub returns-in-Unfinished-clause-all_written : goal.returns-in-Unfinished-clause-all_written
-returns-in-Unfinished-clause-all_written g c = λ other. c.outcome.ensures.frame.writes
-
-pub returns-in-NoSelection-clause-all_written : goal.returns-in-NoSelection-clause-all_written
-returns-in-NoSelection-clause-all_written g c = λ other. c.finish.ensures.all_written other ∙ c.outcome.ensures.frame.writes
-
-pub returns-in-Funded-clause-all_written : goal.returns-in-Funded-clause-all_written
-returns-in-Funded-clause-all_written g c = λ other. c.finish-in-Funded.ensures.all_written other ∙ c.outcome.ensures.frame.writes
-
-pub returns-in-Err-clause-all_written : goal.returns-in-Err-clause-all_written
-returns-in-Err-clause-all_written g c = λ other. c.outcome.ensures.frame.writes
-
--- ---- failed puts
-
-pub returns-in-Unfinished-clause-all_put : goal.returns-in-Unfinished-clause-all_put
-returns-in-Unfinished-clause-all_put g c = c.leave.ensures.all_put
-
-pub returns-in-NoSelection-clause-all_put : goal.returns-in-NoSelection-clause-all_put
-returns-in-NoSelection-clause-all_put g c = put_whole (g.O.Sink.view c.args.out.now) (g.O.Sink.view c.finish.new.out) c.finish.result c.finish.ensures.all_put
-
-pub returns-in-Funded-clause-all_put : goal.returns-in-Funded-clause-all_put
-returns-in-Funded-clause-all_put g c = put_whole (g.O.Sink.view c.args.out.now) (g.O.Sink.view c.finish-in-Funded.new.out) c.finish-in-Funded.result c.finish-in-Funded.ensures.all_put
-
-pub returns-in-Err-clause-all_put : goal.returns-in-Err-clause-all_put
-returns-in-Err-clause-all_put g c = λ whole.
-    absurd (stop_untold _ (plain_sources c.args.sources.now) (plain_payment c.args.payment.now) c.in-Err.stop (g.O.Sink.view c.args.out.now) (g.O.Sink.view c.answer.new.out) c.answer.result c.answer.ensures.answered whole)
+pub returns-in-Err-clause-honest : goal.returns-in-Err-clause-honest
+returns-in-Err-clause-honest g c = record {
+  all_read = λ other. c.in-Err.ensures.all_read (λ file e. other (c.answer.ensures.read file cc));
+  all_written = λ other. c.outcome.ensures.frame.writes;
+  all_put = λ whole. absurd (stop_untold _ (plain_sources c.args.sources.now) (plain_payment c.args.payment.now) c.in-Err.stop (g.O.Sink.view c.args.out.now) (g.O.Sink.view c.answer.new.out) c.answer.result c.answer.ensures.answered whole);
+  unfailed = λ other. refl;
+}

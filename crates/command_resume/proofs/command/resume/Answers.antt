@@ -48,11 +48,31 @@ leave-requires g c =
     let ended = rw c.in-Ok-Unfinished.field-0-is at c.in-Ok-Unfinished.ensures.ends in
     ended.can
 
-pub returns-in-Ok-NoSelection-clause-asked : goal.returns-in-Ok-NoSelection-clause-asked
-returns-in-Ok-NoSelection-clause-asked g c = λ t. asked_on (plain_sources c.args.sources.now) (plain_payment c.args.payment.now) (g.H.Shelf.view c.args.shelf.now) (g.H.Shelf.view c.go_on.new.shelf) (g.H.Shelf.view c.finish.new.shelf) c.finish.ensures.asked (c.go_on.ensures.asked t)
+-- ---- what is asked for
 
-pub returns-in-Ok-Funded-clause-asked : goal.returns-in-Ok-Funded-clause-asked
-returns-in-Ok-Funded-clause-asked g c = λ t. asked_on (plain_sources c.args.sources.now) (plain_payment c.args.payment.now) (g.H.Shelf.view c.args.shelf.now) (g.H.Shelf.view c.go_on.new.shelf) (g.H.Shelf.view c.finish-in-Ok-Funded.new.shelf) c.finish-in-Ok-Funded.ensures.asked (c.go_on.ensures.asked t)
+pub returns-in-Ok-Unfinished-clause-asks : goal.returns-in-Ok-Unfinished-clause-asks
+returns-in-Ok-Unfinished-clause-asks g c = record { asked = c.go_on.ensures.asked; none_behind = c.go_on.ensures.none_behind }
+
+pub returns-in-Ok-NoSelection-clause-asks : goal.returns-in-Ok-NoSelection-clause-asks
+returns-in-Ok-NoSelection-clause-asks g c =
+    let ends = rw c.in-Ok-NoSelection.field-0-is at c.in-Ok-NoSelection.ensures.ends in
+    record {
+      asked = λ t. asked_on (plain_sources c.args.sources.now) (plain_payment c.args.payment.now) (g.H.Shelf.view c.args.shelf.now) (g.H.Shelf.view c.go_on.new.shelf) (g.H.Shelf.view c.finish.new.shelf) c.finish.ensures.asked (c.go_on.ensures.asked t);
+      none_behind = inputs_behind _ (plain_sources c.args.sources.now) (plain_payment c.args.payment.now) ends.wallet ends.blocks ends.asked (g.H.Shelf.view c.args.shelf.now) (g.H.Shelf.view c.finish.new.shelf) ends.inputs;
+    }
+
+pub returns-in-Ok-Funded-clause-asks : goal.returns-in-Ok-Funded-clause-asks
+returns-in-Ok-Funded-clause-asks g c =
+    let ends = rw c.in-Ok-Funded.field-0-is at c.in-Ok-Funded.ensures.ends in
+    record {
+      asked = λ t. asked_on (plain_sources c.args.sources.now) (plain_payment c.args.payment.now) (g.H.Shelf.view c.args.shelf.now) (g.H.Shelf.view c.go_on.new.shelf) (g.H.Shelf.view c.finish-in-Ok-Funded.new.shelf) c.finish-in-Ok-Funded.ensures.asked (c.go_on.ensures.asked t);
+      none_behind = inputs_behind _ (plain_sources c.args.sources.now) (plain_payment c.args.payment.now) ends.wallet ends.blocks ends.asked (g.H.Shelf.view c.args.shelf.now) (g.H.Shelf.view c.finish-in-Ok-Funded.new.shelf) ends.inputs;
+    }
+
+pub returns-in-Err-clause-asks : goal.returns-in-Err-clause-asks
+returns-in-Err-clause-asks g c = record { asked = c.go_on.ensures.asked; none_behind = c.go_on.ensures.none_behind }
+
+-- ---- what is kept
 
 pub returns-in-Ok-Unfinished-clause-jobs : goal.returns-in-Ok-Unfinished-clause-jobs
 returns-in-Ok-Unfinished-clause-jobs g c = λ t. jobs_on _ _ (g.K.Keeper.view c.args.keeper.now) (g.K.Keeper.view c.go_on.new.keeper) (g.K.Keeper.view c.leave.new.keeper) (c.go_on.ensures.jobs t) (c.leave.ensures.jobs t)
@@ -66,67 +86,36 @@ returns-in-Ok-Funded-clause-jobs g c = λ t. same_jobs _ _ (g.K.Keeper.view c.ar
 pub returns-in-Err-clause-jobs : goal.returns-in-Err-clause-jobs
 returns-in-Err-clause-jobs g c = λ t. same_jobs _ _ (g.K.Keeper.view c.args.keeper.now) (g.K.Keeper.view c.go_on.new.keeper) (c.go_on.ensures.jobs t)
 
-pub returns-in-Ok-Unfinished-clause-unfailed : goal.returns-in-Ok-Unfinished-clause-unfailed
-returns-in-Ok-Unfinished-clause-unfailed g c = λ other. c.leave.ensures.unfailed other ∙ c.in-Ok-Unfinished.ensures.unfailed (λ e. cc)
+-- ---- failures
 
-pub returns-in-Ok-NoSelection-clause-unfailed : goal.returns-in-Ok-NoSelection-clause-unfailed
-returns-in-Ok-NoSelection-clause-unfailed g c = λ other. c.in-Ok-NoSelection.ensures.unfailed (λ e. cc)
+pub returns-in-Ok-Unfinished-clause-honest : goal.returns-in-Ok-Unfinished-clause-honest
+returns-in-Ok-Unfinished-clause-honest g c = record {
+  all_read = λ other. c.in-Ok-Unfinished.ensures.all_read (λ file e. cc);
+  all_written = λ other. c.go_on.ensures.frame.writes;
+  all_put = c.leave.ensures.all_put;
+  unfailed = λ other. c.leave.ensures.unfailed other ∙ c.in-Ok-Unfinished.ensures.unfailed (λ e. cc);
+}
 
-pub returns-in-Ok-Funded-clause-unfailed : goal.returns-in-Ok-Funded-clause-unfailed
-returns-in-Ok-Funded-clause-unfailed g c = λ other. c.in-Ok-Funded.ensures.unfailed (λ e. cc)
+pub returns-in-Ok-NoSelection-clause-honest : goal.returns-in-Ok-NoSelection-clause-honest
+returns-in-Ok-NoSelection-clause-honest g c = record {
+  all_read = λ other. c.finish.ensures.reads ∙ c.in-Ok-NoSelection.ensures.all_read (λ file e. cc);
+  all_written = λ other. c.finish.ensures.all_written other ∙ c.go_on.ensures.frame.writes;
+  all_put = put_whole (g.O.Sink.view c.args.out.now) (g.O.Sink.view c.finish.new.out) c.finish.result c.finish.ensures.all_put;
+  unfailed = λ other. c.in-Ok-NoSelection.ensures.unfailed (λ e. cc);
+}
 
-pub returns-in-Err-clause-unfailed : goal.returns-in-Err-clause-unfailed
-returns-in-Err-clause-unfailed g c = λ other. c.in-Err.ensures.unfailed (λ e. other (c.answer.ensures.keep (same_stop _ _ e)))
+pub returns-in-Ok-Funded-clause-honest : goal.returns-in-Ok-Funded-clause-honest
+returns-in-Ok-Funded-clause-honest g c = record {
+  all_read = λ other. c.finish-in-Ok-Funded.ensures.reads ∙ c.in-Ok-Funded.ensures.all_read (λ file e. cc);
+  all_written = λ other. c.finish-in-Ok-Funded.ensures.all_written other ∙ c.go_on.ensures.frame.writes;
+  all_put = put_whole (g.O.Sink.view c.args.out.now) (g.O.Sink.view c.finish-in-Ok-Funded.new.out) c.finish-in-Ok-Funded.result c.finish-in-Ok-Funded.ensures.all_put;
+  unfailed = λ other. c.in-Ok-Funded.ensures.unfailed (λ e. cc);
+}
 
-pub returns-in-Ok-NoSelection-clause-none_behind : goal.returns-in-Ok-NoSelection-clause-none_behind
-returns-in-Ok-NoSelection-clause-none_behind g c =
-    let ends = rw c.in-Ok-NoSelection.field-0-is at c.in-Ok-NoSelection.ensures.ends in
-    inputs_behind _ (plain_sources c.args.sources.now) (plain_payment c.args.payment.now) ends.wallet ends.blocks ends.asked (g.H.Shelf.view c.args.shelf.now) (g.H.Shelf.view c.finish.new.shelf) ends.inputs
-
-pub returns-in-Ok-Funded-clause-none_behind : goal.returns-in-Ok-Funded-clause-none_behind
-returns-in-Ok-Funded-clause-none_behind g c =
-    let ends = rw c.in-Ok-Funded.field-0-is at c.in-Ok-Funded.ensures.ends in
-    inputs_behind _ (plain_sources c.args.sources.now) (plain_payment c.args.payment.now) ends.wallet ends.blocks ends.asked (g.H.Shelf.view c.args.shelf.now) (g.H.Shelf.view c.finish-in-Ok-Funded.new.shelf) ends.inputs
-
--- ---- failed reads
-
-pub returns-in-Ok-Unfinished-clause-all_read : goal.returns-in-Ok-Unfinished-clause-all_read
-returns-in-Ok-Unfinished-clause-all_read g c = λ other. c.in-Ok-Unfinished.ensures.all_read (λ file e. cc)
-
-pub returns-in-Ok-NoSelection-clause-all_read : goal.returns-in-Ok-NoSelection-clause-all_read
-returns-in-Ok-NoSelection-clause-all_read g c = λ other. c.finish.ensures.reads ∙ c.in-Ok-NoSelection.ensures.all_read (λ file e. cc)
-
-pub returns-in-Ok-Funded-clause-all_read : goal.returns-in-Ok-Funded-clause-all_read
-returns-in-Ok-Funded-clause-all_read g c = λ other. c.finish-in-Ok-Funded.ensures.reads ∙ c.in-Ok-Funded.ensures.all_read (λ file e. cc)
-
-pub returns-in-Err-clause-all_read : goal.returns-in-Err-clause-all_read
-returns-in-Err-clause-all_read g c = λ other. c.in-Err.ensures.all_read (λ file e. other (c.answer.ensures.read file (same_stop _ _ e)))
-
--- ---- failed writes
-
-pub returns-in-Ok-Unfinished-clause-all_written : goal.returns-in-Ok-Unfinished-clause-all_written
-returns-in-Ok-Unfinished-clause-all_written g c = λ other. c.go_on.ensures.frame.writes
-
-pub returns-in-Ok-NoSelection-clause-all_written : goal.returns-in-Ok-NoSelection-clause-all_written
-returns-in-Ok-NoSelection-clause-all_written g c = λ other. c.finish.ensures.all_written other ∙ c.go_on.ensures.frame.writes
-
-pub returns-in-Ok-Funded-clause-all_written : goal.returns-in-Ok-Funded-clause-all_written
-returns-in-Ok-Funded-clause-all_written g c = λ other. c.finish-in-Ok-Funded.ensures.all_written other ∙ c.go_on.ensures.frame.writes
-
-pub returns-in-Err-clause-all_written : goal.returns-in-Err-clause-all_written
-returns-in-Err-clause-all_written g c = λ other. c.go_on.ensures.frame.writes
-
--- ---- failed puts
-
-pub returns-in-Ok-Unfinished-clause-all_put : goal.returns-in-Ok-Unfinished-clause-all_put
-returns-in-Ok-Unfinished-clause-all_put g c = c.leave.ensures.all_put
-
-pub returns-in-Ok-NoSelection-clause-all_put : goal.returns-in-Ok-NoSelection-clause-all_put
-returns-in-Ok-NoSelection-clause-all_put g c = put_whole (g.O.Sink.view c.args.out.now) (g.O.Sink.view c.finish.new.out) c.finish.result c.finish.ensures.all_put
-
-pub returns-in-Ok-Funded-clause-all_put : goal.returns-in-Ok-Funded-clause-all_put
-returns-in-Ok-Funded-clause-all_put g c = put_whole (g.O.Sink.view c.args.out.now) (g.O.Sink.view c.finish-in-Ok-Funded.new.out) c.finish-in-Ok-Funded.result c.finish-in-Ok-Funded.ensures.all_put
-
-pub returns-in-Err-clause-all_put : goal.returns-in-Err-clause-all_put
-returns-in-Err-clause-all_put g c = λ whole.
-    absurd (stop_untold _ (plain_sources c.args.sources.now) (plain_payment c.args.payment.now) c.in-Err.stop (g.O.Sink.view c.args.out.now) (g.O.Sink.view c.answer.new.out) c.answer.result c.answer.ensures.answered whole)
+pub returns-in-Err-clause-honest : goal.returns-in-Err-clause-honest
+returns-in-Err-clause-honest g c = record {
+  all_read = λ other. c.in-Err.ensures.all_read (λ file e. other (c.answer.ensures.read file (same_stop _ _ e)));
+  all_written = λ other. c.go_on.ensures.frame.writes;
+  all_put = λ whole. absurd (stop_untold _ (plain_sources c.args.sources.now) (plain_payment c.args.payment.now) c.in-Err.stop (g.O.Sink.view c.args.out.now) (g.O.Sink.view c.answer.new.out) c.answer.result c.answer.ensures.answered whole);
+  unfailed = λ other. c.in-Err.ensures.unfailed (λ e. other (c.answer.ensures.keep (same_stop _ _ e)));
+}

@@ -4,7 +4,7 @@ use Rattle.std.proofs.lemmas.List.Folds.{list_any_more}
 use Rattle.indexmap.specs.IndexSet.{contains, spare}
 use Rattle.tx_codec.specs.declared.tx.TxIn.{TxIn}
 use Rattle.desk_chain.specs.PendingTxids.{has_parent}
-use Rattle.desk_chain.proofs.SetLaws.{join, none_more}
+use Rattle.fund_files.proofs.SetLaws.{join, none_more}
 use Rattle.desk_chain.proofs.pending_txids.add_parents.Goals as goal
 
 pub loop-input-init : goal.loop-input-init

@@ -13,7 +13,7 @@ returns-in_err-shelf-clause-memory c = any_err c.from_residual.result _ (none_ad
 pub reading-init : goal.reading-init
 reading-init c =
     let k = c.args.held.now in
-    rw c.new-feed.ensures (record {
+    rw (c.new-feed.ensures, ap (λ (x : Chain). x.tip.hash) c.held.view_is, ap (λ (x : Chain). x.tip.height) c.held.view_is) (record {
       held = c.requires.held;
       file = c.in_ok-shelf.ensures;
       fine = refl;
@@ -25,6 +25,7 @@ pub returns-in-Ok-None-clause-reply : goal.returns-in-Ok-None-clause-reply
 returns-in-Ok-None-clause-reply c =
     let i = c.reading.invariant in
     let exact = rw c.in-Ok-None.field-0-is at c.in-Ok-None.ensures.exact in
+    rw (ap (λ (x : Chain). x.tip.height) c.held-in-reading.view_is, ap (λ (x : Chain). x.tip.hash) c.held-in-reading.view_is)
     (tip_ends c.args.bytes.now c.args.held.now c.reading.held c.reading.feed i.so_far (subst (λ (file : List ℕ). next_of file c.reading.feed ≡ Ok None) i.file (exact tt i.fine))).reply
 
 pub returns-in-Ok-None-clause-next : goal.returns-in-Ok-None-clause-next

@@ -1,6 +1,7 @@
 use Rattle.std.proofs.Common.{ap, subst, sym, ◌∙◌}
 use Rattle.coin_candidates.specs.Candidates.{AreCandidates}
 use Rattle.fund_files.specs.declared.chain.Chain.{Chain}
+use Rattle.fund_files.specs.declared.whole_chain.WholeChain.TheInside.{Inside}
 use Rattle.fund_steps.proofs.BumpLaws.{no_bump}
 use Rattle.desk_machine.specs.State.{candidates_at, desk_of}
 use Rattle.request_text.specs.PlainRequest.{PlainRequest}
@@ -17,7 +18,7 @@ new-requires-clause-candidates c = subst AreCandidates (sym c.in_ok-keep_free.en
 pub returns-in-Err-clause-fault : goal.returns-in-Err-clause-fault
 returns-in-Err-clause-fault c = λ other.
     let d = desk_of c.args.held.now c.args.committed.now in
-    let own = ap (λ (k : Chain). k.wallet.change) c.held.view_is in
+    let own = ap (λ (i : Inside). i.wallet.change) c.held-inside.view_is ∙ ap (λ (k : Chain). k.wallet.change) c.held.view_is in
     let is = plan_made d c.args.request.now _ _ _ own c.in_ok-keep_free.ensures (c.in_ok-coins.ensures.coins ∙ ap (λ (q : PlainRequest). candidates_at c.args.held.now q.rate) c.request.view_is) in
     due_fault _ _ c.in-Err.fault c.faults_are_found.ensures.fault is c.in-Err.ensures.fault other
 
@@ -25,4 +26,4 @@ pub returns-in-Ok-clause-plan : goal.returns-in-Ok-clause-plan
 returns-in-Ok-clause-plan c =
     let d = desk_of c.args.held.now c.args.committed.now in
     let all = c.in_ok-coins.ensures.coins ∙ ap (λ (q : PlainRequest). candidates_at c.args.held.now q.rate) c.request.view_is in
-    c.in-Ok.ensures.plan ∙ plan_made d c.args.request.now _ _ _ (ap (λ (k : Chain). k.wallet.change) c.held.view_is) c.in_ok-keep_free.ensures all
+    c.in-Ok.ensures.plan ∙ plan_made d c.args.request.now _ _ _ (ap (λ (i : Inside). i.wallet.change) c.held-inside.view_is ∙ ap (λ (k : Chain). k.wallet.change) c.held.view_is) c.in_ok-keep_free.ensures all

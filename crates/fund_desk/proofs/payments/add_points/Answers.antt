@@ -4,7 +4,7 @@ use Rattle.indexmap.specs.IndexSet.{contains}
 use Rattle.fund_base.specs.Outpoints.{same_outpoint}
 use Rattle.fund_base.specs.declared.outpoint.OutPoint.{OutPoint}
 use Rattle.desk_machine.specs.State.{has_point}
-use Rattle.desk_chain.proofs.SetLaws.{join, none_more}
+use Rattle.fund_files.proofs.SetLaws.{join, none_more}
 use Rattle.fund_desk.proofs.payments.add_points.Goals as goal
 
 pub loop-point-init : goal.loop-point-init

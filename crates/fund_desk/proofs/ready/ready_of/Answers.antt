@@ -1,4 +1,6 @@
-use Rattle.std.proofs.Common.{◌∙◌, List, ap, subst, sym}
+use Rattle.std.proofs.Common.{◌≡◌, ◌∙◌, List, None, ap, subst, sym}
+use Rattle.coin_book.specs.Faults.{fault_of}
+use Rattle.fund_files.specs.declared.chain.Chain.{Chain}
 use Rattle.fund_base.specs.declared.outpoint.OutPoint.{OutPoint}
 use Rattle.fund_payment.proofs.ParentLaws.{held_book}
 use Rattle.payment_states.proofs.FitSteps.{fit}
@@ -12,8 +14,9 @@ pub returns-clause-exact : goal.returns-clause-exact
 returns-clause-exact c =
     let k = c.args.held.now in
     c.in_ok-ready.ensures.exact
+    ∙ ap (λ (x : Chain). facts_among x.wallet x.book x.tip.height 0 c.deref.result.now) c.held.view_is
     ∙ ap (λ (os : List OutPoint). facts_among k.wallet k.book k.tip.height 0 os) (c.deref.ensures.value ∙ c.in_ok-points.ensures)
-    ∙ all_ready k.wallet k.book k.tip.height 0 (points c.args.coins.now) c.requires.rules (held_book k c.requires) c.keeps_rules.ensures
+    ∙ all_ready k.wallet k.book k.tip.height 0 (points c.args.coins.now) c.requires.rules (held_book k c.requires) (subst (λ (x : Chain). fault_of x.book ≡ None) c.held.view_is c.keeps_rules.ensures)
 
 pub returns-clause-one : goal.returns-clause-one
 returns-clause-one c = subst IsOneAtEach (sym (returns-clause-exact c)) (one_at_each (candidates_in c.args.held.now) (points c.args.coins.now))
@@ -21,4 +24,4 @@ returns-clause-one c = subst IsOneAtEach (sym (returns-clause-exact c)) (one_at_
 pub returns-clause-fit : goal.returns-clause-fit
 returns-clause-fit c =
     let k = c.args.held.now in
-    fit k.wallet k.book c.requires.rules (held_book k c.requires) c.keeps_rules.ensures k.tip.height 0
+    fit k.wallet k.book c.requires.rules (held_book k c.requires) (subst (λ (x : Chain). fault_of x.book ≡ None) c.held.view_is c.keeps_rules.ensures) k.tip.height 0

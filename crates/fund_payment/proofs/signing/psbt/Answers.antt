@@ -1,12 +1,7 @@
-use Rattle.std.proofs.Common.{◌∙◌, ap, subst, sym}
+use Rattle.std.proofs.Common.{◌∙◌, ap}
 use Rattle.fund_plan.specs.Selection.{PlainFunded}
-use Rattle.fund_files.specs.Chain.{HasTexts}
-use Rattle.fund_files.specs.declared.chain.Chain.{Chain}
-use Rattle.fund_payment.proofs.ParentLaws.{held_texts, psbt_made}
+use Rattle.fund_payment.proofs.ParentLaws.{psbt_made}
 use Rattle.fund_payment.proofs.signing.psbt.Goals as goal
-
-pub spent_of-requires-clause-texts : goal.spent_of-requires-clause-texts
-spent_of-requires-clause-texts c = subst HasTexts (sym (ap (λ (x : Chain). x.book) c.held.view_is)) (held_texts c.args.held.now c.requires.held)
 
 pub returns-clause-fits : goal.returns-clause-fits
 returns-clause-fits c =

@@ -1,4 +1,4 @@
--- Points that are put into a set one after another.
+-- What is put into a set one after another.
 use Rattle.std.proofs.Common.{◌≡◌, ◌||◌, Bool, true, false, cond, refl}
 
 pub none_more : (b : Bool) → b ≡ (b || false)
