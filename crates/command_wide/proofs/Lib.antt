@@ -1,0 +1,4 @@
+pub mod EndedLaws
+pub mod FinishLaws
+pub mod OutcomeLaws
+pub mod StopLaws

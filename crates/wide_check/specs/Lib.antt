@@ -1,0 +1,11 @@
+pub mod Claims
+pub mod Feeding
+pub mod Reads
+pub mod SavingsTable
+pub mod Sections
+pub mod Wide
+pub mod WideLetters
+pub mod WideSoFar
+pub mod WideSteps
+pub mod WideTokens
+pub mod WideTree

@@ -1,0 +1,11 @@
+pub mod AskedLaws
+pub mod ClaimLaws
+pub mod EndLaws
+pub mod MadeLaws
+pub mod PayLaws
+pub mod PlanLaws
+pub mod RowsLaws
+pub mod StepLaws
+pub mod UsedUpLaws
+pub mod WalkLaws
+pub mod WrittenLaws

@@ -1,0 +1,13 @@
+pub mod BackLaws
+pub mod BestLaws
+pub mod BoundLaws
+pub mod CaseLaws
+pub mod DropLaws
+pub mod FollowLaws
+pub mod GlideLaws
+pub mod KeptLaws
+pub mod SearchLaws
+pub mod StackLaws
+pub mod TryStepLaws
+pub mod TurnLaws
+pub mod WayLaws

@@ -1,0 +1,9 @@
+pub mod Best
+pub mod Cases
+pub mod Examples
+pub mod Search
+pub mod SkipRuns
+pub mod Skipping
+pub mod Stack
+pub mod Transitions
+pub mod WideWalk
