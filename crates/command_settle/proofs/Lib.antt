@@ -1,0 +1,7 @@
+pub mod AskedLaws
+pub mod EndsLaws
+pub mod FilesLaws
+pub mod OutcomeLaws
+pub mod PaymentLaws
+pub mod SignedLaws
+pub mod StopLaws

@@ -1,0 +1,6 @@
+pub mod AlikeLaws
+pub mod FaultLaws
+pub mod FewLaws
+pub mod FirstLaws
+pub mod SpareLaws
+pub mod WeightLaws

@@ -1,0 +1,3 @@
+pub mod SettledLaws
+pub mod WithinLaws
+pub mod WorkedLaws
