@@ -1,0 +1,5 @@
+pub mod RowLaws
+pub mod SearchLaws
+pub mod ShareLaws
+pub mod SharedLaws
+pub mod SweepLaws

@@ -1,0 +1,4 @@
+pub mod RowShares
+pub mod Searching
+pub mod Shares
+pub mod Sweep
