@@ -17,8 +17,8 @@ use Rattle.fund_top.specs.Asked.{AsksFor}
 use Rattle.fund_top.specs.Outcome.{ComesTo, IsRefusal, IsTold, Outcome}
 use Rattle.fund_top.specs.Outside.{Outside, outside}
 use Rattle.fund_top.specs.Run.{EndsByStatus, LeavesOthers, ReadsInOrder, RefusesFirst, TellsDue, TellsFailures, TellsUsage}
-use Rattle.fund_top.specs.Statuses.{Ends, EndsBroken, EndsInput, EndsLimited, EndsNotFunded, EndsNotKept, EndsUnfinished, EndsUnkept, EndsUnread, EndsUnwritten, EndsWithoutMemory, KeepsOthers, NoneFailed, NoneUnkept, NoneUnread, WhereFunding, status_of}
-use Rattle.fund_top.specs.Words.{Command, Fund, command_of, names_stand, payment, sources, where_stands}
+use Rattle.fund_top.specs.Statuses.{Ends, EndsBroken, EndsInput, EndsLimited, EndsNotFunded, EndsNotKept, EndsUnfinished, EndsUnkept, EndsUnread, EndsUnsettled, EndsUnwritten, EndsWithoutMemory, KeepsOthers, NoneFailed, NoneUnkept, NoneUnread, WhereFunding, status_of}
+use Rattle.fund_top.specs.Words.{Command, Fund, command_of, names_stand, payment, settle_of, sources, where_stands, wide_of}
 use Rattle.pay_words.specs.declared.asked.Asked.{Asked}
 use Rattle.command_pay.specs.Held.{IsBeside, log_name}
 use Rattle.command_pay.specs.declared.run.Run.{Run}
@@ -31,7 +31,9 @@ fund_words_are v w b r l s p verb wallet blocks request log =
     let s_is : sources w b ≡ s = ap (λ (x : List ℕ). let it : Sources = record { wallet = x; blocks = string_bytes b } in it) wallet ∙ ap (λ (x : List ℕ). let it : Sources = record { wallet = s.wallet; blocks = x } in it) blocks in
     let p_is : payment r l ≡ p = ap (λ (x : List ℕ). let it : Payment = record { request = x; log = string_bytes l } in it) request ∙ ap (λ (x : List ℕ). let it : Payment = record { request = p.request; log = x } in it) log in
     let put : Sources → Payment → Option Command = λ s p. where_stands (names_stand s p) (Fund s p None) in
-    ap (λ (x : List ℕ). cond (bytes_eq x (codes "fund")) (put (sources w b) (payment r l)) None) verb ∙ ap (λ (x : Sources). put x (payment r l)) s_is ∙ ap (put s) p_is
+    let settled : Option Command = cond (bytes_eq (string_bytes v) (codes "settle")) (settle_of (string_bytes w) (string_bytes b) (string_bytes r) (string_bytes l)) None in
+    let others : Option Command = cond (bytes_eq (string_bytes v) (codes "wide")) (wide_of (string_bytes w) (string_bytes b) (string_bytes r) (string_bytes l)) settled in
+    ap (λ (x : List ℕ). cond (bytes_eq x (codes "fund")) (put (sources w b) (payment r l)) others) verb ∙ ap (λ (x : Sources). put x (payment r l)) s_is ∙ ap (put s) p_is
 
 -- what `run` promises, by what its words are
 pub record Promises (v : Outside) (o : Option Command) (result : Status) : Type 0 where
@@ -58,6 +60,7 @@ ends_by told s p o shelf shelf' sink sink' keeper keeper' statuses.Input is h = 
 ends_by told s p o shelf shelf' sink sink' keeper keeper' statuses.Limit is h = held (λ c. EndsLimited told (Unit {0}) (Unit {0}) c shelf shelf' sink sink' keeper) o (Fund s p None) is (h.ends.limit refl)
 ends_by told s p o shelf shelf' sink sink' keeper keeper' statuses.Saved is h = held (λ c. EndsNotKept told (Unit {0}) (Unit {0}) c shelf sink sink' keeper) o (Fund s p None) is (h.ends.saved refl)
 ends_by told s p o shelf shelf' sink sink' keeper keeper' statuses.CheckRefused is h = held (λ c. EndsBroken told (Unit {0}) c shelf sink sink') o (Fund s p None) is (h.ends.check_refused refl)
+ends_by told s p o shelf shelf' sink sink' keeper keeper' statuses.Settle is h = held (λ c. EndsUnsettled told (Unit {0}) c shelf sink sink') o (Fund s p None) is (h.ends.settle_refused refl)
 ends_by told s p o shelf shelf' sink sink' keeper keeper' statuses.ReadFault is h = held (λ c. EndsUnread told (Unit {0}) c shelf shelf' sink sink') o (Fund s p None) is (h.ends.read_fault refl)
 ends_by told s p o shelf shelf' sink sink' keeper keeper' statuses.WriteFault is h = held (λ c. EndsUnwritten told (Unit {0}) (Unit {0}) c shelf shelf' sink sink' keeper keeper') o (Fund s p None) is (h.ends.write_fault refl)
 ends_by told s p o shelf shelf' sink sink' keeper keeper' statuses.KeepFault is h = held (λ c. EndsUnkept told (Unit {0}) c shelf sink sink' keeper keeper') o (Fund s p None) is (h.ends.keep_fault refl)

@@ -32,9 +32,10 @@ pub record IsPaidBy (p : Payment) (o : TxOut) : Type 0 where
 abbrev pub IsSpentBy : List TxIn → String Global → Type 0
 IsSpentBy inputs word = (input : TxIn) × Contains inputs input × (coin_in (string_bytes word) ≡ Some input.prev)
 
--- Where the money of a payment goes. Its PSBT is of version 0 (BIP 174), and that of a transaction of which the first outputs are
--- the payments that are asked for, one each, in order; the only other output is the change, where there is any, to this script. Its inputs spend the coins
--- that are reported, and each coin that is listed. What these coins are worth goes to the outputs and the fee, in satoshi.
+-- Where the money of a payment goes. Its PSBT is of version 0 (BIP 174). It is that of a transaction of which the first outputs
+-- are the payments that are asked for, one each, in order. The only other output is the change, where there is any, to this
+-- script. Its inputs spend the coins that are reported, and each coin that is listed. What these coins are worth goes to the
+-- outputs and the fee, in satoshi.
 pub record IsMoneyOf (a : Asked) (change : Watch) (f : PlainFunded) : Type 0 where
   pub psbt : PartialTransaction
   pub paid : List TxOut

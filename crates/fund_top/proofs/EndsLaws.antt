@@ -23,11 +23,12 @@ use Rattle.command_fund.proofs.Finished.{log_lost, report_due}
 use Rattle.command_resume.specs.Outcome as resume_files
 use Rattle.command_resume.proofs.EndsLaws.{gone_not, resume_complete, resume_refused}
 use Rattle.command_work.specs.Outcome as load_words
+use Rattle.further_commands.proofs.EndsLaws as further_laws
 use Rattle.command_work.specs.Statuses as loads
 use Rattle.fund_top.specs.Outcome.{ComesTo, IsRefusal, IsTold, Outcome, Refused, check_outcome, desk_outcome, listing_outcome, load_outcome, payment_outcome, resume_outcome}
 use Rattle.fund_top.specs.Statuses.{Ends, NoneFailed, NoneUnkept, NoneUnread, status_of}
-use Rattle.fund_top.specs.Words.{Command, Coins, Fund, Resume, Check, Work, Desk}
-use Rattle.fund_top.proofs.CommandEnds.{check_back, desk_back, listing_back, load_back, payment_back, resume_back}
+use Rattle.fund_top.specs.Words.{Command, Coins, Fund, Resume, Check, Work, Desk, Further}
+use Rattle.fund_top.proofs.CommandEnds.{check_back, desk_back, further_back, listing_back, load_back, payment_back, resume_back}
 use Rattle.fund_top.proofs.KeptLaws.{job_refused}
 
 -- ---- a report isn't due where the files are refused
@@ -59,6 +60,7 @@ summary_due number count statuses.KeepFault summary h = absurd h
 summary_due number count statuses.Memory summary h = absurd h
 summary_due number count statuses.Saved summary h = absurd h
 summary_due number count statuses.CheckRefused summary h = absurd h
+summary_due number count statuses.Settle summary h = absurd h
 
 -- ---- where nothing failed
 
@@ -89,6 +91,7 @@ listing_complete told_files told told_jobs s shelf shelf' sink sink' keeper keep
 listing_complete told_files told told_jobs s shelf shelf' sink sink' keeper keeper' statuses.Memory h t none = inr refl
 listing_complete told_files told told_jobs s shelf shelf' sink sink' keeper keeper' statuses.Saved h t none = absurd h
 listing_complete told_files told told_jobs s shelf shelf' sink sink' keeper keeper' statuses.CheckRefused h t none = absurd h
+listing_complete told_files told told_jobs s shelf shelf' sink sink' keeper keeper' statuses.Settle h t none = absurd h
 
 payment_complete : (told_files told told_jobs : Type 0) (s : Sources) (p : Payment) (job : Option (List ℕ)) (shelf shelf' : ShelfView) (sink sink' : SinkView) (keeper keeper' : KeeperView) (status : Status) → payments.Ends told_files told told_jobs s p job shelf shelf' sink sink' keeper keeper' status → told_files → NoneFailed (Fund s p job) shelf shelf' sink sink' keeper keeper'
     → IsOf status (payment_outcome (payment_files.outcome_of shelf.files s p))
@@ -104,6 +107,7 @@ payment_complete told_files told told_jobs s p job shelf shelf' sink sink' keepe
 payment_complete told_files told told_jobs s p job shelf shelf' sink sink' keeper keeper' statuses.Memory h t none = inr refl
 payment_complete told_files told told_jobs s p job shelf shelf' sink sink' keeper keeper' statuses.Saved h t none = absurd h
 payment_complete told_files told told_jobs s p job shelf shelf' sink sink' keeper keeper' statuses.CheckRefused h t none = absurd h
+payment_complete told_files told told_jobs s p job shelf shelf' sink sink' keeper keeper' statuses.Settle h t none = absurd h
 
 -- the status of what a job comes to
 same_payment : (due : payment_files.Outcome) → payment_results.status_of due ≡ status_of (payment_outcome due)
@@ -139,6 +143,7 @@ load_complete told_files told told_jobs number count shelf shelf' sink sink' kee
 load_complete told_files told told_jobs number count shelf shelf' sink sink' keeper keeper' statuses.Memory h none = inr refl
 load_complete told_files told told_jobs number count shelf shelf' sink sink' keeper keeper' statuses.Saved h none = absurd h
 load_complete told_files told told_jobs number count shelf shelf' sink sink' keeper keeper' statuses.CheckRefused h none = absurd h
+load_complete told_files told told_jobs number count shelf shelf' sink sink' keeper keeper' statuses.Settle h none = absurd h
 
 -- what the files of a report come to is one, so its status is
 check_status : (files : List ℕ → List ℕ) (s : Sources) (p : Payment) (report : List ℕ) (found due : check_files.Outcome) (status : Status) → check_files.ComesTo files s p report found → check_files.ComesTo files s p report due → status_of (check_outcome found) ≡ status → status ≡ status_of (check_outcome due)
@@ -160,6 +165,7 @@ check_complete told_files told told_jobs s p report shelf shelf' sink sink' keep
 check_complete told_files told told_jobs s p report shelf shelf' sink sink' keeper keeper' statuses.Memory h t none due d = inr refl
 check_complete told_files told told_jobs s p report shelf shelf' sink sink' keeper keeper' statuses.Saved h t none due d = absurd h
 check_complete told_files told told_jobs s p report shelf shelf' sink sink' keeper keeper' statuses.CheckRefused h t none due d = inl (check_status shelf.files s p report (check_files.Broken h.0) due statuses.CheckRefused (h.2 t) d refl)
+check_complete told_files told told_jobs s p report shelf shelf' sink sink' keeper keeper' statuses.Settle h t none due d = absurd h
 
 -- the status of what a desk comes to
 same_desk : (due : desk_files.Outcome) → desk_files.status_of due ≡ status_of (desk_outcome due)
@@ -195,6 +201,9 @@ ends_complete told_files told told_jobs (Desk s script) shelf shelf' sink sink' 
     subst (λ (x : Outcome). IsOf status x) (sym is)
     (of_desk (desk_files.outcome_of shelf.files s script)
     (desk_laws.ends_complete told_files told s script shelf shelf' sink sink' t (record { reads = none.reads; sinks = none.sinks }) status (desk_back told_files told told_jobs s script shelf shelf' sink sink' keeper keeper' status h)))
+ends_complete told_files told told_jobs (Further c) shelf shelf' sink sink' keeper keeper' status h t none due is =
+    subst (λ (x : Outcome). IsOf status x) (sym is.2)
+    (further_laws.ends_complete told_files told c shelf shelf' sink sink' status (further_back told_files told told_jobs c shelf shelf' sink sink' keeper keeper' status h) t none.reads none.log none.sinks is.0 is.1)
 
 -- ---- where the files are refused and none wasn't read
 
@@ -212,6 +221,7 @@ listing_refused told_files told told_jobs s shelf shelf' sink sink' keeper keepe
 listing_refused told_files told told_jobs s shelf shelf' sink sink' keeper keeper' statuses.Memory h t none cause is = inr refl
 listing_refused told_files told told_jobs s shelf shelf' sink sink' keeper keeper' statuses.Saved h t none cause is = absurd h
 listing_refused told_files told told_jobs s shelf shelf' sink sink' keeper keeper' statuses.CheckRefused h t none cause is = absurd h
+listing_refused told_files told told_jobs s shelf shelf' sink sink' keeper keeper' statuses.Settle h t none cause is = absurd h
 
 payment_refused : (told_files told told_jobs : Type 0) (s : Sources) (p : Payment) (job : Option (List ℕ)) (shelf shelf' : ShelfView) (sink sink' : SinkView) (keeper keeper' : KeeperView) (status : Status) → payments.Ends told_files told told_jobs s p job shelf shelf' sink sink' keeper keeper' status → told_files → NoneUnread (Fund s p job) shelf shelf' → (cause : Cause) → payment_outcome (payment_files.outcome_of shelf.files s p) ≡ Refused cause
     → (status ≡ status_of_cause cause) ⊎ (status ≡ statuses.Memory)
@@ -227,6 +237,7 @@ payment_refused told_files told told_jobs s p job shelf shelf' sink sink' keeper
 payment_refused told_files told told_jobs s p job shelf shelf' sink sink' keeper keeper' statuses.Memory h t none cause is = inr refl
 payment_refused told_files told told_jobs s p job shelf shelf' sink sink' keeper keeper' statuses.Saved h t none cause is = absurd h
 payment_refused told_files told told_jobs s p job shelf shelf' sink sink' keeper keeper' statuses.CheckRefused h t none cause is = absurd h
+payment_refused told_files told told_jobs s p job shelf shelf' sink sink' keeper keeper' statuses.Settle h t none cause is = absurd h
 
 load_refused : (told_files told told_jobs : Type 0) (number count : ℕ) (shelf shelf' : ShelfView) (sink sink' : SinkView) (keeper keeper' : KeeperView) (status : Status) → loads.Ends told number count sink sink' status → (cause : Cause) → load_outcome (load_words.outcome_of number count) ≡ Refused cause
     → (status ≡ status_of_cause cause) ⊎ (status ≡ statuses.Memory)
@@ -242,6 +253,7 @@ load_refused told_files told told_jobs number count shelf shelf' sink sink' keep
 load_refused told_files told told_jobs number count shelf shelf' sink sink' keeper keeper' statuses.Memory h cause is = inr refl
 load_refused told_files told told_jobs number count shelf shelf' sink sink' keeper keeper' statuses.Saved h cause is = absurd h
 load_refused told_files told told_jobs number count shelf shelf' sink sink' keeper keeper' statuses.CheckRefused h cause is = absurd h
+load_refused told_files told told_jobs number count shelf shelf' sink sink' keeper keeper' statuses.Settle h cause is = absurd h
 
 check_refused : (told_files told told_jobs : Type 0) (s : Sources) (p : Payment) (report : List ℕ) (shelf shelf' : ShelfView) (sink sink' : SinkView) (keeper keeper' : KeeperView) (status : Status) → checks.Ends told_files told s p report shelf shelf' sink sink' status → told_files → NoneUnread (Check s p report) shelf shelf' → (due : check_files.Outcome) → check_files.ComesTo shelf.files s p report due → (check_files.IsAnAcceptance due → ⊥)
     → IsOf status (check_outcome due)
@@ -259,6 +271,7 @@ check_refused told_files told told_jobs s p report shelf shelf' sink sink' keepe
 check_refused told_files told told_jobs s p report shelf shelf' sink sink' keeper keeper' statuses.Memory h t none due d unaccepted = inr refl
 check_refused told_files told told_jobs s p report shelf shelf' sink sink' keeper keeper' statuses.Saved h t none due d unaccepted = absurd h
 check_refused told_files told told_jobs s p report shelf shelf' sink sink' keeper keeper' statuses.CheckRefused h t none due d unaccepted = inl (check_status shelf.files s p report (check_files.Broken h.0) due statuses.CheckRefused (h.2 t) d refl)
+check_refused told_files told told_jobs s p report shelf shelf' sink sink' keeper keeper' statuses.Settle h t none due d unaccepted = absurd h
 
 -- what isn't accepted is refused
 not_accepted : (due : check_files.Outcome) → IsRefusal (check_outcome due) → check_files.IsAnAcceptance due → ⊥
@@ -318,3 +331,6 @@ ends_refused told_files told told_jobs (Desk s script) shelf shelf' sink sink' k
     subst (λ (x : Outcome). IsOf status x) (sym is)
     (of_desk (desk_files.outcome_of shelf.files s script)
     (desk_laws.ends_refused told_files told s script shelf shelf' sink sink' t none (desk_refusal (desk_files.outcome_of shelf.files s script) (subst IsRefusal is refusal)) status (desk_back told_files told told_jobs s script shelf shelf' sink sink' keeper keeper' status h)))
+ends_refused told_files told told_jobs (Further c) shelf shelf' sink sink' keeper keeper' status h t none due refusal keeps is =
+    subst (λ (x : Outcome). IsOf status x) (sym is.2)
+    (further_laws.ends_refused told_files told c shelf shelf' sink sink' status (further_back told_files told told_jobs c shelf shelf' sink sink' keeper keeper' status h) t none is.0 (subst IsRefusal is.2 refusal) is.1)

@@ -22,7 +22,7 @@ use Rattle.command_resume.proofs.OneLaws.{by_reading, ready_not_refused}
 use Rattle.command_resume.proofs.RefusedLaws.{kept_limit, kept_not_saved}
 use Rattle.command_resume.specs.Statuses as resumes
 use Rattle.fund_top.specs.Statuses.{Ends, GoesOnUninterrupted, IsJobOf, WhereResuming}
-use Rattle.fund_top.specs.Words.{Command, Coins, Fund, Resume, Check, Work, Desk}
+use Rattle.fund_top.specs.Words.{Command, Coins, Fund, Resume, Check, Work, Desk, Further}
 use Rattle.fund_top.proofs.CommandEnds.{resume_back}
 
 -- what is due by one reading of the files is due by another
@@ -67,6 +67,7 @@ goes_on tf t tj s p job shelf shelf' sink sink' keeper keeper' statuses.WriteFau
 goes_on tf t tj s p job shelf shelf' sink sink' keeper keeper' statuses.KeepFault h f u j = λ w blocks r n k. (tt, λ e. absurd cc)
 goes_on tf t tj s p job shelf shelf' sink sink' keeper keeper' statuses.Memory h f u j = λ w blocks r n k. (tt, λ e. absurd cc)
 goes_on tf t tj s p job shelf shelf' sink sink' keeper keeper' statuses.CheckRefused h f u j = absurd h
+goes_on tf t tj s p job shelf shelf' sink sink' keeper keeper' statuses.Settle h f u j = absurd h
 
 pub ends_uninterrupted : (told_files told told_jobs : Type 0) (c : Command) (shelf shelf' : ShelfView) (sink sink' : SinkView) (keeper keeper' : KeeperView) (status : Status) → Ends told_files told told_jobs c shelf shelf' sink sink' keeper keeper' status → told_files → told → told_jobs
     → WhereResuming (Some c) (λ s p job. GoesOnUninterrupted s p job shelf shelf' sink sink' keeper keeper' status)
@@ -76,3 +77,4 @@ ends_uninterrupted tf t tj (Resume s p job) shelf shelf' sink sink' keeper keepe
 ends_uninterrupted tf t tj (Check s p report) shelf shelf' sink sink' keeper keeper' status h f u j = tt
 ends_uninterrupted tf t tj (Work number count) shelf shelf' sink sink' keeper keeper' status h f u j = tt
 ends_uninterrupted tf t tj (Desk s script) shelf shelf' sink sink' keeper keeper' status h f u j = tt
+ends_uninterrupted tf t tj (Further c) shelf shelf' sink sink' keeper keeper' status h f u j = tt

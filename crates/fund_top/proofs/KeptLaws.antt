@@ -59,3 +59,4 @@ job_refused tf told tj s p job shelf shelf' sink sink' keeper keeper' statuses.K
 job_refused tf told tj s p job shelf shelf' sink sink' keeper keeper' statuses.Memory h t u none keeps fault x = inr refl
 job_refused tf told tj s p job shelf shelf' sink sink' keeper keeper' statuses.Saved h t u none keeps fault x = inl (same_fault statuses.Saved tf told tj s p job shelf sink sink' keeper fault h t u x)
 job_refused tf told tj s p job shelf shelf' sink sink' keeper keeper' statuses.CheckRefused h t u none keeps fault x = absurd h
+job_refused tf told tj s p job shelf shelf' sink sink' keeper keeper' statuses.Settle h t u none keeps fault x = absurd h

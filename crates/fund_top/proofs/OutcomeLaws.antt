@@ -28,9 +28,11 @@ use Rattle.command_work.specs.Load.{earlier_of, request_of}
 use Rattle.command_resume.proofs.OneLaws as jobs_of
 use Rattle.command_resume.specs.Outcome as resumes
 use Rattle.command_work.proofs.OutcomeLaws as loads
+use Rattle.further_commands.proofs.OutcomeLaws as further
+use Rattle.further_commands.specs.Outcome as further_files
 use Rattle.command_work.specs.Outcome.{load_of, load_plan, summed}
-use Rattle.fund_top.specs.Outcome.{ComesTo, Outcome, Refused, Listed, check_outcome, IsListingMeant, IsMeant, desk_outcome, listing_outcome, load_outcome, payment_outcome, resume_outcome}
-use Rattle.fund_top.specs.Words.{Command, Coins, Fund, Resume, Check, Work, Desk}
+use Rattle.fund_top.specs.Outcome.{ComesTo, Outcome, Other, Refused, Listed, check_outcome, IsListingMeant, IsMeant, desk_outcome, listing_outcome, load_outcome, payment_outcome, resume_outcome}
+use Rattle.fund_top.specs.Words.{Command, Coins, Fund, Resume, Check, Work, Desk, Further}
 
 listing_refused : (files : List ℕ → List ℕ) (jobs : List ℕ → Option KeptJob) (s : Sources) (cause : Cause) → IsListingMeant (files s.wallet) (files s.blocks) cause → ComesTo files jobs (Coins s) (Refused cause)
 listing_refused files jobs s (Files cause) h = sym (ap listing_outcome (listings.refused_due files s cause h))
@@ -49,6 +51,7 @@ refusal_due files jobs (Resume s p job) cause h = (resumes.Refused cause, (payme
 refusal_due files jobs (Check s p report) cause h = (checks.Refused cause, (payments.refusal_due files s p cause h, h), refl)
 refusal_due files jobs (Work number count) cause h = sym (ap load_outcome (loads.collision_due number count cause h))
 refusal_due files jobs (Desk s script) cause h = desk_refused files jobs s script cause h
+refusal_due files jobs (Further c) cause h = absurd h
 
 pub listing_due : (files : List ℕ → List ℕ) (jobs : List ℕ → Option KeptJob) (s : Sources) (w : PlainWallet) (blocks : List ChainBlock) → HasChain (files s.wallet) (files s.blocks) w blocks → ComesTo files jobs (Coins s) (Listed (listing_in (chain_from w blocks)))
 listing_due files jobs s w blocks h = sym (ap listing_outcome (listings.listing_due files s w blocks h))
@@ -68,3 +71,4 @@ one_due files jobs (Resume s p job) a b x y = x.2 ∙ ap resume_outcome (jobs_of
 one_due files jobs (Check s p report) a b x y = x.2 ∙ ap check_outcome (one_outcome files s p report x.0 y.0 x.1 y.1) ∙ sym y.2
 one_due files jobs (Work number count) a b x y = x ∙ sym y
 one_due files jobs (Desk s script) a b x y = x ∙ sym y
+one_due files jobs (Further c) a b x y = x.2 ∙ ap (λ (due : further_files.Outcome). Other due) (further.one_outcome files c x.0 y.0 x.1 y.1) ∙ sym y.2

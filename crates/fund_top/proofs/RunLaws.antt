@@ -12,11 +12,12 @@ use Rattle.command_fund.specs.Statuses as payments
 use Rattle.command_inputs.specs.Results.{IsBeforeTheLog}
 use Rattle.command_resume.specs.Statuses as resumes
 use Rattle.command_work.specs.Statuses as loads
+use Rattle.further_commands.specs.Statuses as further
 use Rattle.fund_top.specs.Asked.{AsksFor}
 use Rattle.fund_top.specs.Outside.{Outside}
 use Rattle.fund_top.specs.Run.{EndsByStatus, GoesOn, LeavesOthers, ReadsInOrder, RefusesFirst, TellsDue, TellsUsage}
-use Rattle.fund_top.specs.Statuses.{Ends, EndsDone, KeepsOthers, WhereChecking, WhereDesk, WhereFunding, WhereListing, WhereResuming, WhereWorking, job_of}
-use Rattle.fund_top.specs.Words.{Command, Coins, Fund, Resume, Check, Work, Desk}
+use Rattle.fund_top.specs.Statuses.{Ends, EndsDone, KeepsOthers, WhereChecking, WhereDesk, WhereFunding, WhereFurther, WhereListing, WhereResuming, WhereWorking, job_of}
+use Rattle.fund_top.specs.Words.{Command, Coins, Fund, Resume, Check, Work, Desk, Further}
 use Rattle.fund_top.proofs.EndsLaws.{ends_complete, ends_refused}
 use Rattle.fund_top.proofs.GoesOnLaws.{ends_uninterrupted}
 
@@ -28,14 +29,16 @@ record IsDone (v : Outside) (c : Command) : Type 0 where
   accepted : WhereChecking (Some c) (λ s p report. checks.EndsAccepted v.tells_files v.tells_output s p report v.shelf v.sink v.sink')
   summed : WhereWorking (Some c) (λ number count. loads.EndsSummed v.tells_output number count statuses.Done v.sink v.sink')
   replied : WhereDesk (Some c) (λ s script. desks.EndsRunning v.tells_files v.tells_output s script v.shelf v.shelf' v.sink v.sink' statuses.Done)
+  further : WhereFurther (Some c) (λ x. further.Ends v.tells_files v.tells_output x v.shelf v.shelf' v.sink v.sink' statuses.Done)
 
 is_done : (v : Outside) (c : Command) → EndsDone v.tells_files v.tells_output v.tells_jobs c v.shelf v.shelf' v.sink v.sink' v.keeper → IsDone v c
-is_done v (Coins s) h = record { done = tt; resumed = tt; listed = h; accepted = tt; summed = tt; replied = tt }
-is_done v (Fund s p job) h = record { done = h; resumed = tt; listed = tt; accepted = tt; summed = tt; replied = tt }
-is_done v (Resume s p job) h = record { done = tt; resumed = h; listed = tt; accepted = tt; summed = tt; replied = tt }
-is_done v (Check s p report) h = record { done = tt; resumed = tt; listed = tt; accepted = h; summed = tt; replied = tt }
-is_done v (Work number count) h = record { done = tt; resumed = tt; listed = tt; accepted = tt; summed = h; replied = tt }
-is_done v (Desk s script) h = record { done = tt; resumed = tt; listed = tt; accepted = tt; summed = tt; replied = h }
+is_done v (Coins s) h = record { done = tt; resumed = tt; listed = h; accepted = tt; summed = tt; replied = tt; further = tt }
+is_done v (Fund s p job) h = record { done = h; resumed = tt; listed = tt; accepted = tt; summed = tt; replied = tt; further = tt }
+is_done v (Resume s p job) h = record { done = tt; resumed = h; listed = tt; accepted = tt; summed = tt; replied = tt; further = tt }
+is_done v (Check s p report) h = record { done = tt; resumed = tt; listed = tt; accepted = h; summed = tt; replied = tt; further = tt }
+is_done v (Work number count) h = record { done = tt; resumed = tt; listed = tt; accepted = tt; summed = h; replied = tt; further = tt }
+is_done v (Desk s script) h = record { done = tt; resumed = tt; listed = tt; accepted = tt; summed = tt; replied = h; further = tt }
+is_done v (Further x) h = record { done = tt; resumed = tt; listed = tt; accepted = tt; summed = tt; replied = tt; further = h }
 
 -- a command that ends so by its status
 module _ (v : Outside) (c : Command) (status : Status) (ends : Ends v.tells_files v.tells_output v.tells_jobs c v.shelf v.shelf' v.sink v.sink' v.keeper v.keeper' status) where
@@ -63,10 +66,12 @@ module _ (v : Outside) (c : Command) (status : Status) (ends : Ends v.tells_file
     accepted = λ e. (is_done v c (by statuses.Done e)).accepted;
     summed = λ e. (is_done v c (by statuses.Done e)).summed;
     replied = λ e. (is_done v c (by statuses.Done e)).replied;
+    further = λ e. (is_done v c (by statuses.Done e)).further;
     input = λ e. by statuses.Input e;
     limit = λ e. by statuses.Limit e;
     saved = λ e. by statuses.Saved e;
     check_refused = λ e. by statuses.CheckRefused e;
+    settle_refused = λ e. by statuses.Settle e;
     read_fault = λ e. by statuses.ReadFault e;
     write_fault = λ e. by statuses.WriteFault e;
     keep_fault = λ e. by statuses.KeepFault e;
@@ -112,10 +117,12 @@ module _ (v : Outside) (o : Option Command) (is : None ≡ o) where
     accepted = λ e. absurd cc;
     summed = λ e. absurd cc;
     replied = λ e. absurd cc;
+    further = λ e. absurd cc;
     input = λ e. absurd cc;
     limit = λ e. absurd cc;
     saved = λ e. absurd cc;
     check_refused = λ e. absurd cc;
+    settle_refused = λ e. absurd cc;
     read_fault = λ e. absurd cc;
     write_fault = λ e. absurd cc;
     keep_fault = λ e. absurd cc;

@@ -21,13 +21,14 @@ use Rattle.command_desk.specs.Course.{Course}
 use Rattle.command_desk.specs.Statuses as desks
 use Rattle.command_resume.specs.Statuses as resumes
 use Rattle.command_work.specs.Statuses as loads
+use Rattle.further_commands.proofs.SureLaws as further
 use Rattle.command_end.specs.declared.status.Status.{Status}
 use Rattle.fund_top.specs.Outcome.{ComesTo, IsTold, Outcome}
 use Rattle.fund_top.specs.InMemory.{Accepts, Funds, FundsNot, FundsOpen, Lists, Replies, Resumes, RunsInMemory, Sums}
 use Rattle.fund_top.specs.Outside.{in_memory}
 use Rattle.fund_top.specs.Run.{EndsByStatus, GoesOn, TellsDue, TellsUsage}
 use Rattle.fund_top.specs.Statuses.{EndsNotFunded, EndsUnfinished, EndsUnkept, EndsUnread, EndsUnwritten, IsLogUnwritten, NoneFailed, NoneUnread, WhereChecking, WhereDesk, WhereFunding, WhereListing, WhereResuming, WhereWorking, status_of}
-use Rattle.fund_top.specs.Words.{Command, Coins, Fund, Resume, Check, Work, Desk}
+use Rattle.fund_top.specs.Words.{Command, Coins, Fund, Resume, Check, Work, Desk, Further}
 
 funds : (c : Option Command) (shelf shelf' : ShelfView) (sink sink' : SinkView) → WhereFunding c (λ s p. payments.EndsFunded (Unit {0}) (Unit {0}) s p shelf shelf' sink sink') → WhereFunding c (λ s p. Funds s p shelf shelf' sink sink')
 funds None shelf shelf' sink sink' h = tt
@@ -37,6 +38,7 @@ funds (Some (Resume s p job)) shelf shelf' sink sink' h = tt
 funds (Some (Check s p report)) shelf shelf' sink sink' h = tt
 funds (Some (Work number count)) shelf shelf' sink sink' h = tt
 funds (Some (Desk s script)) shelf shelf' sink sink' h = tt
+funds (Some (Further c)) shelf shelf' sink sink' h = tt
 
 lists : (c : Option Command) (shelf : ShelfView) (sink sink' : SinkView) → WhereListing c (λ s. listings.EndsListed (Unit {0}) (Unit {0}) s shelf sink sink') → WhereListing c (λ s. Lists s shelf sink sink')
 lists None shelf sink sink' h = tt
@@ -46,6 +48,7 @@ lists (Some (Resume s p job)) shelf sink sink' h = tt
 lists (Some (Check s p report)) shelf sink sink' h = tt
 lists (Some (Work number count)) shelf sink sink' h = tt
 lists (Some (Desk s script)) shelf sink sink' h = tt
+lists (Some (Further c)) shelf sink sink' h = tt
 
 resumes_there : (c : Option Command) (shelf shelf' : ShelfView) (sink sink' : SinkView) (keeper : KeeperView) → WhereResuming c (λ s p job. resumes.EndsFunded (Unit {0}) (Unit {0}) (Unit {0}) s p job shelf shelf' sink sink' keeper)
     → WhereResuming c (λ s p job. Resumes s p job shelf shelf' sink sink' keeper)
@@ -56,6 +59,7 @@ resumes_there (Some (Resume s p job)) shelf shelf' sink sink' keeper h = (h.0, h
 resumes_there (Some (Check s p report)) shelf shelf' sink sink' keeper h = tt
 resumes_there (Some (Work number count)) shelf shelf' sink sink' keeper h = tt
 resumes_there (Some (Desk s script)) shelf shelf' sink sink' keeper h = tt
+resumes_there (Some (Further c)) shelf shelf' sink sink' keeper h = tt
 
 funds_not : (c : Option Command) (shelf shelf' : ShelfView) (sink sink' : SinkView) (keeper : KeeperView) → IfSome c (λ d. EndsNotFunded (Unit {0}) (Unit {0}) (Unit {0}) d shelf shelf' sink sink' keeper) → IfSome c (λ d. FundsNot d shelf shelf' sink sink' keeper)
 funds_not None shelf shelf' sink sink' keeper h = tt
@@ -65,6 +69,7 @@ funds_not (Some (Resume s p job)) shelf shelf' sink sink' keeper h = (h.0, h.1, 
 funds_not (Some (Check s p report)) shelf shelf' sink sink' keeper h = absurd h
 funds_not (Some (Work number count)) shelf shelf' sink sink' keeper h = (h.0, h.1, h.2 tt)
 funds_not (Some (Desk s script)) shelf shelf' sink sink' keeper h = absurd h
+funds_not (Some (Further c)) shelf shelf' sink sink' keeper h = h
 
 funds_open : (c : Option Command) (shelf shelf' : ShelfView) (sink sink' : SinkView) (keeper keeper' : KeeperView) → IfSome c (λ d. EndsUnfinished (Unit {0}) (Unit {0}) (Unit {0}) d shelf shelf' sink sink' keeper keeper') → IfSome c (λ d. FundsOpen d shelf shelf' sink sink' keeper keeper')
 funds_open None shelf shelf' sink sink' keeper keeper' h = tt
@@ -74,6 +79,7 @@ funds_open (Some (Resume s p job)) shelf shelf' sink sink' keeper keeper' h = (h
 funds_open (Some (Check s p report)) shelf shelf' sink sink' keeper keeper' h = absurd h
 funds_open (Some (Work number count)) shelf shelf' sink sink' keeper keeper' h = (h.0, h.1, h.2 tt)
 funds_open (Some (Desk s script)) shelf shelf' sink sink' keeper keeper' h = absurd h
+funds_open (Some (Further c)) shelf shelf' sink sink' keeper keeper' h = h
 
 sums : (c : Option Command) (sink sink' : SinkView) → WhereWorking c (λ number count. loads.EndsSummed (Unit {0}) number count statuses.Done sink sink') → WhereWorking c (λ number count. Sums statuses.Done number count sink sink')
 sums None sink sink' h = tt
@@ -83,6 +89,7 @@ sums (Some (Resume s p job)) sink sink' h = tt
 sums (Some (Check s p report)) sink sink' h = tt
 sums (Some (Work number count)) sink sink' h = (h.0, h.1, h.2 tt)
 sums (Some (Desk s script)) sink sink' h = tt
+sums (Some (Further c)) sink sink' h = tt
 
 accepts : (c : Option Command) (shelf : ShelfView) (sink sink' : SinkView) → WhereChecking c (λ s p report. checks.EndsAccepted (Unit {0}) (Unit {0}) s p report shelf sink sink') → WhereChecking c (λ s p report. Accepts s p report shelf sink sink')
 accepts None shelf sink sink' h = tt
@@ -92,6 +99,7 @@ accepts (Some (Resume s p job)) shelf sink sink' h = tt
 accepts (Some (Check s p report)) shelf sink sink' h = (h.0, h.1, h.2 tt)
 accepts (Some (Work number count)) shelf sink sink' h = tt
 accepts (Some (Desk s script)) shelf sink sink' h = tt
+accepts (Some (Further c)) shelf sink sink' h = tt
 
 replies : (c : Option Command) (shelf shelf' : ShelfView) (sink sink' : SinkView) → WhereDesk c (λ s script. desks.EndsRunning (Unit {0}) (Unit {0}) s script shelf shelf' sink sink' statuses.Done) → WhereDesk c (λ s script. Replies s script shelf sink sink')
 replies None shelf shelf' sink sink' h = tt
@@ -110,6 +118,7 @@ replies (Some (Desk s script)) shelf shelf' sink sink' h = (
       (subst (λ (text : List ℕ). Course shelf.files (lines_of text) h.desk h.runs.0 h.runs.1) (h.starts.text_is tt) (h.runs.2 tt)),
   h.runs.3 tt,
 )
+replies (Some (Further c)) shelf shelf' sink sink' h = tt
 
 -- ---- where no count is above nothing, none rose
 
@@ -143,6 +152,7 @@ none_unread (Desk s script) shelf shelf' a b = record {
   the_script = λ h. flat (shelf.reads script) (shelf'.reads script) (a.reads script) (b.reads script) h;
   lines = λ line want there names h. flat (shelf.reads want.file) (shelf'.reads want.file) (a.reads want.file) (b.reads want.file) h;
 }
+none_unread (Further c) shelf shelf' a b = further.none_unread c shelf shelf' a.reads b.reads
 
 none_unwritten : (c : Command) (shelf shelf' : ShelfView) → IsSure shelf → IsSure shelf' → IsLogUnwritten c shelf shelf' → ⊥
 none_unwritten (Coins s) shelf shelf' a b h = h
@@ -151,6 +161,7 @@ none_unwritten (Resume s p job) shelf shelf' a b h = flat (shelf.writes p.log) (
 none_unwritten (Check s p report) shelf shelf' a b h = h
 none_unwritten (Work number count) shelf shelf' a b h = h
 none_unwritten (Desk s script) shelf shelf' a b h = h
+none_unwritten (Further c) shelf shelf' a b h = further.none_unwritten c shelf shelf' a.writes b.writes h
 
 none_failed : (c : Command) (shelf shelf' : ShelfView) (sink sink' : SinkView) (keeper keeper' : KeeperView) → IsSure shelf → IsSure shelf' → sink.faults ≡ 0 → sink'.faults ≡ 0 → keeper.faults ≡ 0 → keeper'.faults ≡ 0 → NoneFailed c shelf shelf' sink sink' keeper keeper'
 none_failed c shelf shelf' sink sink' keeper keeper' a b d e f g =
@@ -163,6 +174,7 @@ told (Resume s p job) = (tt, tt)
 told (Check s p report) = tt
 told (Work number count) = tt
 told (Desk s script) = tt
+told (Further c) = tt
 
 completes : (c : Option Command) (shelf shelf' : ShelfView) (sink sink' : SinkView) (keeper keeper' : KeeperView) (status : Status) → IsSure shelf → IsSure shelf' → sink.faults ≡ 0 → sink'.faults ≡ 0 → keeper.faults ≡ 0 → keeper'.faults ≡ 0
     → IfSome c (λ d. IsTold (Unit {0}) (Unit {0}) d → NoneFailed d shelf shelf' sink sink' keeper keeper' → (due : Outcome) → ComesTo shelf.files keeper.jobs d due → (status ≡ status_of due) ⊎ (status ≡ statuses.Memory))
@@ -184,6 +196,7 @@ module _ (shelf shelf' : ShelfView) (sink sink' : SinkView) (keeper keeper' : Ke
   unread (Desk s script) (inl (inl h)) = listing_unread s shelf shelf' a b h.0 h.1
   unread (Desk s script) (inl (inr h)) = flat (shelf.reads script) (shelf'.reads script) (a.reads script) (b.reads script) h.0
   unread (Desk s script) (inr h) = flat (shelf.reads h.runs.1.file) (shelf'.reads h.runs.1.file) (a.reads h.runs.1.file) (b.reads h.runs.1.file) h.runs.3
+  unread (Further c) h = further.unread c shelf shelf' sink sink' a.reads b.reads h
 
   unwritten : (c : Command) → EndsUnwritten (Unit {0}) (Unit {0}) (Unit {0}) c shelf shelf' sink sink' keeper keeper' → ⊥
   unwritten (Coins s) h = flat sink.faults sink'.faults d e h.1
@@ -196,6 +209,7 @@ module _ (shelf shelf' : ShelfView) (sink sink' : SinkView) (keeper keeper' : Ke
   unwritten (Check s p report) h = flat sink.faults sink'.faults d e h.2
   unwritten (Work number count) h = flat sink.faults sink'.faults d e h.3
   unwritten (Desk s script) h = flat sink.faults sink'.faults d e h.runs.0
+  unwritten (Further c) h = further.unwritten c shelf shelf' sink sink' a.writes b.writes d e h
 
   failed_keep : (c : Command) → EndsUnkept (Unit {0}) (Unit {0}) c shelf sink sink' keeper keeper' → ⊥
   failed_keep (Coins s) h = h
@@ -204,6 +218,7 @@ module _ (shelf shelf' : ShelfView) (sink sink' : SinkView) (keeper keeper' : Ke
   failed_keep (Check s p report) h = h
   failed_keep (Work number count) h = h
   failed_keep (Desk s script) h = h
+  failed_keep (Further c) h = h
 
 -- no command ends with this status, and words that are none end with another
 never : (P : Command → Type 0) (o : Option Command) (status fault : Status) → ((c : Command) → P c → ⊥) → ((status ≡ statuses.Usage) ↔ (o ≡ None)) → fault ≢ statuses.Usage → (status ≡ fault → IfSome o P) → status ≢ fault
@@ -223,6 +238,7 @@ runs_in_memory o shelf shelf' sink sink' keeper keeper' status a b d e f g words
   accepted = λ is. accepts o shelf sink sink' (ends.accepted is);
   replied = λ is. replies o shelf shelf' sink sink' (ends.replied is);
   summed = λ is. sums o sink sink' (ends.summed is);
+  further = λ is. ends.further is;
   unfinished = λ is. funds_open o shelf shelf' sink sink' keeper keeper' (ends.unfinished is);
   none = λ is. funds_not o shelf shelf' sink sink' keeper (ends.none is);
   uninterrupted = goes.uninterrupted tt tt tt;

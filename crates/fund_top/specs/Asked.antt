@@ -9,7 +9,8 @@ use Rattle.command_check.specs.Evidence.{HasLoggedReport, HavePlan}
 use Rattle.command_inputs.specs.Inputs.{AsksInOrder, NoneBehind}
 use Rattle.command_desk.specs.Script.{lines_of}
 use Rattle.command_desk.specs.Asked as desks
-use Rattle.fund_top.specs.Words.{Command, Coins, Fund, Resume, Check, Work, Desk}
+use Rattle.further_commands.specs.Asked as further
+use Rattle.fund_top.specs.Words.{Command, Coins, Fund, Resume, Check, Work, Desk, Further}
 
 -- The files that its words name are asked for, one after the other, each as often as its reading takes, and no other name is.
 -- The log of a payment isn't: it is written. A job asks for no file once more: its digest is that of the bytes that were
@@ -30,3 +31,4 @@ AsksFor (Check s p report) shelf shelf' =
 AsksFor (Work number count) shelf shelf' = shelf'.asked ≡ shelf.asked
 AsksFor (Desk s script) shelf shelf' =
     Asks (desks.first_names s script ++ desks.files_in (lines_of (shelf.files script))) shelf.asked shelf'.asked × desks.NoneBehind s script shelf shelf'
+AsksFor (Further c) shelf shelf' = further.AsksFor c shelf shelf'

@@ -14,6 +14,7 @@ use Rattle.command_end.specs.declared.status.Status.{Status}
 use Rattle.command_end.specs.declared.status.Status.TheVariants as statuses
 use Rattle.command_resume.specs.Resumed as resumed
 use Rattle.command_work.specs.Statuses.{IsSummary}
+use Rattle.further_commands.specs.Statuses as further
 use Rattle.block_feed.specs.Block.{ChainBlock}
 use Rattle.wallet_text.specs.PlainWallet.{PlainWallet}
 use Rattle.desk_machine.specs.State.{PlainDesk, new_desk}
@@ -22,8 +23,8 @@ use Rattle.command_desk.specs.Course.{Course}
 use Rattle.command_desk.specs.Starts.{AreInputs}
 use Rattle.fund_top.specs.Outcome.{ComesTo, Outcome}
 use Rattle.fund_top.specs.Outside.{Outside}
-use Rattle.fund_top.specs.Statuses.{GoesOnUninterrupted, WhereChecking, WhereDesk, WhereFunding, WhereListing, WhereResuming, WhereWorking, status_of}
-use Rattle.fund_top.specs.Words.{Command, Coins, Fund, Resume, Check, Work, Desk}
+use Rattle.fund_top.specs.Statuses.{GoesOnUninterrupted, WhereChecking, WhereDesk, WhereFunding, WhereFurther, WhereListing, WhereResuming, WhereWorking, status_of}
+use Rattle.fund_top.specs.Words.{Command, Coins, Fund, Resume, Check, Work, Desk, Further}
 
 -- the listing is printed whole
 abbrev pub Lists : Sources → ShelfView → SinkView → SinkView → Type 0
@@ -63,6 +64,7 @@ FundsNot (Resume s p job) shelf shelf' sink sink' keeper =
 FundsNot (Check s p report) shelf shelf' sink sink' keeper = ⊥
 FundsNot (Work number count) shelf shelf' sink sink' keeper = Sums statuses.NoSelection number count sink sink'
 FundsNot (Desk s script) shelf shelf' sink sink' keeper = ⊥
+FundsNot (Further c) shelf shelf' sink sink' keeper = further.Ends (Unit {0}) (Unit {0}) c shelf shelf' sink sink' statuses.NoSelection
 
 -- no file is written, the run is kept where there is a job, and the report of the open search, or the summary, is printed whole
 abbrev pub FundsOpen : Command → ShelfView → ShelfView → SinkView → SinkView → KeeperView → KeeperView → Type 0
@@ -76,6 +78,7 @@ FundsOpen (Resume s p job) shelf shelf' sink sink' keeper keeper' =
 FundsOpen (Check s p report) shelf shelf' sink sink' keeper keeper' = ⊥
 FundsOpen (Work number count) shelf shelf' sink sink' keeper keeper' = Sums statuses.Unfinished number count sink sink'
 FundsOpen (Desk s script) shelf shelf' sink sink' keeper keeper' = ⊥
+FundsOpen (Further c) shelf shelf' sink sink' keeper keeper' = further.Ends (Unit {0}) (Unit {0}) c shelf shelf' sink sink' statuses.Unfinished
 
 -- What is true of a run over files, an output and jobs in memory that never fail.
 pub record RunsInMemory (v : Outside) (words : Option Command) (status : Status) : Type 0 where
@@ -97,6 +100,8 @@ pub record RunsInMemory (v : Outside) (words : Option Command) (status : Status)
   pub replied : status ≡ statuses.Done → WhereDesk words (λ s script. Replies s script v.shelf v.sink v.sink')
   -- Done, where a workload is summed up: the summary is printed whole.
   pub summed : status ≡ statuses.Done → WhereWorking words (λ number count. Sums statuses.Done number count v.sink v.sink')
+  -- Done, by a command beside these: what is due is printed whole, and a log that is due is written.
+  pub further : status ≡ statuses.Done → WhereFurther words (λ c. further.Ends (Unit {0}) (Unit {0}) c v.shelf v.shelf' v.sink v.sink' statuses.Done)
   -- Unfinished: no file is written, a job is kept, and the report is printed whole.
   pub unfinished : status ≡ statuses.Unfinished → IfSome words (λ c. FundsOpen c v.shelf v.shelf' v.sink v.sink' v.keeper v.keeper')
   -- No selection: the log is written, and the report is printed whole.

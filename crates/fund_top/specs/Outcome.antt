@@ -15,12 +15,14 @@ use Rattle.command_inputs.specs.Outcome as payments
 use Rattle.command_inputs.specs.Meant as payment_causes
 use Rattle.command_resume.specs.Outcome as resumes
 use Rattle.command_work.specs.Outcome as loads
+use Rattle.further_commands.specs.Outcome as further
 use Rattle.command_end.specs.declared.status.Status.{Status}
-use Rattle.fund_top.specs.Words.{Command, Coins, Fund, Resume, Check, Work, Desk}
+use Rattle.fund_top.specs.Words.{Command, Coins, Fund, Resume, Check, Work, Desk, Further}
 
 -- a refusal of the files, or of a kept job; the listing; a report with which the tries are used up; a report and a log, where
 -- nothing pays or of a payment; a file that is judged and too long, the first rule that a report breaks, or a report that is
--- accepted; the summary of a run with this status; or what a desk comes to whose wallet and blocks are in order
+-- accepted; the summary of a run with this status; what a desk comes to whose wallet and blocks are in order; or what one of the
+-- commands beside these comes to
 pub data Outcome : Type 0 where
   Refused : Cause → Outcome
   NotKept : KeptFault → Outcome
@@ -33,6 +35,7 @@ pub data Outcome : Type 0 where
   Accepted : Report → Outcome
   Summed : (status : Status) → (summary : List ℕ) → Outcome
   Ran : desks.Outcome → Outcome
+  Other : further.Outcome → Outcome
 
 -- that of a listing
 abbrev pub listing_outcome : Result (List ℕ) FileCause → Outcome
@@ -80,6 +83,7 @@ ComesTo files jobs (Resume s p job) o = (due : resumes.Outcome) × resumes.Comes
 ComesTo files jobs (Check s p report) o = (due : checks.Outcome) × checks.ComesTo files s p report due × (o ≡ check_outcome due)
 ComesTo files jobs (Work number count) o = o ≡ load_outcome (loads.outcome_of number count)
 ComesTo files jobs (Desk s script) o = o ≡ desk_outcome (desks.outcome_of files s script)
+ComesTo files jobs (Further c) o = (due : further.Outcome) × further.ComesTo files c due × (o ≡ Other due)
 
 -- where what a command comes to is told: its files are, and the jobs too where it goes on with one
 abbrev pub IsTold : (told_files told_jobs : Type 0) → Command → Type 0
@@ -89,6 +93,7 @@ IsTold told_files told_jobs (Resume s p job) = told_files × told_jobs
 IsTold told_files told_jobs (Check s p report) = told_files
 IsTold told_files told_jobs (Work number count) = Unit {0}
 IsTold told_files told_jobs (Desk s script) = told_files
+IsTold told_files told_jobs (Further c) = told_files
 
 -- the files are refused, or the job is, or what is judged is
 abbrev pub IsRefusal : Outcome → Type 0
@@ -103,6 +108,7 @@ IsRefusal (Broken fault) = Unit {0}
 IsRefusal (Accepted report) = ⊥
 IsRefusal (Summed status summary) = ⊥
 IsRefusal (Ran due) = desks.IsRefusal due
+IsRefusal (Other due) = further.IsRefusal due
 
 -- what the cause of a listing's refusal, or of a desk's, means by itself: its files are the wallet and the blocks alone
 abbrev pub IsListingMeant : (wallet blocks : List ℕ) → Cause → Type 0
@@ -118,3 +124,4 @@ IsMeant files (Resume s p job) cause = payment_causes.IsMeant files s p cause
 IsMeant files (Check s p report) cause = payment_causes.IsMeant files s p cause
 IsMeant files (Work number count) cause = loads.IsCollision number count cause
 IsMeant files (Desk s script) cause = IsListingMeant (files s.wallet) (files s.blocks) cause
+IsMeant files (Further c) cause = ⊥

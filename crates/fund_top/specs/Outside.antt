@@ -3,7 +3,7 @@ use Rattle.fund_shelf.specs.Causes.{ShelfView, SinkView}
 use Rattle.fund_outside.specs.Kept.{KeeperView}
 
 -- Whether the files, the output and the jobs tell their content; and the shelf, the sink and the keeper, as they are before the
--- run and as they are after it.
+-- run and as they are after it: a name with a prime is after it.
 pub record Outside : Type 1 where
   pub tells_files : Type 0
   pub tells_output : Type 0

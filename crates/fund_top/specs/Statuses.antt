@@ -32,8 +32,11 @@ use Rattle.command_inputs.specs.Results as payment_results
 use Rattle.command_resume.specs.Statuses as resumes
 use Rattle.command_resume.specs.Words.{kept_status}
 use Rattle.command_work.specs.Statuses as loads
-use Rattle.fund_top.specs.Outcome.{Outcome, Refused, NotKept, Listed, Unfinished, NoSelection, Funded, TooLong, Broken, Accepted, Summed, Ran}
-use Rattle.fund_top.specs.Words.{Command, Coins, Fund, Resume, Check, Work, Desk}
+use Rattle.further_commands.specs.Command.{FurtherCommand}
+use Rattle.further_commands.specs.Outcome as further_dues
+use Rattle.further_commands.specs.Statuses as further
+use Rattle.fund_top.specs.Outcome.{Outcome, Refused, NotKept, Listed, Unfinished, NoSelection, Funded, TooLong, Broken, Accepted, Summed, Ran, Other}
+use Rattle.fund_top.specs.Words.{Command, Coins, Fund, Resume, Check, Work, Desk, Further}
 
 -- the status of what a command comes to, where nothing fails
 abbrev pub status_of : Outcome → Status
@@ -48,6 +51,7 @@ status_of (Broken fault) = statuses.CheckRefused
 status_of (Accepted report) = statuses.Done
 status_of (Summed status summary) = status
 status_of (Ran due) = desk_dues.status_of due
+status_of (Other due) = further_dues.status_of due
 
 -- the sources of a command that lists coins have this
 abbrev pub WhereListing : Option Command → (Sources → Type 0) → Type 0
@@ -58,6 +62,7 @@ WhereListing (Some (Resume s p job)) P = Unit {0}
 WhereListing (Some (Check s p report)) P = Unit {0}
 WhereListing (Some (Work number count)) P = Unit {0}
 WhereListing (Some (Desk s script)) P = Unit {0}
+WhereListing (Some (Further c)) P = Unit {0}
 
 -- the files of a command that funds a payment have this
 abbrev pub WhereFunding : Option Command → (Sources → Payment → Type 0) → Type 0
@@ -68,6 +73,7 @@ WhereFunding (Some (Resume s p job)) P = Unit {0}
 WhereFunding (Some (Check s p report)) P = Unit {0}
 WhereFunding (Some (Work number count)) P = Unit {0}
 WhereFunding (Some (Desk s script)) P = Unit {0}
+WhereFunding (Some (Further c)) P = Unit {0}
 
 -- the files and the job of a command that goes on have this
 abbrev pub WhereResuming : Option Command → (Sources → Payment → List ℕ → Type 0) → Type 0
@@ -78,6 +84,7 @@ WhereResuming (Some (Resume s p job)) P = P s p job
 WhereResuming (Some (Check s p report)) P = Unit {0}
 WhereResuming (Some (Work number count)) P = Unit {0}
 WhereResuming (Some (Desk s script)) P = Unit {0}
+WhereResuming (Some (Further c)) P = Unit {0}
 
 -- the files of a command that checks a report have this
 abbrev pub WhereChecking : Option Command → (Sources → Payment → List ℕ → Type 0) → Type 0
@@ -88,6 +95,7 @@ WhereChecking (Some (Resume s p job)) P = Unit {0}
 WhereChecking (Some (Check s p report)) P = P s p report
 WhereChecking (Some (Work number count)) P = Unit {0}
 WhereChecking (Some (Desk s script)) P = Unit {0}
+WhereChecking (Some (Further c)) P = Unit {0}
 
 -- the number and the count of a command that sums up a workload have this
 abbrev pub WhereWorking : Option Command → (ℕ → ℕ → Type 0) → Type 0
@@ -98,6 +106,7 @@ WhereWorking (Some (Resume s p job)) P = Unit {0}
 WhereWorking (Some (Check s p report)) P = Unit {0}
 WhereWorking (Some (Work number count)) P = P number count
 WhereWorking (Some (Desk s script)) P = Unit {0}
+WhereWorking (Some (Further c)) P = Unit {0}
 
 -- the files of a command that runs a script at a desk have this
 abbrev pub WhereDesk : Option Command → (Sources → List ℕ → Type 0) → Type 0
@@ -108,6 +117,18 @@ WhereDesk (Some (Resume s p job)) P = Unit {0}
 WhereDesk (Some (Check s p report)) P = Unit {0}
 WhereDesk (Some (Work number count)) P = Unit {0}
 WhereDesk (Some (Desk s script)) P = P s script
+WhereDesk (Some (Further c)) P = Unit {0}
+
+-- the command beside these that a command is has this
+abbrev pub WhereFurther : Option Command → (FurtherCommand → Type 0) → Type 0
+WhereFurther None P = Unit {0}
+WhereFurther (Some (Coins s)) P = Unit {0}
+WhereFurther (Some (Fund s p job)) P = Unit {0}
+WhereFurther (Some (Resume s p job)) P = Unit {0}
+WhereFurther (Some (Check s p report)) P = Unit {0}
+WhereFurther (Some (Work number count)) P = Unit {0}
+WhereFurther (Some (Desk s script)) P = Unit {0}
+WhereFurther (Some (Further c)) P = P c
 
 -- the job that a command names
 abbrev pub job_of : Command → Option (List ℕ)
@@ -117,6 +138,7 @@ job_of (Resume s p job) = Some job
 job_of (Check s p report) = None
 job_of (Work number count) = None
 job_of (Desk s script) = None
+job_of (Further c) = None
 
 -- ---- by the status
 
@@ -128,6 +150,7 @@ EndsDone told_files told told_jobs (Resume s p job) shelf shelf' sink sink' keep
 EndsDone told_files told told_jobs (Check s p report) shelf shelf' sink sink' keeper = checks.EndsAccepted told_files told s p report shelf sink sink'
 EndsDone told_files told told_jobs (Work number count) shelf shelf' sink sink' keeper = loads.EndsSummed told number count statuses.Done sink sink'
 EndsDone told_files told told_jobs (Desk s script) shelf shelf' sink sink' keeper = desks.EndsRunning told_files told s script shelf shelf' sink sink' statuses.Done
+EndsDone told_files told told_jobs (Further c) shelf shelf' sink sink' keeper = further.Ends told_files told c shelf shelf' sink sink' statuses.Done
 
 -- no selection, which no listing, no check and no desk ends with
 abbrev pub EndsNotFunded : Type 0 → Type 0 → Type 0 → Command → ShelfView → ShelfView → SinkView → SinkView → KeeperView → Type 0
@@ -137,6 +160,7 @@ EndsNotFunded told_files told told_jobs (Resume s p job) shelf shelf' sink sink'
 EndsNotFunded told_files told told_jobs (Check s p report) shelf shelf' sink sink' keeper = ⊥
 EndsNotFunded told_files told told_jobs (Work number count) shelf shelf' sink sink' keeper = loads.EndsSummed told number count statuses.NoSelection sink sink'
 EndsNotFunded told_files told told_jobs (Desk s script) shelf shelf' sink sink' keeper = ⊥
+EndsNotFunded told_files told told_jobs (Further c) shelf shelf' sink sink' keeper = further.Ends told_files told c shelf shelf' sink sink' statuses.NoSelection
 
 -- unfinished, which no listing, no check and no desk ends with
 abbrev pub EndsUnfinished : Type 0 → Type 0 → Type 0 → Command → ShelfView → ShelfView → SinkView → SinkView → KeeperView → KeeperView → Type 0
@@ -146,6 +170,7 @@ EndsUnfinished told_files told told_jobs (Resume s p job) shelf shelf' sink sink
 EndsUnfinished told_files told told_jobs (Check s p report) shelf shelf' sink sink' keeper keeper' = ⊥
 EndsUnfinished told_files told told_jobs (Work number count) shelf shelf' sink sink' keeper keeper' = loads.EndsSummed told number count statuses.Unfinished sink sink'
 EndsUnfinished told_files told told_jobs (Desk s script) shelf shelf' sink sink' keeper keeper' = ⊥
+EndsUnfinished told_files told told_jobs (Further c) shelf shelf' sink sink' keeper keeper' = further.Ends told_files told c shelf shelf' sink sink' statuses.Unfinished
 
 -- a rule of the input that a file breaks, or what it asks for, with its line
 abbrev pub EndsInput : Type 0 → Type 0 → Command → ShelfView → SinkView → SinkView → Type 0
@@ -155,6 +180,7 @@ EndsInput told_files told (Resume s p job) shelf sink sink' = payment_results.En
 EndsInput told_files told (Check s p report) shelf sink sink' = payment_results.EndsRefused statuses.Input told_files told s p shelf sink sink'
 EndsInput told_files told (Work number count) shelf sink sink' = loads.EndsRefused statuses.Input told number count sink sink'
 EndsInput told_files told (Desk s script) shelf sink sink' = desk_endings.EndsRefused statuses.Input told_files told s shelf sink sink'
+EndsInput told_files told (Further c) shelf sink sink' = further.EndsInput told_files told c shelf sink sink'
 
 -- a limit: of a file, of one that is judged or that a line of a script names too or, where a job is gone on with, of the job
 abbrev pub EndsLimited : Type 0 → Type 0 → Type 0 → Command → ShelfView → ShelfView → SinkView → SinkView → KeeperView → Type 0
@@ -164,6 +190,7 @@ EndsLimited told_files told told_jobs (Resume s p job) shelf shelf' sink sink' k
 EndsLimited told_files told told_jobs (Check s p report) shelf shelf' sink sink' keeper = checks.EndsLimited told_files told s p report shelf sink sink'
 EndsLimited told_files told told_jobs (Work number count) shelf shelf' sink sink' keeper = loads.EndsRefused statuses.Limit told number count sink sink'
 EndsLimited told_files told told_jobs (Desk s script) shelf shelf' sink sink' keeper = desks.Ends told_files told s script shelf shelf' sink sink' statuses.Limit
+EndsLimited told_files told told_jobs (Further c) shelf shelf' sink sink' keeper = further.Ends told_files told c shelf shelf' sink sink' statuses.Limit
 
 -- the kept job is refused for a fault of its own
 abbrev pub EndsNotKept : Type 0 → Type 0 → Type 0 → Command → ShelfView → SinkView → SinkView → KeeperView → Type 0
@@ -173,6 +200,7 @@ EndsNotKept told_files told told_jobs (Resume s p job) shelf sink sink' keeper =
 EndsNotKept told_files told told_jobs (Check s p report) shelf sink sink' keeper = ⊥
 EndsNotKept told_files told told_jobs (Work number count) shelf sink sink' keeper = ⊥
 EndsNotKept told_files told told_jobs (Desk s script) shelf sink sink' keeper = ⊥
+EndsNotKept told_files told told_jobs (Further c) shelf sink sink' keeper = ⊥
 
 -- a report that isn't accepted, and the first rule that it breaks; no other command ends so
 abbrev pub EndsBroken : Type 0 → Type 0 → Command → ShelfView → SinkView → SinkView → Type 0
@@ -182,6 +210,18 @@ EndsBroken told_files told (Resume s p job) shelf sink sink' = ⊥
 EndsBroken told_files told (Check s p report) shelf sink sink' = checks.EndsBroken told_files told s p report shelf sink sink'
 EndsBroken told_files told (Work number count) shelf sink sink' = ⊥
 EndsBroken told_files told (Desk s script) shelf sink sink' = ⊥
+EndsBroken told_files told (Further c) shelf sink sink' = ⊥
+
+-- a signed transaction that isn't the payment of its report, or doesn't pay what was asked: the first rule that it breaks; no other
+-- command ends so
+abbrev pub EndsUnsettled : Type 0 → Type 0 → Command → ShelfView → SinkView → SinkView → Type 0
+EndsUnsettled told_files told (Coins s) shelf sink sink' = ⊥
+EndsUnsettled told_files told (Fund s p job) shelf sink sink' = ⊥
+EndsUnsettled told_files told (Resume s p job) shelf sink sink' = ⊥
+EndsUnsettled told_files told (Check s p report) shelf sink sink' = ⊥
+EndsUnsettled told_files told (Work number count) shelf sink sink' = ⊥
+EndsUnsettled told_files told (Desk s script) shelf sink sink' = ⊥
+EndsUnsettled told_files told (Further c) shelf sink sink' = further.EndsUnsettled told_files told c shelf sink sink'
 
 -- a file of the command wasn't read, those before it being in order, and the line names it
 abbrev pub EndsUnread : Type 0 → Type 0 → Command → ShelfView → ShelfView → SinkView → SinkView → Type 0
@@ -191,6 +231,7 @@ EndsUnread told_files told (Resume s p job) shelf shelf' sink sink' = payment_re
 EndsUnread told_files told (Check s p report) shelf shelf' sink sink' = checks.EndsUnread told_files told s p report shelf shelf' sink sink'
 EndsUnread told_files told (Work number count) shelf shelf' sink sink' = ⊥
 EndsUnread told_files told (Desk s script) shelf shelf' sink sink' = desks.Ends told_files told s script shelf shelf' sink sink' statuses.ReadFault
+EndsUnread told_files told (Further c) shelf shelf' sink sink' = further.Ends told_files told c shelf shelf' sink sink' statuses.ReadFault
 
 -- the keeper failed: where a job is gone on with, or where a payment has a job and its run is unfinished
 abbrev pub EndsUnkept : Type 0 → Type 0 → Command → ShelfView → SinkView → SinkView → KeeperView → KeeperView → Type 0
@@ -200,6 +241,7 @@ EndsUnkept told_files told (Resume s p job) shelf sink sink' keeper keeper' = re
 EndsUnkept told_files told (Check s p report) shelf sink sink' keeper keeper' = ⊥
 EndsUnkept told_files told (Work number count) shelf sink sink' keeper keeper' = ⊥
 EndsUnkept told_files told (Desk s script) shelf sink sink' keeper keeper' = ⊥
+EndsUnkept told_files told (Further c) shelf sink sink' keeper keeper' = ⊥
 
 -- nothing is refused, and the log wasn't written, or the sink failed and has got a part of what is due
 abbrev pub EndsUnwritten : Type 0 → Type 0 → Type 0 → Command → ShelfView → ShelfView → SinkView → SinkView → KeeperView → KeeperView → Type 0
@@ -209,6 +251,7 @@ EndsUnwritten told_files told told_jobs (Resume s p job) shelf shelf' sink sink'
 EndsUnwritten told_files told told_jobs (Check s p report) shelf shelf' sink sink' keeper keeper' = checks.EndsUnwritten told_files told s p report shelf sink sink'
 EndsUnwritten told_files told told_jobs (Work number count) shelf shelf' sink sink' keeper keeper' = loads.EndsUnwritten told number count sink sink'
 EndsUnwritten told_files told told_jobs (Desk s script) shelf shelf' sink sink' keeper keeper' = desks.EndsRunning told_files told s script shelf shelf' sink sink' statuses.WriteFault
+EndsUnwritten told_files told told_jobs (Further c) shelf shelf' sink sink' keeper keeper' = further.Ends told_files told c shelf shelf' sink sink' statuses.WriteFault
 
 -- there was not enough memory, and the line says so, or the sink found none and has got a part of what is due
 abbrev pub EndsWithoutMemory : Type 0 → Type 0 → Type 0 → Command → ShelfView → ShelfView → SinkView → SinkView → KeeperView → KeeperView → Type 0
@@ -218,6 +261,7 @@ EndsWithoutMemory told_files told told_jobs (Resume s p job) shelf shelf' sink s
 EndsWithoutMemory told_files told told_jobs (Check s p report) shelf shelf' sink sink' keeper keeper' = checks.EndsWithoutMemory told_files told s p report shelf sink sink'
 EndsWithoutMemory told_files told told_jobs (Work number count) shelf shelf' sink sink' keeper keeper' = loads.EndsWithoutMemory told number count sink sink'
 EndsWithoutMemory told_files told told_jobs (Desk s script) shelf shelf' sink sink' keeper keeper' = desks.Ends told_files told s script shelf shelf' sink sink' statuses.Memory
+EndsWithoutMemory told_files told told_jobs (Further c) shelf shelf' sink sink' keeper keeper' = further.Ends told_files told c shelf shelf' sink sink' statuses.Memory
 
 -- how a command ends, by its status. None ends with usage.
 abbrev pub Ends : Type 0 → Type 0 → Type 0 → Command → ShelfView → ShelfView → SinkView → SinkView → KeeperView → KeeperView → Status → Type 0
@@ -233,6 +277,7 @@ Ends told_files told told_jobs c shelf shelf' sink sink' keeper keeper' statuses
 Ends told_files told told_jobs c shelf shelf' sink sink' keeper keeper' statuses.Memory = EndsWithoutMemory told_files told told_jobs c shelf shelf' sink sink' keeper keeper'
 Ends told_files told told_jobs c shelf shelf' sink sink' keeper keeper' statuses.Saved = EndsNotKept told_files told told_jobs c shelf sink sink' keeper
 Ends told_files told told_jobs c shelf shelf' sink sink' keeper keeper' statuses.CheckRefused = EndsBroken told_files told c shelf sink sink'
+Ends told_files told told_jobs c shelf shelf' sink sink' keeper keeper' statuses.Settle = EndsUnsettled told_files told c shelf sink sink'
 
 -- ---- what stays
 
@@ -244,6 +289,7 @@ KeepsOthers (Resume s p job) old new = SameElsewhere p.log old new
 KeepsOthers (Check s p report) old new = new ≡ old
 KeepsOthers (Work number count) old new = new ≡ old
 KeepsOthers (Desk s script) old new = new ≡ old
+KeepsOthers (Further c) old new = further.KeepsOthers c old new
 
 -- ---- where nothing failed
 
@@ -255,6 +301,7 @@ NoneUnread (Resume s p job) shelf shelf' = (file : File) → inputs.IsUnread s p
 NoneUnread (Check s p report) shelf shelf' = checks.NoneUnread s p report shelf shelf'
 NoneUnread (Work number count) shelf shelf' = Unit {0}
 NoneUnread (Desk s script) shelf shelf' = desks.NoneUnread s script shelf shelf'
+NoneUnread (Further c) shelf shelf' = further.NoneUnread c shelf shelf'
 
 -- where a job is refused, the jobs are told, and the keeper didn't fail
 abbrev pub NoneUnkept : (told_jobs : Type 0) → Outcome → KeeperView → KeeperView → Type 0
@@ -269,6 +316,7 @@ IsLogUnwritten (Resume s p job) shelf shelf' = Rose (shelf.writes p.log) (shelf'
 IsLogUnwritten (Check s p report) shelf shelf' = ⊥
 IsLogUnwritten (Work number count) shelf shelf' = ⊥
 IsLogUnwritten (Desk s script) shelf shelf' = ⊥
+IsLogUnwritten (Further c) shelf shelf' = further.IsLogUnwritten c shelf shelf'
 
 -- no read failed, nor did a write of the log, nor the sink, nor the keeper
 pub record NoneFailed (c : Command) (shelf shelf' : ShelfView) (sink sink' : SinkView) (keeper keeper' : KeeperView) : Type 0 where
@@ -300,6 +348,7 @@ EndsAs k r n p shelf' sink sink' statuses.Usage = ⊥
 EndsAs k r n p shelf' sink sink' statuses.Input = ⊥
 EndsAs k r n p shelf' sink sink' statuses.Saved = ⊥
 EndsAs k r n p shelf' sink sink' statuses.CheckRefused = ⊥
+EndsAs k r n p shelf' sink sink' statuses.Settle = ⊥
 EndsAs k r n p shelf' sink sink' statuses.ReadFault = Unit {0}
 EndsAs k r n p shelf' sink sink' statuses.WriteFault = Unit {0}
 EndsAs k r n p shelf' sink sink' statuses.KeepFault = Unit {0}

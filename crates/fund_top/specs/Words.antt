@@ -5,9 +5,11 @@ use Rattle.fund_base.specs.Decimal.{number_of}
 use Rattle.fund_outside.specs.JobName.{is_job_name}
 use Rattle.command_end.specs.Names.{Sources}
 use Rattle.command_inputs.specs.Names.{Payment}
+use Rattle.further_commands.specs.Command.{FurtherCommand, Settle, Wide}
 
 -- to list payments and coins; to fund a payment, with a job to keep it as where it isn't finished; to go on with a job; to
--- check the report of a payment; to fund one from a workload; or to run a script at a desk
+-- check the report of a payment; to fund one from a workload; to run a script at a desk; or to do one of the commands beside
+-- these
 pub data Command : Type 0 where
   Coins : Sources → Command
   Fund : Sources → Payment → (job : Option (List ℕ)) → Command
@@ -15,6 +17,7 @@ pub data Command : Type 0 where
   Check : Sources → Payment → (report : List ℕ) → Command
   Work : (number count : ℕ) → Command
   Desk : Sources → (script : List ℕ) → Command
+  Further : FurtherCommand → Command
 
 -- no name is empty
 abbrev pub are_named : Sources → Bool
@@ -52,6 +55,16 @@ abbrev pub payment_of : (wallet blocks request log : List ℕ) → Option Comman
 payment_of wallet blocks request log =
     where_stands (names_stand (record { wallet = wallet; blocks = blocks }) (record { request = request; log = log })) (Fund (record { wallet = wallet; blocks = blocks }) (record { request = request; log = log }) None)
 
+-- a wide search for a payment from files, where their names stand
+abbrev pub wide_of : (wallet blocks request log : List ℕ) → Option Command
+wide_of wallet blocks request log =
+    where_stands (names_stand (record { wallet = wallet; blocks = blocks }) (record { request = request; log = log })) (Further (Wide (record { wallet = wallet; blocks = blocks }) (record { request = request; log = log })))
+
+-- the settling of a payment by files, where none of their names is empty
+abbrev pub settle_of : (wallet request report tx : List ℕ) → Option Command
+settle_of wallet request report tx =
+    where_stands ((nat_lt 0 (length wallet) && nat_lt 0 (length request)) && (nat_lt 0 (length report) && nat_lt 0 (length tx))) (Further (Settle (record { wallet = wallet; request = request; report = report; tx = tx })))
+
 -- the check of files, where their names stand
 abbrev pub check_of : (wallet blocks request report log : List ℕ) → Option Command
 check_of wallet blocks request report log =
@@ -80,6 +93,7 @@ IsInRange (Resume s p job) = Unit {0}
 IsInRange (Check s p report) = Unit {0}
 IsInRange (Work number count) = (1 ≤ count) × (count ≤ 10_000)
 IsInRange (Desk s script) = Unit {0}
+IsInRange (Further c) = Unit {0}
 
 -- a command with a job, by its verb
 abbrev pub job_command : Sources → Payment → (verb job : List ℕ) → Option Command
@@ -89,7 +103,8 @@ job_command s p verb job =
     else (if bytes_eq verb (codes "resume") then where_stands (names_stand s p && is_job_name job) (Resume s p job) else None)
 
 -- the command that the words are: coins WALLET BLOCKS, work NUMBER COUNT, desk WALLET BLOCKS SCRIPT, fund WALLET BLOCKS
--- REQUEST LOG, with or without a JOB, resume WALLET BLOCKS REQUEST LOG JOB, or check WALLET BLOCKS REQUEST REPORT LOG
+-- REQUEST LOG, with or without a JOB, resume WALLET BLOCKS REQUEST LOG JOB, check WALLET BLOCKS REQUEST REPORT LOG, wide WALLET
+-- BLOCKS REQUEST LOG, or settle WALLET REQUEST REPORT TX
 abbrev pub command_of : List (String Global) → Option Command
 command_of (verb ∷ first ∷ second ∷ []) =
     if bytes_eq (string_bytes verb) (codes "coins")
@@ -97,8 +112,12 @@ command_of (verb ∷ first ∷ second ∷ []) =
     else if bytes_eq (string_bytes verb) (codes "work") then work_of (string_bytes first) (string_bytes second) else None
 command_of (verb ∷ wallet ∷ blocks ∷ script ∷ []) =
     if bytes_eq (string_bytes verb) (codes "desk") then desk_of (string_bytes wallet) (string_bytes blocks) (string_bytes script) else None
-command_of (verb ∷ wallet ∷ blocks ∷ request ∷ log ∷ []) =
-    if bytes_eq (string_bytes verb) (codes "fund") then payment_of (string_bytes wallet) (string_bytes blocks) (string_bytes request) (string_bytes log) else None
+command_of (verb ∷ first ∷ second ∷ third ∷ fourth ∷ []) =
+    if bytes_eq (string_bytes verb) (codes "fund")
+    then payment_of (string_bytes first) (string_bytes second) (string_bytes third) (string_bytes fourth)
+    else if bytes_eq (string_bytes verb) (codes "wide")
+    then wide_of (string_bytes first) (string_bytes second) (string_bytes third) (string_bytes fourth)
+    else if bytes_eq (string_bytes verb) (codes "settle") then settle_of (string_bytes first) (string_bytes second) (string_bytes third) (string_bytes fourth) else None
 command_of (verb ∷ wallet ∷ blocks ∷ request ∷ fourth ∷ fifth ∷ []) =
     if bytes_eq (string_bytes verb) (codes "check")
     then check_of (string_bytes wallet) (string_bytes blocks) (string_bytes request) (string_bytes fourth) (string_bytes fifth)

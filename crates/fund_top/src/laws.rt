@@ -23,16 +23,19 @@ ghost use Rattle.command_end.specs.declared.status.Status.TheVariants as statuse
 ghost use Rattle.command_inputs.specs.Outcome as dues;
 ghost use Rattle.command_resume.specs.Outcome.{IsGone, IsNotKept};
 ghost use Rattle.command_work.specs.Outcome.{load_plan};
-ghost use Rattle.fund_top.specs.Outcome.{Refused, NotKept, Listed, Unfinished, NoSelection, Funded, Summed, ComesTo, IsMeant, Outcome, check_outcome, desk_outcome, payment_outcome};
+ghost use Rattle.further_commands.specs.Command.{FurtherCommand};
+ghost use Rattle.further_commands.specs.Outcome as further;
+ghost use Rattle.fund_top.specs.Outcome.{Refused, NotKept, Listed, Unfinished, NoSelection, Funded, Other, Summed, ComesTo, IsMeant, Outcome, check_outcome, desk_outcome, payment_outcome};
 ghost use Rattle.fund_top.specs.Stored.{HaveStored, IsLoad, Stored, answer_in, load_answer, load_report, log_in, plan_in, report_in};
-ghost use Rattle.fund_top.specs.Words.{Command, Coins, Fund, Resume, Check, Work, Desk, command_of};
+ghost use Rattle.fund_top.specs.Words.{Command, Coins, Fund, Resume, Check, Work, Desk, Further, command_of};
 
 /// The law of what the files of a command and the jobs of a keeper come to: to one outcome at most. A cause for a refusal which
 /// the files mean is what they come to. Where they hold a wallet and blocks, they come to the listing of these; and where they
 /// hold a request too, of which the plan keeps its rules, to what that plan comes to with the request's tries. Where a job is
 /// gone on with, they come to its fault, or to what the plan comes to that goes on from it. What a report comes to that is
 /// checked, its command comes to. A workload of which no two transactions have one txid comes to the summary of what its plan
-/// comes to; and so does what a script comes to at a desk. A call does nothing.
+/// comes to; and so does what a script comes to at a desk. What one of the commands beside these comes to is that. A call does
+/// nothing.
 pub fn outcomes_are_due()
     ensures one { (files : List ℕ → List ℕ) (jobs : List ℕ → Option KeptJob) (c : Command) (a b : Outcome) → ComesTo files jobs c a → ComesTo files jobs c b → a ≡ b }
     ensures refused { (files : List ℕ → List ℕ) (jobs : List ℕ → Option KeptJob) (c : Command) (cause : Cause) → IsMeant files c cause → ComesTo files jobs c (Refused cause) }
@@ -44,6 +47,7 @@ pub fn outcomes_are_due()
     ensures not_kept { (files : List ℕ → List ℕ) (jobs : List ℕ → Option KeptJob) (s : Sources) (p : Payment) (job : List ℕ) (fault : KeptFault) → IsNotKept files s p (jobs job) fault → ComesTo files jobs (Resume s p job) (NotKept fault) }
     ensures judged { (files : List ℕ → List ℕ) (jobs : List ℕ → Option KeptJob) (s : Sources) (p : Payment) (report : List ℕ) (due : checks.Outcome) → checks.ComesTo files s p report due → ComesTo files jobs (Check s p report) (check_outcome due) }
     ensures ran { (files : List ℕ → List ℕ) (jobs : List ℕ → Option KeptJob) (s : Sources) (script : List ℕ) → ComesTo files jobs (Desk s script) (desk_outcome (desks.outcome_of files s script)) }
+    ensures beside { (files : List ℕ → List ℕ) (jobs : List ℕ → Option KeptJob) (c : FurtherCommand) (due : further.Outcome) → further.ComesTo files c due → ComesTo files jobs (Further c) (Other due) }
     ensures summed { (files : List ℕ → List ℕ) (jobs : List ℕ → Option KeptJob) (number count : ℕ) (f : PlainFunded) → IsLoad number count → load_answer number count ≡ answers.Funded f → ComesTo files jobs (Work number count) (Summed statuses.Done (summary_text number count (load_report number count f))) }
     ensures summed_none { (files : List ℕ → List ℕ) (jobs : List ℕ → Option KeptJob) (number count : ℕ) → IsLoad number count → load_answer number count ≡ answers.NoSelection → ComesTo files jobs (Work number count) (Summed statuses.NoSelection (summary_text number count (none_report_at (load_plan number count) 100_000))) }
     ensures summed_open { (files : List ℕ → List ℕ) (jobs : List ℕ → Option KeptJob) (number count : ℕ) → IsLoad number count → load_answer number count ≡ answers.Unfinished → ComesTo files jobs (Work number count) (Summed statuses.Unfinished (summary_text number count (open_report_at (load_plan number count) 100_000))) }

@@ -59,6 +59,7 @@ fn act<H: Shelf, O: Sink, K: Keeper>(
         }
         Command::Work(number, count) => work(alloc, *number, *count, out),
         Command::Desk(sources, script) => desk(alloc, sources, script, shelf, out),
+        Command::Further(command) => further_commands::act(alloc, command, shelf, out),
     }
 }
 
@@ -69,8 +70,8 @@ fn act<H: Shelf, O: Sink, K: Keeper>(
 ///   payments and their states, and the coins that may be spent.
 /// - `fund WALLET BLOCKS REQUEST LOG` reads three files, funds the payment of the request with its tries, writes the log, and
 ///   then prints the report. Where the run is unfinished, no log is written: the tries are used up, a search is open, and
-///   nothing is taken. With a `JOB` behind these words an unfinished run is kept as that job, before its report is printed; the
-///   job's digest is that of the bytes that were read.
+///   nothing is taken. With a `JOB` behind these words an unfinished run is kept as that job, before its report is printed,
+///   whatever was kept under its name before; the job's digest is that of the bytes that were read.
 /// - `resume WALLET BLOCKS REQUEST LOG JOB` goes on with a kept job, with the request's tries, and ends as `fund` does. Where
 ///   it is unfinished again, the bytes of its log that are new are kept as one part more.
 /// - `check WALLET BLOCKS REQUEST REPORT LOG` reads the files of a payment, a report and the log of it, and prints that the
@@ -79,6 +80,10 @@ fn act<H: Shelf, O: Sink, K: Keeper>(
 ///   the summary of that run.
 /// - `desk WALLET BLOCKS SCRIPT` reads three files, and does the lines of the script at the desk of the wallet: the reply to each
 ///   is printed before the file is read that the next line names.
+/// - `wide WALLET BLOCKS REQUEST LOG` reads three files, and funds the payment of the request without change at the least waste of all
+///   choices of a row, whether or not each coin is needed. It writes the log, and then prints the report.
+/// - `settle WALLET REQUEST REPORT TX` reads four files, and prints of the signed transaction what it is and pays, where it is the
+///   payment of the report and pays the request's rate by what it truly weighs. No signature is checked.
 ///
 /// Whatever the files and the keeper hold, a payment spends only coins that may be spent,
 /// and pays each recipient exactly and at least the fee. Where its request names a payment, it replaces that one by the rules of
@@ -95,11 +100,11 @@ pub fn run<H: Shelf, O: Sink, K: Keeper>(
     // Words that are no command are told as that, and only these.
     ensures usage { TellsUsage (outside H.tells O.tells K.tells (H.view shelf.old) (H.view shelf.new) (O.view out.old) (O.view out.new) (K.view keeper.old) (K.view keeper.new)) (command_of words.now.items) result }
 
-    // A funded payment spends coins that may be spent, all listed ones among them. It pays each recipient exactly and in order, and
-    // at least the fee of its declared weight. So ends `done`, and each other end has its own field, by its status.
+    // Each end has its own field, by its status. `done`: a funded payment spends coins that may be spent, all listed ones among them.
+    // It pays each recipient exactly and in order, and at least the fee of its declared weight.
     ensures ends { EndsByStatus (outside H.tells O.tells K.tells (H.view shelf.old) (H.view shelf.new) (O.view out.old) (O.view out.new) (K.view keeper.old) (K.view keeper.new)) (command_of words.now.items) result }
 
-    // A failed read, write of the log or keeper is told as that. A failed output is never told as success.
+    // A failed read, write of the log or keeper is told as that. An output that failed or found no memory is never told as success.
     ensures honest { TellsFailures (outside H.tells O.tells K.tells (H.view shelf.old) (H.view shelf.new) (O.view out.old) (O.view out.new) (K.view keeper.old) (K.view keeper.new)) result }
 
     // What stays: the files but the log, and the jobs but the one that is named.

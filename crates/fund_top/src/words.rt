@@ -4,12 +4,14 @@ ghost use Rattle.std.specs.Prelude.{◌≡◌, IfSome, option_map};
 ghost use Rattle.command_end.specs.Names.{plain_sources};
 ghost use Rattle.command_inputs.specs.Names.{plain_payment};
 ghost use Rattle.fund_top.specs.Command.{plain};
-ghost use Rattle.fund_top.specs.Words.{IsInRange, are_judged, are_named, check_of, command_of, desk_of, job_command, listing_of, names_stand, payment_of, work_of};
+ghost use Rattle.fund_top.specs.Words.{IsInRange, are_judged, are_named, check_of, command_of, desk_of, job_command, listing_of, names_stand, payment_of, settle_of, wide_of, work_of};
 
 use command_end::Sources;
 use command_inputs::Payment;
+use command_settle::SettleNames;
 use fund_base::read_decimal;
 use fund_outside::is_job_name;
+use further_commands::FurtherCommand;
 
 /// What is to be done.
 #[derive(Clone, Copy)]
@@ -26,6 +28,8 @@ pub enum Command<'a> {
     Work(u64, u32),
     /// To run the script, which is the file of this name, at the desk of a wallet.
     Desk(Sources<'a>, &'a str),
+    /// To do one of the commands beside these.
+    Further(FurtherCommand<'a>),
 }
 
 /// The greatest number of a workload.
@@ -130,6 +134,49 @@ fn payment_in<'a>(
     }
 }
 
+/// The wide search for a payment from the files of these names, where they stand.
+fn wide_in<'a>(
+    wallet: &'a str,
+    blocks: &'a str,
+    request: &'a str,
+    log: &'a str,
+) -> Option<Command<'a>>
+    ensures command { option_map plain result ≡ wide_of wallet.now blocks.now request.now log.now }
+    ensures range { IfSome result (λ c. IsInRange (plain c)) }
+{
+    let sources = Sources { wallet, blocks };
+    let payment = Payment { request, log };
+    if names_stand(&sources, &payment) {
+        Some(Command::Further(FurtherCommand::Wide(sources, payment)))
+    } else {
+        None
+    }
+}
+
+/// The settling of a payment by the files of these names, where none is empty.
+fn settle_in<'a>(
+    wallet: &'a str,
+    request: &'a str,
+    report: &'a str,
+    tx: &'a str,
+) -> Option<Command<'a>>
+    ensures command { option_map plain result ≡ settle_of wallet.now request.now report.now tx.now }
+    ensures range { IfSome result (λ c. IsInRange (plain c)) }
+{
+    let named = !wallet.is_empty() && !request.is_empty();
+    if named && (!report.is_empty() && !tx.is_empty()) {
+        let names = SettleNames {
+            wallet,
+            request,
+            report,
+            tx,
+        };
+        Some(Command::Further(FurtherCommand::Settle(names)))
+    } else {
+        None
+    }
+}
+
 /// The check of the files of these names, where none is empty.
 fn check_in<'a>(
     wallet: &'a str,
@@ -164,8 +211,8 @@ fn desk_in<'a>(wallet: &'a str, blocks: &'a str, script: &'a str) -> Option<Comm
 }
 
 /// The command that the words are, which is `coins WALLET BLOCKS`, `work NUMBER COUNT`, `desk WALLET BLOCKS SCRIPT`, `fund
-/// WALLET BLOCKS REQUEST LOG`, with or without a `JOB`, `resume WALLET BLOCKS REQUEST LOG JOB` or `check WALLET BLOCKS REQUEST
-/// REPORT LOG`. A `JOB` is 1 to 32 digits, letters and hyphens of ASCII.
+/// WALLET BLOCKS REQUEST LOG`, with or without a `JOB`, `resume WALLET BLOCKS REQUEST LOG JOB`, `check WALLET BLOCKS REQUEST
+/// REPORT LOG`, `wide WALLET BLOCKS REQUEST LOG` or `settle WALLET REQUEST REPORT TX`. A `JOB` is 1 to 32 digits, letters and hyphens of ASCII.
 pub fn parse(words: &[String]) -> Option<Command<'_>>
     ensures command { option_map plain result ≡ command_of words.now }
     ensures range { IfSome result (λ c. IsInRange (plain c)) }
@@ -187,13 +234,27 @@ pub fn parse(words: &[String]) -> Option<Command<'_>>
                 None
             }
         }
-        [verb, wallet, blocks, request, log] => {
+        [verb, first, second, third, fourth] => {
             if verb.as_str() == "fund" {
                 payment_in(
-                    wallet.as_str(),
-                    blocks.as_str(),
-                    request.as_str(),
-                    log.as_str(),
+                    first.as_str(),
+                    second.as_str(),
+                    third.as_str(),
+                    fourth.as_str(),
+                )
+            } else if verb.as_str() == "wide" {
+                wide_in(
+                    first.as_str(),
+                    second.as_str(),
+                    third.as_str(),
+                    fourth.as_str(),
+                )
+            } else if verb.as_str() == "settle" {
+                settle_in(
+                    first.as_str(),
+                    second.as_str(),
+                    third.as_str(),
+                    fourth.as_str(),
                 )
             } else {
                 None

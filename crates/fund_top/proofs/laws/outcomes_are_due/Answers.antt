@@ -42,3 +42,6 @@ returns-clause-one c = one_due
 
 pub returns-clause-ran : goal.returns-clause-ran
 returns-clause-ran c = λ files jobs s script. refl
+
+pub returns-clause-beside : goal.returns-clause-beside
+returns-clause-beside c = λ files jobs x due h. (due, h, refl)

@@ -1,6 +1,7 @@
 use Rattle.command_end.specs.Names.{plain_sources}
 use Rattle.command_inputs.specs.Names.{plain_job, plain_payment}
-use Rattle.fund_top.proofs.CommandEnds.{check_ends, desk_ends, listing_ends, load_ends, payment_ends, resume_ends}
+use Rattle.further_commands.specs.Command.{plain as plain_further}
+use Rattle.fund_top.proofs.CommandEnds.{check_ends, desk_ends, further_ends, listing_ends, load_ends, payment_ends, resume_ends}
 use Rattle.fund_top.proofs.top.act.Goals as goal
 
 pub returns-in-Coins-clause-ends : goal.returns-in-Coins-clause-ends
@@ -13,13 +14,13 @@ returns-in-Fund-clause-ends g c =
     (g.K.Keeper.view c.args.keeper.now) (g.K.Keeper.view c.fund.new.keeper) c.fund.result c.fund.ensures.ends)
 
 pub returns-in-Fund-clause-asked : goal.returns-in-Fund-clause-asked
-returns-in-Fund-clause-asked g c = rw c.in-Fund.is (λ told. (c.fund.ensures.asked told, c.fund.ensures.none_behind told))
+returns-in-Fund-clause-asked g c = rw c.in-Fund.is (λ told. (c.fund.ensures.asks.asked told, c.fund.ensures.asks.none_behind told))
 
 pub returns-in-Coins-clause-asked : goal.returns-in-Coins-clause-asked
 returns-in-Coins-clause-asked g c = rw c.in-Coins.is (λ told. (c.coins.ensures.asked told, c.coins.ensures.refused_alone told))
 
 pub returns-in-Resume-clause-asked : goal.returns-in-Resume-clause-asked
-returns-in-Resume-clause-asked g c = rw c.in-Resume.is (λ told. (c.resume.ensures.asked told, c.resume.ensures.none_behind told))
+returns-in-Resume-clause-asked g c = rw c.in-Resume.is (λ told. (c.resume.ensures.asks.asked told, c.resume.ensures.asks.none_behind told))
 
 pub returns-in-Resume-clause-ends : goal.returns-in-Resume-clause-ends
 returns-in-Resume-clause-ends g c =
@@ -32,7 +33,7 @@ returns-in-Check-clause-ends g c =
     (g.K.Keeper.view c.args.keeper.now) (g.K.Keeper.view c.args.keeper.now) c.check.result c.check.ensures.ends)
 
 pub returns-in-Check-clause-asked : goal.returns-in-Check-clause-asked
-returns-in-Check-clause-asked g c = rw c.in-Check.is (λ told. (c.check.ensures.asked told, c.check.ensures.none_behind told, c.check.ensures.no_log told, c.check.ensures.unread told))
+returns-in-Check-clause-asked g c = rw c.in-Check.is (λ told. (c.check.ensures.asks.asked told, c.check.ensures.asks.none_behind told, c.check.ensures.asks.no_log told, c.check.ensures.asks.unread told))
 
 pub work-requires : goal.work-requires
 work-requires g c =
@@ -52,16 +53,21 @@ returns-in-Desk-clause-ends g c =
 pub returns-in-Desk-clause-asked : goal.returns-in-Desk-clause-asked
 returns-in-Desk-clause-asked g c = rw c.in-Desk.is (λ told. (c.desk.ensures.asked told, c.desk.ensures.none_behind told))
 
+pub returns-in-Further-clause-ends : goal.returns-in-Further-clause-ends
+returns-in-Further-clause-ends g c =
+    rw c.in-Further.is (further_ends g.H.Shelf.tells g.O.Sink.tells g.K.Keeper.tells (plain_further c.in-Further.command) (g.H.Shelf.view c.args.shelf.now) (g.H.Shelf.view c.act.new.shelf) (g.O.Sink.view c.args.out.now) (g.O.Sink.view c.act.new.out)
+    (g.K.Keeper.view c.args.keeper.now) (g.K.Keeper.view c.args.keeper.now) c.act.result c.act.ensures.ends)
+
 -- ---- failed puts
 
 pub returns-in-Coins-clause-all_put : goal.returns-in-Coins-clause-all_put
 returns-in-Coins-clause-all_put g c = c.coins.ensures.all_put
 
 pub returns-in-Fund-clause-all_put : goal.returns-in-Fund-clause-all_put
-returns-in-Fund-clause-all_put g c = c.fund.ensures.all_put
+returns-in-Fund-clause-all_put g c = c.fund.ensures.honest.all_put
 
 pub returns-in-Resume-clause-all_put : goal.returns-in-Resume-clause-all_put
-returns-in-Resume-clause-all_put g c = c.resume.ensures.all_put
+returns-in-Resume-clause-all_put g c = c.resume.ensures.honest.all_put
 
 pub returns-in-Check-clause-all_put : goal.returns-in-Check-clause-all_put
 returns-in-Check-clause-all_put g c = c.check.ensures.all_put
@@ -71,3 +77,26 @@ returns-in-Work-clause-all_put g c = c.work.ensures.all_put
 
 pub returns-in-Desk-clause-all_put : goal.returns-in-Desk-clause-all_put
 returns-in-Desk-clause-all_put g c = c.desk.ensures.all_put
+
+pub returns-in-Further-clause-all_put : goal.returns-in-Further-clause-all_put
+returns-in-Further-clause-all_put g c = c.act.ensures.all_put
+
+-- ---- failed reads, writes and keepings
+
+pub returns-in-Fund-clause-all_read : goal.returns-in-Fund-clause-all_read
+returns-in-Fund-clause-all_read g c = c.fund.ensures.honest.all_read
+
+pub returns-in-Resume-clause-all_read : goal.returns-in-Resume-clause-all_read
+returns-in-Resume-clause-all_read g c = c.resume.ensures.honest.all_read
+
+pub returns-in-Fund-clause-all_written : goal.returns-in-Fund-clause-all_written
+returns-in-Fund-clause-all_written g c = c.fund.ensures.honest.all_written
+
+pub returns-in-Resume-clause-all_written : goal.returns-in-Resume-clause-all_written
+returns-in-Resume-clause-all_written g c = c.resume.ensures.honest.all_written
+
+pub returns-in-Fund-clause-unfailed : goal.returns-in-Fund-clause-unfailed
+returns-in-Fund-clause-unfailed g c = c.fund.ensures.honest.unfailed
+
+pub returns-in-Resume-clause-unfailed : goal.returns-in-Resume-clause-unfailed
+returns-in-Resume-clause-unfailed g c = c.resume.ensures.honest.unfailed

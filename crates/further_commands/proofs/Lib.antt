@@ -1,0 +1,3 @@
+pub mod EndsLaws
+pub mod OutcomeLaws
+pub mod SureLaws
