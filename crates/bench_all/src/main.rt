@@ -2,6 +2,7 @@
 //!
 //! - `feed BLOCKS` reads a block file, from 32 zero bytes and height 0 to its end;
 //! - `walk FILE TRIES ROUNDS` walks the problem of a file ROUNDS times, each with TRIES tries;
+//! - `wide FILE TRIES ROUNDS` walks it so as a wide search, which a problem without change can be;
 //! - `run FILE TRIES TURN` makes TRIES tries of a run over the problem of a file, TURN of them a turn;
 //! - `log` writes a log of 30,000,021 letters as a text and reads it back, and `log timed` prints the times too;
 //! - `draw ITEMS KEPT SEEDS` draws among made-up items, and with `timed` after it prints the time of a draw too;
@@ -26,7 +27,8 @@ use std::{env, io};
 fn act(rt: &HostRuntime, command: &[&str]) -> io::Result<bool> {
     match command {
         ["feed", blocks] => feed::read_blocks(rt, blocks),
-        ["walk", file, tries, rounds] => walk::walk_file(rt, file, tries, rounds),
+        ["walk", file, tries, rounds] => walk::walk_file(rt, file, tries, rounds, false),
+        ["wide", file, tries, rounds] => walk::walk_file(rt, file, tries, rounds, true),
         ["run", file, tries, turn] => turns::run_file(rt, file, tries, turn),
         ["log"] => logs::write_and_read(rt, false),
         ["log", "timed"] => logs::write_and_read(rt, true),
@@ -38,7 +40,8 @@ fn act(rt: &HostRuntime, command: &[&str]) -> io::Result<bool> {
         ["groups", count, "timed"] => groups::find(rt, count, true),
         _ => {
             println!(rt; "feed BLOCKS | groups COUNT [timed]")?;
-            println!(rt; "walk FILE TRIES ROUNDS | run FILE TRIES TURN | check FILE [timed]")?;
+            println!(rt; "walk FILE TRIES ROUNDS | wide FILE TRIES ROUNDS")?;
+            println!(rt; "run FILE TRIES TURN | check FILE [timed]")?;
             println!(rt; "log [timed] | draw ITEMS KEPT SEEDS [timed]")?;
             Ok(false)
         }

@@ -9,6 +9,7 @@ use pick_problem::{Kind, Problem};
 use row_columns::{places_text, problem_in};
 use std::alloc::Global;
 use std::{fs, io};
+use wide_search::Wide;
 
 /// What is printed of a walk: its tries, how many letters it has, their sum in 64 bits, and its best places.
 #[derive(Drop)]
@@ -98,26 +99,61 @@ fn lean_walks(alloc: Global, problem: &Problem, tries: u64, rounds: u64) -> Resu
     counted(alloc, made, walk.tokens(), walk.best())
 }
 
-/// Walks the problem of a file so many times; `None` where the file holds none.
-fn walks(alloc: Global, text: &str, tries: u64, rounds: u64) -> Result<Option<Walked>, Memory> {
+/// A wide walk with room for these tries.
+fn wide(alloc: Global, problem: &Problem, tries: u64) -> Result<Wide, Memory>
+    requires { problem.now.kind ≡ Kind.Changeless }
+{
+    let mut walk = Wide::new(alloc, problem)?;
+    walk.reserve(tries)?;
+    walk.advance(tries);
+    Ok(walk)
+}
+
+/// The last of so many wide walks, of which there is one at least.
+fn wide_walks(alloc: Global, problem: &Problem, tries: u64, rounds: u64) -> Result<Walked, Memory>
+    requires { problem.now.kind ≡ Kind.Changeless }
+{
+    let mut walk = wide(alloc, problem, tries)?;
+    for _ in 1..rounds {
+        walk = wide(alloc, problem, tries)?;
+    }
+    counted(alloc, walk.tries(), walk.tokens(), walk.best())
+}
+
+/// Walks the problem of a file so many times, by its kind or as a wide search; `None` where the file holds none.
+fn walks(
+    alloc: Global,
+    text: &str,
+    tries: u64,
+    rounds: u64,
+    is_wide: bool,
+) -> Result<Option<Walked>, Memory> {
     let columns: Vec<&str> = text.lines().collect(alloc)?;
     let Some(problem) = problem_in(alloc, &columns)? else {
         return Ok(None);
     };
     match problem.kind() {
+        Kind::Changeless if is_wide => Ok(Some(wide_walks(alloc, &problem, tries, rounds)?)),
         Kind::Changeless => Ok(Some(changeless_walks(alloc, &problem, tries, rounds)?)),
+        Kind::Lean if is_wide => Ok(None),
         Kind::Lean => Ok(Some(lean_walks(alloc, &problem, tries, rounds)?)),
     }
 }
 
 /// Prints what the last of so many walks of a file's problem comes to, each with so many tries.
-pub fn walk_file(rt: &HostRuntime, name: &str, tries: &str, rounds: &str) -> io::Result<bool> {
+pub fn walk_file(
+    rt: &HostRuntime,
+    name: &str,
+    tries: &str,
+    rounds: &str,
+    is_wide: bool,
+) -> io::Result<bool> {
     let text = fs::read_to_string(rt, name)?;
     let (Ok(tries), Ok(rounds)) = (tries.parse(), rounds.parse()) else {
         println!(rt; "no numbers")?;
         return Ok(false);
     };
-    match walks(rt.alloc(), text.as_str(), tries, rounds) {
+    match walks(rt.alloc(), text.as_str(), tries, rounds, is_wide) {
         Ok(Some(walked)) => {
             println!(rt; "tries {}", walked.tries)?;
             println!(rt; "letters {} {}", walked.letters, walked.sum)?;

@@ -6,22 +6,33 @@
 mod bytes;
 mod fees;
 mod outside;
+mod sharing;
 mod shelves;
 mod sinks;
+mod wide;
 
 use fund_base::Memory;
 use row_columns::Answer;
 use std::io;
 use std::io::{BufRead, BufReader};
 
-/// Answers a row.
-fn row(rt: &HostRuntime, out: &mut Answer, family: &str, verb: &str, columns: &[&str]) {
+/// Answers a row. The error is out of memory.
+fn row(
+    rt: &HostRuntime,
+    out: &mut Answer,
+    family: &str,
+    verb: &str,
+    columns: &[&str],
+) -> Result<(), Memory> {
     match family {
         "fees" => fees::row(out, verb, columns),
         "bytes" => bytes::row(out, verb, columns),
         "outside" => outside::row(rt, out, verb),
+        "wide" => wide::row(out, verb, columns)?,
+        "shares" => sharing::row(out, columns)?,
         _ => out.word("no such family"),
     }
+    Ok(())
 }
 
 /// Answers a line. The error is out of memory.
@@ -29,9 +40,11 @@ fn line(rt: &HostRuntime, out: &mut Answer, text: &str) -> Result<(), Memory> {
     let columns: Vec<&str> = text.split('\t').collect(rt.alloc())?;
     match columns.as_slice() {
         [family, verb, columns @ ..] => row(rt, out, family, verb, columns),
-        _ => out.word(text),
+        _ => {
+            out.word(text);
+            Ok(())
+        }
     }
-    Ok(())
 }
 
 /// Answers a line, and prints the answer.

@@ -6,10 +6,10 @@ ghost use Rattle.fund_files.specs.Chain.{IsChain};
 use crate::candidates::put_candidates;
 use crate::shown::{put_fault, put_shown};
 use command_end::bump_fault_parts;
-use fee_bump::{BumpFault, BumpTerms, bump_terms};
+use fee_bump::{BumpFault, BumpTerms, known_terms};
 use fund_files::{Chain, chain_of_wallet};
-use payment_facts::confirmed_without;
-use payment_states::all_states;
+use payment_facts::known_without;
+use payment_states::known_states;
 use request_text::Request;
 use row_columns::Answer;
 use wallet_text::Wallet;
@@ -32,7 +32,8 @@ fn put_all(out: &mut Answer, held: &Chain, tip: u32, terms: &BumpTerms) -> Resul
     requires tip { tip < 4294967295 }
 {
     put_terms(out, terms);
-    match confirmed_without(out.alloc, &held.book, &held.wallet, tip, &terms.replaced) {
+    let book = held.book.known();
+    match known_without(out.alloc, &book, &held.wallet, tip, &terms.replaced) {
         Ok(coins) => put_candidates(out, "\nwithout ", &coins, false),
         Err(_) => return Err(BumpFault::Memory),
     }
@@ -45,10 +46,11 @@ fn put_held(out: &mut Answer, held: &Chain, tip: u32, request: &Request) -> Resu
     requires tip { tip < 4294967295 }
     requires bump { IsSome request.now.bump }
 {
-    let Ok(states) = all_states(out.alloc, &held.book, &held.wallet) else {
+    let book = held.book.known();
+    let Ok(states) = known_states(out.alloc, &book, &held.wallet) else {
         return Err(BumpFault::Memory);
     };
-    let terms = bump_terms(out.alloc, &held.book, &held.wallet, &states, tip, request)?;
+    let terms = known_terms(out.alloc, &book, &held.wallet, &states, tip, request)?;
     put_all(out, held, tip, &terms)
 }
 

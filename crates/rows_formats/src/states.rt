@@ -8,7 +8,7 @@ use crate::candidates::{put_candidates, put_txid};
 use fee_rates::MAX_RATE;
 use fund_base::{Memory, Txid};
 use fund_files::{Chain, chain_of_wallet};
-use payment_states::{State, States, all_states, candidates};
+use payment_states::{State, States, known_candidates, known_states};
 use row_columns::Answer;
 use wallet_text::Wallet;
 
@@ -48,8 +48,9 @@ fn put_held(
     requires tip { tip < 4294967295 }
     requires rate { rate ≤ MAX_RATE }
 {
-    let states = all_states(out.alloc, &held.book, &held.wallet)?;
-    let coins = candidates(out.alloc, &held.book, &held.wallet, &states, tip, rate)?;
+    let book = held.book.known();
+    let states = known_states(out.alloc, &book, &held.wallet)?;
+    let coins = known_candidates(out.alloc, &book, &held.wallet, &states, tip, rate)?;
     if is_alone {
         out.number("coins ", coins.len() as u64);
         put_candidates(out, "\n", &coins, false);

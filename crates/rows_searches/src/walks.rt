@@ -10,17 +10,16 @@
 
 use crate::saved_texts::put_saved_fault;
 use fund_base::{Memory, Places};
-use pick_problem::{Kind, Position, Problem, Progress, RestoreFault};
+use pick_problem::{Position, Problem, Progress, RestoreFault};
 use row_columns::{
     Answer, best_in, column, digest_in, number_in, numbers_in, places_in, places_of, short_in,
     unescaped,
 };
-use search_keep::{SavedFault, read_saved, resume};
+use search_keep::{SavedFault, Walk, read_saved, resume};
 use std::alloc::Global;
-use walk_engine::Search;
 
 /// Makes so many tries, for which it takes room first. It answers the word of how far the walk has come.
-fn make(walk: &mut Search, tries: u64) -> Result<&'static str, Memory> {
+fn make(walk: &mut Walk, tries: u64) -> Result<&'static str, Memory> {
     walk.reserve(tries)?;
     Ok(match walk.advance(tries) {
         Progress::Open => "open",
@@ -36,14 +35,14 @@ fn put_position(out: &mut Answer, position: &Position) {
 }
 
 /// Puts the tries of a walk, and its letters.
-fn put_letters(out: &mut Answer, tries: u64, walk: &Search) {
+fn put_letters(out: &mut Answer, tries: u64, walk: &Walk) {
     out.number(", tries ", tries);
     out.word(", tokens ");
     out.put(walk.tokens());
 }
 
 /// Puts the best of a walk and its score, the tries made, and the letters. The error is out of memory.
-fn put_end(out: &mut Answer, problem: &Problem, walk: &Search) -> Result<(), Memory> {
+fn put_end(out: &mut Answer, problem: &Problem, walk: &Walk) -> Result<(), Memory> {
     let position = walk.position(out.alloc)?;
     out.best(", best ", walk.best());
     match walk.best() {
@@ -63,11 +62,11 @@ fn goes_on(
     alloc: Global,
     problem: &Problem,
     position: &Position,
-    walk: &Search,
+    walk: &Walk,
     tries: u64,
-    all: &Search,
+    all: &Walk,
 ) -> Result<bool, Memory> {
-    let mut again = match Search::restore(alloc, problem, position, walk.tokens()) {
+    let mut again = match Walk::restore(alloc, problem, position, walk.tokens()) {
         Ok(again) => again,
         Err(RestoreFault::IllFormed) => return Ok(false),
         Err(RestoreFault::Memory) => return Err(Memory),
@@ -80,7 +79,7 @@ fn goes_on(
 }
 
 /// Puts where a walk stands to which so many tries are granted. It answers that position.
-fn put_piece(out: &mut Answer, walk: &Search, granted: u64) -> Result<Position, Memory> {
+fn put_piece(out: &mut Answer, walk: &Walk, granted: u64) -> Result<Position, Memory> {
     let position = walk.position(out.alloc)?;
     out.number("\n", granted);
     out.word(if position.done { " done" } else { " open" });
@@ -94,9 +93,9 @@ fn put_piece(out: &mut Answer, walk: &Search, granted: u64) -> Result<Position, 
 fn put_pieces(
     out: &mut Answer,
     problem: &Problem,
-    walk: &mut Search,
+    walk: &mut Walk,
     budgets: &[u64],
-    all: &Search,
+    all: &Walk,
 ) -> Result<u64, Memory> {
     let most = budgets.last().copied().unwrap_or(0);
     let (mut granted, mut same) = (0, 0_u64);
@@ -117,9 +116,9 @@ fn put_pieces(
 fn put_walks(
     out: &mut Answer,
     problem: &Problem,
-    walk: &mut Search,
+    walk: &mut Walk,
     budgets: &[u64],
-    all: &mut Search,
+    all: &mut Walk,
 ) -> Result<(), Memory> {
     out.word(make(all, budgets.last().copied().unwrap_or(0))?);
     put_end(out, problem, all)?;
@@ -131,8 +130,8 @@ fn put_walks(
 /// Puts what two walks of a problem come to by the numbers of tries of a column. The error is out of memory.
 fn walk_told(out: &mut Answer, problem: &Problem, column: &str) -> Result<(), Memory> {
     let budgets = numbers_in(out.alloc, column)?;
-    let mut all = Search::new(out.alloc, problem)?;
-    let mut walk = Search::new(out.alloc, problem)?;
+    let mut all = Walk::new(out.alloc, problem)?;
+    let mut walk = Walk::new(out.alloc, problem)?;
     put_walks(out, problem, &mut walk, &budgets, &mut all)
 }
 
@@ -148,7 +147,7 @@ fn position_in(alloc: Global, columns: &[&str]) -> Result<Position, Memory> {
 }
 
 /// Puts what a restored walk comes to in 1,000 tries. The error is out of memory.
-fn put_restored(out: &mut Answer, walk: &mut Search) -> Result<(), Memory> {
+fn put_restored(out: &mut Answer, walk: &mut Walk) -> Result<(), Memory> {
     make(walk, 1000)?;
     out.best("restored ", walk.best());
     out.word(" ");
@@ -159,7 +158,7 @@ fn put_restored(out: &mut Answer, walk: &mut Search) -> Result<(), Memory> {
 /// Puts what a walk comes to that is restored at five columns, with the letters of the sixth. The error is out of memory.
 fn restored(out: &mut Answer, problem: &Problem, columns: &[&str]) -> Result<(), Memory> {
     let position = position_in(out.alloc, columns)?;
-    match Search::restore(out.alloc, problem, &position, column(columns, 5).as_bytes()) {
+    match Walk::restore(out.alloc, problem, &position, column(columns, 5).as_bytes()) {
         Ok(mut walk) => return put_restored(out, &mut walk),
         Err(RestoreFault::IllFormed) => out.word("IllFormed"),
         Err(RestoreFault::Memory) => out.lack(),
@@ -168,16 +167,11 @@ fn restored(out: &mut Answer, problem: &Problem, columns: &[&str]) -> Result<(),
 }
 
 /// Puts where a resumed search stands after so many tries. The error is out of memory.
-fn put_stand(
-    out: &mut Answer,
-    problem: &Problem,
-    walk: &mut Search,
-    tries: u64,
-) -> Result<(), Memory> {
+fn put_stand(out: &mut Answer, walk: &mut Walk, tries: u64) -> Result<(), Memory> {
     let state = make(walk, tries)?;
-    out.word(match problem.kind() {
-        Kind::Changeless => "bnb ",
-        Kind::Lean => "grinder ",
+    out.word(match walk {
+        Walk::Bnb(_) => "bnb ",
+        Walk::Grinder(_) => "grinder ",
     });
     out.word(state);
     let position = walk.position(out.alloc)?;
@@ -187,7 +181,7 @@ fn put_stand(
 }
 
 /// The search that goes on from the saved text of the first column. A job that is no digest is one of zeros.
-fn resumed_in(alloc: Global, problem: &Problem, columns: &[&str]) -> Result<Search, SavedFault> {
+fn resumed_in(alloc: Global, problem: &Problem, columns: &[&str]) -> Result<Walk, SavedFault> {
     let text = unescaped(alloc, column(columns, 0).as_bytes())?;
     let saved = read_saved(alloc, &text)?;
     let job = digest_in(column(columns, 1)).unwrap_or([0; 32]);
@@ -197,7 +191,7 @@ fn resumed_in(alloc: Global, problem: &Problem, columns: &[&str]) -> Result<Sear
 /// Puts where a search stands that goes on from a saved text, or why it doesn't. The error is out of memory.
 fn resumed(out: &mut Answer, problem: &Problem, columns: &[&str]) -> Result<(), Memory> {
     match resumed_in(out.alloc, problem, columns) {
-        Ok(mut walk) => put_stand(out, problem, &mut walk, number_in(column(columns, 3), 0)),
+        Ok(mut walk) => put_stand(out, &mut walk, number_in(column(columns, 3), 0)),
         Err(fault) => {
             put_saved_fault(out, fault);
             Ok(())
