@@ -18,7 +18,7 @@ use Rattle.fund_top.specs.Outcome.{ComesTo, IsRefusal, IsTold, Outcome}
 use Rattle.fund_top.specs.Outside.{Outside, outside}
 use Rattle.fund_top.specs.Run.{EndsByStatus, LeavesOthers, ReadsInOrder, RefusesFirst, TellsDue, TellsFailures, TellsUsage}
 use Rattle.fund_top.specs.Statuses.{Ends, EndsBroken, EndsInput, EndsLimited, EndsNotFunded, EndsNotKept, EndsUnfinished, EndsUnkept, EndsUnread, EndsUnsettled, EndsUnwritten, EndsWithoutMemory, KeepsOthers, NoneFailed, NoneUnkept, NoneUnread, WhereFunding, status_of}
-use Rattle.fund_top.specs.Words.{Command, Fund, command_of, names_stand, payment, settle_of, sources, where_stands, wide_of}
+use Rattle.fund_top.specs.Words.{Command, Fund, command_of, names_stand, of_four_names, payment, sources, where_stands}
 use Rattle.pay_words.specs.declared.asked.Asked.{Asked}
 use Rattle.command_pay.specs.Held.{IsBeside, log_name}
 use Rattle.command_pay.specs.declared.run.Run.{Run}
@@ -31,9 +31,7 @@ fund_words_are v w b r l s p verb wallet blocks request log =
     let s_is : sources w b ≡ s = ap (λ (x : List ℕ). let it : Sources = record { wallet = x; blocks = string_bytes b } in it) wallet ∙ ap (λ (x : List ℕ). let it : Sources = record { wallet = s.wallet; blocks = x } in it) blocks in
     let p_is : payment r l ≡ p = ap (λ (x : List ℕ). let it : Payment = record { request = x; log = string_bytes l } in it) request ∙ ap (λ (x : List ℕ). let it : Payment = record { request = p.request; log = x } in it) log in
     let put : Sources → Payment → Option Command = λ s p. where_stands (names_stand s p) (Fund s p None) in
-    let settled : Option Command = cond (bytes_eq (string_bytes v) (codes "settle")) (settle_of (string_bytes w) (string_bytes b) (string_bytes r) (string_bytes l)) None in
-    let others : Option Command = cond (bytes_eq (string_bytes v) (codes "wide")) (wide_of (string_bytes w) (string_bytes b) (string_bytes r) (string_bytes l)) settled in
-    ap (λ (x : List ℕ). cond (bytes_eq x (codes "fund")) (put (sources w b) (payment r l)) others) verb ∙ ap (λ (x : Sources). put x (payment r l)) s_is ∙ ap (put s) p_is
+    ap (λ (x : List ℕ). of_four_names x (string_bytes w) (string_bytes b) (string_bytes r) (string_bytes l)) verb ∙ ap (λ (x : Sources). put x (payment r l)) s_is ∙ ap (put s) p_is
 
 -- what `run` promises, by what its words are
 pub record Promises (v : Outside) (o : Option Command) (result : Status) : Type 0 where

@@ -102,6 +102,20 @@ job_command s p verb job =
     then where_stands (names_stand s p && is_job_name job) (Fund s p (Some job))
     else (if bytes_eq verb (codes "resume") then where_stands (names_stand s p && is_job_name job) (Resume s p job) else None)
 
+-- a command of four names, by its verb
+abbrev pub of_four_names : (verb first second third fourth : List ℕ) → Option Command
+of_four_names verb first second third fourth =
+    if bytes_eq verb (codes "fund")
+    then payment_of first second third fourth
+    else if bytes_eq verb (codes "wide") then wide_of first second third fourth else if bytes_eq verb (codes "settle") then settle_of first second third fourth else None
+
+-- a command of five names, by its verb
+abbrev pub of_five_names : (verb wallet blocks request fourth fifth : List ℕ) → Option Command
+of_five_names verb wallet blocks request fourth fifth =
+    if bytes_eq verb (codes "check")
+    then check_of wallet blocks request fourth fifth
+    else job_command (record { wallet = wallet; blocks = blocks }) (record { request = request; log = fourth }) verb fifth
+
 -- the command that the words are: coins WALLET BLOCKS, work NUMBER COUNT, desk WALLET BLOCKS SCRIPT, fund WALLET BLOCKS
 -- REQUEST LOG, with or without a JOB, resume WALLET BLOCKS REQUEST LOG JOB, check WALLET BLOCKS REQUEST REPORT LOG, wide WALLET
 -- BLOCKS REQUEST LOG, or settle WALLET REQUEST REPORT TX
@@ -112,14 +126,7 @@ command_of (verb ∷ first ∷ second ∷ []) =
     else if bytes_eq (string_bytes verb) (codes "work") then work_of (string_bytes first) (string_bytes second) else None
 command_of (verb ∷ wallet ∷ blocks ∷ script ∷ []) =
     if bytes_eq (string_bytes verb) (codes "desk") then desk_of (string_bytes wallet) (string_bytes blocks) (string_bytes script) else None
-command_of (verb ∷ first ∷ second ∷ third ∷ fourth ∷ []) =
-    if bytes_eq (string_bytes verb) (codes "fund")
-    then payment_of (string_bytes first) (string_bytes second) (string_bytes third) (string_bytes fourth)
-    else if bytes_eq (string_bytes verb) (codes "wide")
-    then wide_of (string_bytes first) (string_bytes second) (string_bytes third) (string_bytes fourth)
-    else if bytes_eq (string_bytes verb) (codes "settle") then settle_of (string_bytes first) (string_bytes second) (string_bytes third) (string_bytes fourth) else None
+command_of (verb ∷ first ∷ second ∷ third ∷ fourth ∷ []) = of_four_names (string_bytes verb) (string_bytes first) (string_bytes second) (string_bytes third) (string_bytes fourth)
 command_of (verb ∷ wallet ∷ blocks ∷ request ∷ fourth ∷ fifth ∷ []) =
-    if bytes_eq (string_bytes verb) (codes "check")
-    then check_of (string_bytes wallet) (string_bytes blocks) (string_bytes request) (string_bytes fourth) (string_bytes fifth)
-    else job_command (sources wallet blocks) (payment request fourth) (string_bytes verb) (string_bytes fifth)
+    of_five_names (string_bytes verb) (string_bytes wallet) (string_bytes blocks) (string_bytes request) (string_bytes fourth) (string_bytes fifth)
 command_of _ = None

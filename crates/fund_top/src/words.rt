@@ -4,7 +4,7 @@ ghost use Rattle.std.specs.Prelude.{◌≡◌, IfSome, option_map};
 ghost use Rattle.command_end.specs.Names.{plain_sources};
 ghost use Rattle.command_inputs.specs.Names.{plain_payment};
 ghost use Rattle.fund_top.specs.Command.{plain};
-ghost use Rattle.fund_top.specs.Words.{IsInRange, are_judged, are_named, check_of, command_of, desk_of, job_command, listing_of, names_stand, payment_of, settle_of, wide_of, work_of};
+ghost use Rattle.fund_top.specs.Words.{IsInRange, are_judged, are_named, check_of, command_of, desk_of, job_command, listing_of, names_stand, of_five_names, of_four_names, payment_of, settle_of, wide_of, work_of};
 
 use command_end::Sources;
 use command_inputs::Payment;
@@ -210,6 +210,52 @@ fn desk_in<'a>(wallet: &'a str, blocks: &'a str, script: &'a str) -> Option<Comm
     }
 }
 
+/// The command of four names, by its verb.
+fn of_four_names<'a>(
+    verb: &str,
+    first: &'a str,
+    second: &'a str,
+    third: &'a str,
+    fourth: &'a str,
+) -> Option<Command<'a>>
+    ensures command { option_map plain result ≡ of_four_names verb.now first.now second.now third.now fourth.now }
+    ensures range { IfSome result (λ c. IsInRange (plain c)) }
+{
+    if verb == "fund" {
+        payment_in(first, second, third, fourth)
+    } else if verb == "wide" {
+        wide_in(first, second, third, fourth)
+    } else if verb == "settle" {
+        settle_in(first, second, third, fourth)
+    } else {
+        None
+    }
+}
+
+/// The command of five names, by its verb. The last one is that of a log or of a job.
+fn of_five_names<'a>(
+    verb: &str,
+    wallet: &'a str,
+    blocks: &'a str,
+    request: &'a str,
+    fourth: &'a str,
+    fifth: &'a str,
+) -> Option<Command<'a>>
+    ensures command { option_map plain result ≡ of_five_names verb.now wallet.now blocks.now request.now fourth.now fifth.now }
+    ensures range { IfSome result (λ c. IsInRange (plain c)) }
+{
+    if verb == "check" {
+        check_in(wallet, blocks, request, fourth, fifth)
+    } else {
+        let sources = Sources { wallet, blocks };
+        let payment = Payment {
+            request,
+            log: fourth,
+        };
+        job_command(sources, payment, verb, fifth)
+    }
+}
+
 /// The command that the words are, which is `coins WALLET BLOCKS`, `work NUMBER COUNT`, `desk WALLET BLOCKS SCRIPT`, `fund
 /// WALLET BLOCKS REQUEST LOG`, with or without a `JOB`, `resume WALLET BLOCKS REQUEST LOG JOB`, `check WALLET BLOCKS REQUEST
 /// REPORT LOG`, `wide WALLET BLOCKS REQUEST LOG` or `settle WALLET REQUEST REPORT TX`. A `JOB` is 1 to 32 digits, letters and hyphens of ASCII.
@@ -234,53 +280,21 @@ pub fn parse(words: &[String]) -> Option<Command<'_>>
                 None
             }
         }
-        [verb, first, second, third, fourth] => {
-            if verb.as_str() == "fund" {
-                payment_in(
-                    first.as_str(),
-                    second.as_str(),
-                    third.as_str(),
-                    fourth.as_str(),
-                )
-            } else if verb.as_str() == "wide" {
-                wide_in(
-                    first.as_str(),
-                    second.as_str(),
-                    third.as_str(),
-                    fourth.as_str(),
-                )
-            } else if verb.as_str() == "settle" {
-                settle_in(
-                    first.as_str(),
-                    second.as_str(),
-                    third.as_str(),
-                    fourth.as_str(),
-                )
-            } else {
-                None
-            }
-        }
-        [verb, wallet, blocks, request, fourth, fifth] => {
-            if verb.as_str() == "check" {
-                check_in(
-                    wallet.as_str(),
-                    blocks.as_str(),
-                    request.as_str(),
-                    fourth.as_str(),
-                    fifth.as_str(),
-                )
-            } else {
-                let sources = Sources {
-                    wallet: wallet.as_str(),
-                    blocks: blocks.as_str(),
-                };
-                let payment = Payment {
-                    request: request.as_str(),
-                    log: fourth.as_str(),
-                };
-                job_command(sources, payment, verb.as_str(), fifth.as_str())
-            }
-        }
+        [verb, first, second, third, fourth] => of_four_names(
+            verb.as_str(),
+            first.as_str(),
+            second.as_str(),
+            third.as_str(),
+            fourth.as_str(),
+        ),
+        [verb, wallet, blocks, request, fourth, fifth] => of_five_names(
+            verb.as_str(),
+            wallet.as_str(),
+            blocks.as_str(),
+            request.as_str(),
+            fourth.as_str(),
+            fifth.as_str(),
+        ),
         _ => None,
     }
 }
