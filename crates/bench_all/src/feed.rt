@@ -18,10 +18,10 @@ fn counts_of<H: Shelf>(alloc: Global, shelf: &mut H, name: &str) -> Result<Count
     let mut feed = Feed::new([0; 32], 0);
     let mut txs: u64 = 0;
     for blocks in 0..u64::MAX {
-        let Some(block) = feed.next(alloc, shelf, name)? else {
+        let Some(block) = feed.next_raw(alloc, shelf, name)? else {
             return Ok(Counts { blocks, txs });
         };
-        txs = txs.saturating_add(block.txs.len() as u64);
+        txs = txs.saturating_add(block.txids().len() as u64);
     }
     let blocks = u64::MAX;
     Ok(Counts { blocks, txs })

@@ -122,10 +122,10 @@ block_takes previous height bytes block fits e =
     } in
     subst (λ (c : ChainBlock). IsBlock previous height c bytes) sealed.2 is
 
--- so what a call read is a block
-pub yields_linked : (previous : List ℕ) (height : ℕ) (bytes : List ℕ) (result : Result ChainBlock FeedFault) → IsBytes bytes → YieldsAll Memory (λ b. b) result (block_at previous height (start bytes)) → IfOk result (λ b. IsLinked previous height b)
-yields_linked previous height bytes (Ok block) fits given = record { bytes = bytes; is_block = block_takes previous height bytes block fits given }
-yields_linked previous height bytes (Err e) fits given = tt
+-- so what a call read, seen as one, is a block
+pub yields_linked : {X : Type 0} (view : X → ChainBlock) (previous : List ℕ) (height : ℕ) (bytes : List ℕ) (result : Result X FeedFault) → IsBytes bytes → YieldsAll Memory view result (block_at previous height (start bytes)) → IfOk result (λ x. IsLinked previous height (view x))
+yields_linked view previous height bytes (Ok x) fits given = record { bytes = bytes; is_block = block_takes previous height bytes (view x) fits given }
+yields_linked view previous height bytes (Err e) fits given = tt
 
 -- each transaction has a byte at least
 text_some : (t : Transaction) → 1 ≤ length (text_of t)

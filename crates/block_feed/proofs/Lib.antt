@@ -1,4 +1,5 @@
 pub mod Trees
+pub mod ViewLaws
 pub mod TreeLaws
 pub mod BlockLaws
 pub mod FeedLaws
@@ -12,4 +13,5 @@ pub mod PartLaws
 pub mod FrameLaws
 pub mod RecordLaws
 pub mod NextLaws
+pub mod NameLaws
 pub mod DigestLaws

@@ -29,8 +29,8 @@ pub block_never : (hash : List ℕ) (height at : ℕ) (body : List ℕ) → 80 �
 block_never hash height at body long fits e = lacks_never body (block_refused hash height body (Tx at NoMemory) long fits e).2
 
 -- so no call gives it
-pub yields_never : (hash : List ℕ) (height : ℕ) (body : List ℕ) (result : Result ChainBlock FeedFault) → 80 ≤ length body → IsBytes body → YieldsAll Memory (λ b. b) result (block_at hash height (start body)) → (at : ℕ) → result ≡ Err (Tx at NoMemory) → ⊥
-yields_never hash height body (Ok block) long fits given at is = absurd cc
-yields_never hash height body (Err e) long fits given at is =
+pub yields_never : {X : Type 0} (view : X → ChainBlock) (hash : List ℕ) (height : ℕ) (body : List ℕ) (result : Result X FeedFault) → 80 ≤ length body → IsBytes body → YieldsAll Memory view result (block_at hash height (start body)) → (at : ℕ) → result ≡ Err (Tx at NoMemory) → ⊥
+yields_never view hash height body (Ok x) long fits given at is = absurd cc
+yields_never view hash height body (Err e) long fits given at is =
     let same : e ≡ Tx at NoMemory = cc in
     block_never hash height at body long fits (given (λ memory. absurd cc) ∙ ap (λ (d : FeedFault). Err d) same)

@@ -2,6 +2,7 @@ pub mod Block
 pub mod BlockFile
 pub mod Merkle
 pub mod Reading
+pub mod Names
 pub mod Digest
 pub mod Feed
 pub mod Parts

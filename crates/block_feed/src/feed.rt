@@ -10,14 +10,15 @@ ghost use Rattle.block_feed.specs.Parts.{IsNextAt, IsPast, behind_record};
 ghost use Rattle.block_feed.specs.declared.fault.FeedFault.TheVariants.{Tx, Read, Memory};
 ghost use Rattle.tx_codec.specs.declared.fault.TxFault.TheVariants.{Memory as NoMemory};
 
-use crate::block::Block;
+use crate::block::{Block, RawBlock};
 use crate::digest::{copy_of, digest_of, take_in};
 use crate::fault::FeedFault;
-use crate::reading::block_of;
+use crate::reading::{BlockNames, names_of};
 use crate::records::{Record, record_from};
+use fund_base::Memory as NoRoom;
 use fund_shelf::Shelf;
 use sha2::{Digest, Sha256};
-use std::alloc::Global;
+use std::alloc::{AllocError, Global};
 use std::marker::Model;
 
 /// The greatest height that a block of the feed has.
@@ -72,7 +73,7 @@ fn lasting(fault: FeedFault) -> Option<FeedFault>
     }
 }
 
-/// The block of the record of the file `name` at this place, behind a block of this hash and height, and
+/// What names the block of the record of the file `name` at this place, behind a block of this hash and height, and
 /// the record. None at the file's end; `hasher` then takes what is left.
 fn next_block<H: Shelf>(
     alloc: Global,
@@ -82,11 +83,11 @@ fn next_block<H: Shelf>(
     height: u32,
     place: u64,
     hasher: &mut Option<Sha256>,
-) -> Result<Option<(Block, Record)>, FeedFault>
+) -> Result<Option<(BlockNames, Record)>, FeedFault>
     requires { place ≤ 1073741824 }
     ensures gives { H.tells → let file = (H.view shelf.old).files name.now in Finds (λ o. option_map (behind_record place) o) result (next_in (nat_lt 1073741824 (length file)) (take 1073741824 file) hash.now height place) }
 
-    // The block and the bytes of its record, where the shelf tells them.
+    // The names of the block and the bytes of its record, where the shelf tells them.
     ensures found { IfOk result (λ o. IfSome o (λ found. IsNextAt H.tells (seen_from ((H.view shelf.old).files name.now) place) hash.now height place found.0 found.1)) }
 
     // What the digest takes.
@@ -100,8 +101,21 @@ fn next_block<H: Shelf>(
     let Some(found) = record_from(alloc, shelf, name, place, hasher)? else {
         return Ok(None);
     };
-    let block = block_of(alloc, hash, height_after(height), &found.body)?;
-    Ok(Some((block, found)))
+    let names = names_of(alloc, hash, height_after(height), &found.body)?;
+    Ok(Some((names, found)))
+}
+
+/// The block with its transactions as lists, where there is one.
+fn owned(alloc: Global, raw: Option<RawBlock>) -> Result<Option<Block>, NoRoom>
+    ensures { IfOk result (λ o. o ≡ raw) }
+{
+    match raw {
+        Some(raw) => {
+            let block = raw.into_block(alloc)?;
+            Ok(Some(block))
+        }
+        None => Ok(None),
+    }
 }
 
 impl Feed {
@@ -152,7 +166,7 @@ impl Feed {
         alloc: Global,
         shelf: &mut H,
         name: &str,
-    ) -> Result<Option<Block>, FeedFault>
+    ) -> Result<Option<RawBlock>, FeedFault>
         ensures exact { H.tells → self.old.fault ≡ None → Gives self.old self.new result (next_of ((H.view shelf.old).files name.now) self.old) }
         ensures end_digest { H.tells → self.old.fault ≡ None → IfOk result (λ o. IfNone o ((bytes : List ℕ) → HasTaken self.old.hasher bytes → IsDigest self.old.hasher (bytes ++ seen_from ((H.view shelf.old).files name.now) self.old.place) self.new.digest)) }
         ensures asked_for { is_some self.new.hasher ≡ is_some self.old.hasher }
@@ -172,15 +186,20 @@ impl Feed {
         let mut tail = copy_of(&self.hasher)?;
         let (height, place) = (self.height, self.place);
         match next_block(alloc, shelf, name, &self.hash, height, place, &mut tail) {
-            Ok(Some((block, found))) => {
+            Ok(Some((names, found))) => {
                 take_in(&mut self.hasher, &found.head);
                 take_in(&mut self.hasher, &found.body);
                 self.digest = None;
-                let hash = block.hash;
+                let hash = names.hash;
                 self.hash = hash;
-                self.height = block.height;
+                self.height = names.height;
                 self.place = place + 8 + found.body.len() as u64;
-                Ok(Some(block))
+                Ok(Some(RawBlock {
+                    height: names.height,
+                    hash,
+                    body: found.body,
+                    txids: names.txids,
+                }))
             }
             Ok(None) => {
                 self.digest = digest_of(tail);
@@ -191,6 +210,63 @@ impl Feed {
                 Err(fault)
             }
         }
+    }
+
+    /// A feed that stands at the same place.
+    fn copy(&self) -> Result<Feed, AllocError>
+        ensures { IfOk result (λ copy. copy ≡ self.now) }
+    {
+        let hasher = copy_of(&self.hasher)?;
+        Ok(Feed {
+            hash: self.hash,
+            height: self.height,
+            place: self.place,
+            fault: self.fault,
+            hasher,
+            digest: self.digest,
+        })
+    }
+
+    /// The next block of the file `name`, whose transactions stay in its bytes. None, and each fault, exactly where
+    /// [`Feed::next`] says so; and the feed then stands where it stands after that call.
+    pub fn next_raw<H: Shelf>(
+        &mut self,
+        alloc: Global,
+        shelf: &mut H,
+        name: &str,
+    ) -> Result<Option<RawBlock>, FeedFault>
+        // What is given is what the file holds there, memory and failed reads aside: a block, its end, or a fault, each exactly
+        // where `judges_records` says so. What that is to the blocks of the file, `gives_blocks` says.
+        ensures exact { H.tells → self.old.fault ≡ None → Gives self.old self.new result (next_of ((H.view shelf.old).files name.now) self.old) }
+        ensures bytes { H.tells → TakesBytes ((H.view shelf.old).files name.now) self.old self.new result }
+
+        // A block lies within the file, and takes bytes of it.
+        ensures within { H.tells → self.old.fault ≡ None → IfOk result (λ o. IfSome o (λ _. (self.old.place < self.new.place) × (self.new.place ≤ length ((H.view shelf.old).files name.now)))) }
+
+        // Whether the shelf tells its files or not: where the feed then stands, and that what is given is a
+        // block at the next height, linked to the one before.
+        ensures moves { Moves self.old self.new result }
+        ensures linked { IfOk result (λ o. IfSome o (λ block. IsLinked self.old.hash (height_after self.old.height) block)) }
+
+        // What a fault leaves.
+        ensures again { IfSome self.old.fault (λ fault. (result ≡ Err fault) × (self.new ≡ self.old)) }
+        ensures fine { IfOk result (λ _. self.new.fault ≡ None) }
+        ensures kept { IfErr result (λ e. e ≢ Memory → e ≢ Read → self.new.fault ≡ Some e) }
+        ensures memory { IsErrOf result FeedFault.Memory → self.new ≡ self.old }
+        ensures read { IsErrOf result FeedFault.Read → self.new ≡ self.old }
+
+        // What the digest takes, where one is asked for: the bytes of each record, and at the end all that is left.
+        ensures digests { H.tells → self.old.fault ≡ None → Digests ((H.view shelf.old).files name.now) self.old self.new result }
+        ensures asked_for { is_some self.new.hasher ≡ is_some self.old.hasher }
+
+        // A fault of a transaction is one of its text, and never that memory was short.
+        ensures never_memory { (at : ℕ) → result ≢ Err (Tx at NoMemory) }
+
+        // What the call leaves of the shelf: its files; its counts, unless it fails to read, where that of failed reads of
+        // this name rises; and that it asks for this name alone.
+        ensures frame { ReadsOne H.tells (IsErrOf result FeedFault.Read) name.now (H.view shelf.old) (H.view shelf.new) }
+    {
+        self.advance(alloc, shelf, name)
     }
 
     /// The next block of the file `name`. None exactly where the file ends behind the block before, or
@@ -244,6 +320,20 @@ impl Feed {
         // this name rises; and that it asks for this name alone.
         ensures frame { ReadsOne H.tells (IsErrOf result FeedFault.Read) name.now (H.view shelf.old) (H.view shelf.new) }
     {
-        self.advance(alloc, shelf, name)
+        if let Some(fault) = self.fault {
+            return Err(fault);
+        }
+        let before = self.copy()?;
+        let raw = match self.next_raw(alloc, shelf, name) {
+            Ok(raw) => raw,
+            Err(fault) => return Err(fault),
+        };
+        match owned(alloc, raw) {
+            Ok(block) => Ok(block),
+            Err(_) => {
+                *self = before;
+                Err(FeedFault::Memory)
+            }
+        }
     }
 }

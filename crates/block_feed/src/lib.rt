@@ -12,8 +12,10 @@ mod parts;
 mod reading;
 mod records;
 mod tail;
+mod views;
 
-pub use block::Block;
+pub use block::{Block, RawBlock};
 pub use fault::FeedFault;
 pub use feed::Feed;
 pub use laws::{blocks_are, digests_files, gives_blocks, judges_records};
+pub use views::TxViews;

@@ -1,33 +1,30 @@
 //! Reading the block of a record.
 
-ghost use Rattle.std.specs.Prelude.{◌≡◌, ◌≢◌, ◌+◌, ◌≤◌, ◌==◌, ℕ, bytes_eq, length, not, take, drop, map, if◌then◌else◌, IfOk, IsOkAnd, Err, None, Some};
+ghost use Rattle.std.specs.Prelude.{◌≡◌, ◌≢◌, ◌+◌, ◌≤◌, ◌==◌, ℕ, bytes_eq, length, not, take, drop, map, if◌then◌else◌, IfNone, IfOk, IsOkAnd, Err, List, None, Some};
 ghost use Rattle.fund_base.specs.Cursor.{IsBytes, after, compact_at};
 ghost use Rattle.fund_base.specs.Parsing.{Yields, YieldsAll, many_at};
-ghost use Rattle.tx_codec.specs.Reading.{tx_at};
+ghost use Rattle.tx_codec.specs.Transaction.{Transaction};
 ghost use Rattle.tx_codec.specs.Txid.{txid_of};
 ghost use Rattle.tx_codec.specs.declared.fault.TxFault.TheVariants.{Memory as NoMemory};
 ghost use Rattle.block_feed.specs.Block.{IsLinked, previous_of, root_of};
 ghost use Rattle.block_feed.specs.Merkle.{double_sha256};
-ghost use Rattle.block_feed.specs.Reading.{tx_fault, sealed_at, txs_at, counted_txs_at, block_at};
-ghost use Rattle.block_feed.specs.declared.fault.FeedFault.TheVariants.{Tx as OfTx, Merkle, Mutated, Trailing, Read, Memory};
+ghost use Rattle.block_feed.specs.Names.{counted_names_at, held_block, held_txs, name_at, names_at};
+ghost use Rattle.block_feed.specs.Reading.{tx_fault, block_at, sealed_at};
+ghost use Rattle.block_feed.specs.declared.fault.FeedFault.TheVariants.{Tx as OfTx, Merkle, Mutated, NotLinked, Trailing, Read, Memory};
 
-use crate::block::Block;
 use crate::fault::FeedFault;
 use crate::merkle::{Tree, tree_of};
 use fund_base::{Cursor, Txid};
 use sha2::{Digest, Sha256};
 use std::alloc::{AllocError, Global};
-use tx_codec::{Tx, TxFault, read_tx, txid};
+use tx_codec::{TxFault, pass_tx};
 
-fn txs_of(alloc: Global, count: u64, cursor: &mut Cursor) -> Result<Vec<Tx>, TxFault>
-    ensures { Yields NoMemory (λ v. v.items) cursor.new result (many_at tx_at count cursor.old) }
-{
-    let mut txs = Vec::new(alloc);
-    for _ in 0..count {
-        let tx = read_tx(alloc, cursor)?;
-        txs.push(tx)?;
-    }
-    Ok(txs)
+/// What a block is named by: its height, its hash and the txids of its transactions.
+#[derive(Drop)]
+pub struct BlockNames {
+    pub height: u32,
+    pub hash: [u8; 32],
+    pub txids: Vec<Txid>,
 }
 
 /// A transaction's fault, as that of the block at this height.
@@ -52,48 +49,50 @@ fn end_fault(height: u32, rest: &[u8]) -> Option<FeedFault>
     }
 }
 
-#[tactic(auto, unfolding(crate::specs::Reading::txs_at))]
-fn all_txs(
+/// The txids of so many transactions, which are passed over.
+fn txids_of(alloc: Global, count: u64, cursor: &mut Cursor) -> Result<Vec<Txid>, TxFault>
+    ensures { Yields NoMemory (λ v. v.items) cursor.new result (many_at name_at count cursor.old) }
+{
+    let mut txids = Vec::new(alloc);
+    for _ in 0..count {
+        let tx = pass_tx(cursor)?;
+        txids.push(tx.txid())?;
+    }
+    Ok(txids)
+}
+
+#[tactic(auto, unfolding(crate::specs::Names::names_at))]
+fn all_txids(
     alloc: Global,
     height: u32,
     count: u64,
     cursor: &mut Cursor,
-) -> Result<Vec<Tx>, FeedFault>
-    ensures gives { YieldsAll Memory (λ v. v.items) result (txs_at height count cursor.old) }
+) -> Result<Vec<Txid>, FeedFault>
+    ensures gives { YieldsAll Memory (λ v. v.items) result (names_at height count cursor.old) }
     ensures never_read { result ≢ Err Read }
 {
-    match txs_of(alloc, count, cursor) {
-        Ok(txs) => match end_fault(height, cursor.rest()) {
+    match txids_of(alloc, count, cursor) {
+        Ok(txids) => match end_fault(height, cursor.rest()) {
             Some(fault) => Err(fault),
-            None => Ok(txs),
+            None => Ok(txids),
         },
         Err(fault) => Err(tx_fault(height, fault)),
     }
 }
 
-#[tactic(auto, unfolding(crate::specs::Reading::counted_txs_at))]
-fn counted_txs(alloc: Global, height: u32, cursor: &mut Cursor) -> Result<Vec<Tx>, FeedFault>
-    ensures gives { YieldsAll Memory (λ v. v.items) result (counted_txs_at height cursor.old) }
+/// The txids of the transactions after their count.
+#[tactic(auto, unfolding(crate::specs::Names::counted_names_at))]
+fn counted_txids(alloc: Global, height: u32, cursor: &mut Cursor) -> Result<Vec<Txid>, FeedFault>
+    ensures gives { YieldsAll Memory (λ v. v.items) result (counted_names_at height cursor.old) }
     ensures short { result ≡ Err Memory → IsOkAnd (compact_at cursor.old) (λ count. count.0 ≢ 0) }
     ensures some { IfOk result (λ _. IsOkAnd (compact_at cursor.old) (λ count. count.0 ≢ 0)) }
     ensures never_read { result ≢ Err Read }
 {
     match cursor.compact() {
         Ok(0) => Err(FeedFault::Empty(height)),
-        Ok(count) => all_txs(alloc, height, count, cursor),
+        Ok(count) => all_txids(alloc, height, count, cursor),
         Err(fault) => Err(FeedFault::Tx(height, TxFault::from(fault))),
     }
-}
-
-/// The txids of transactions, in order.
-fn txids(alloc: Global, txs: &[Tx]) -> Result<Vec<Txid>, AllocError>
-    ensures { IfOk result (λ v. v.items ≡ map txid_of txs.now) }
-{
-    let mut txids = Vec::new(alloc);
-    for tx in txs {
-        txids.push(txid(tx))?;
-    }
-    Ok(txids)
 }
 
 /// The bytes of txids, which are the lowest level of a Merkle tree.
@@ -126,6 +125,21 @@ fn hash_in(header: &[u8], place: usize) -> [u8; 32]
     hash
 }
 
+/// Why a header doesn't follow a block of this hash, if it doesn't.
+fn link_fault(previous: &[u8; 32], header: &[u8]) -> Option<FeedFault>
+    requires { length header.now ≡ 80 }
+    ensures gives { result ≡ (if not (bytes_eq (previous_of header.now) previous.now) then Some (NotLinked previous.now (previous_of header.now)) else None) }
+    ensures linked { IfNone result (previous_of header.now ≡ previous.now) }
+    ensures never_read { result ≢ Some Read }
+    ensures never_short { result ≢ Some Memory }
+{
+    let found = hash_in(header, 4);
+    if found != *previous {
+        return Some(FeedFault::NotLinked(*previous, found));
+    }
+    None
+}
+
 /// Why transactions whose txids have this tree aren't those of the header, if they aren't.
 fn root_fault(height: u32, header: &[u8], tree: &Tree) -> Option<FeedFault>
     requires { length header.now ≡ 80 }
@@ -140,59 +154,40 @@ fn root_fault(height: u32, header: &[u8], tree: &Tree) -> Option<FeedFault>
     None
 }
 
-#[tactic(auto, unfolding(crate::specs::Reading::sealed_at))]
-fn sealed(alloc: Global, height: u32, header: &[u8], txs: Vec<Tx>) -> Result<Block, FeedFault>
+/// What names the block of a header and of transactions with these txids, whose Merkle root the header carries.
+fn sealed(
+    alloc: Global,
+    height: u32,
+    header: &[u8],
+    txids: Vec<Txid>,
+) -> Result<BlockNames, FeedFault>
     requires { length header.now ≡ 80 }
-    ensures gives { YieldsAll Memory (λ b. b) result (sealed_at height header.now txs.items) }
+    ensures gives { (txs : List Transaction) → txids.items ≡ map txid_of txs → YieldsAll Memory (λ b. record { height = b.height; hash = b.hash; txs = txs }) result (sealed_at height header.now txs) }
+    ensures txids { IfOk result (λ b. b.txids.items ≡ txids.items) }
     ensures height { IfOk result (λ b. b.height ≡ height) }
     ensures never_read { result ≢ Err Read }
 {
-    let txids = txids(alloc, &txs)?;
     let tree = tree_of(alloc, leaves(alloc, &txids)?)?;
     match root_fault(height, header, &tree) {
         Some(fault) => return Err(fault),
         None => {}
     }
-    Ok(Block {
+    Ok(BlockNames {
         height,
         hash: hash_of(header),
-        txs,
         txids,
     })
 }
 
 #[tactic(auto, unfolding(crate::specs::Reading::block_at))]
-fn block_in(
-    alloc: Global,
-    previous: &[u8; 32],
-    height: u32,
-    cursor: &mut Cursor,
-) -> Result<Block, FeedFault>
-    ensures gives { YieldsAll Memory (λ b. b) result (block_at previous.now height cursor.old) }
-    ensures short { result ≡ Err Memory → (80 ≤ length cursor.old.rest) × (previous_of (take 80 cursor.old.rest) ≡ previous.now) }
-    ensures some { result ≡ Err Memory → IsOkAnd (compact_at (after 80 cursor.old)) (λ count. count.0 ≢ 0) }
-    ensures height { IfOk result (λ b. b.height ≡ height) }
-    ensures never_read { result ≢ Err Read }
-{
-    let header = match cursor.take(80) {
-        Ok(header) => header,
-        Err(fault) => return Err(FeedFault::Tx(height, TxFault::from(fault))),
-    };
-    let found = hash_in(header, 4);
-    if found != *previous {
-        return Err(FeedFault::NotLinked(*previous, found));
-    }
-    let txs = counted_txs(alloc, height, cursor)?;
-    sealed(alloc, height, header, txs)
-}
-
-fn whole_block(
+fn names_in(
     alloc: Global,
     previous: &[u8; 32],
     height: u32,
     bytes: &[u8],
-) -> Result<Block, FeedFault>
-    ensures gives { YieldsAll Memory (λ b. b) result (block_at previous.now height (record { rest = bytes.now; place = 0 })) }
+) -> Result<BlockNames, FeedFault>
+    ensures gives { YieldsAll Memory (λ b. held_block height b.hash bytes.now) result (block_at previous.now height (record { rest = bytes.now; place = 0 })) }
+    ensures txids { IfOk result (λ b. b.txids.items ≡ map txid_of (held_txs height bytes.now)) }
     ensures short { result ≡ Err Memory → (80 ≤ length bytes.now) × (previous_of (take 80 bytes.now) ≡ previous.now) }
     ensures some { result ≡ Err Memory → IsOkAnd (compact_at (after 80 (record { rest = bytes.now; place = 0 }))) (λ count. count.0 ≢ 0) }
     ensures height { IfOk result (λ b. b.height ≡ height) }
@@ -200,20 +195,30 @@ fn whole_block(
     ensures bytes { IsBytes bytes.now }
 {
     let mut cursor = Cursor::new(bytes);
-    block_in(alloc, previous, height, &mut cursor)
+    let header = match cursor.take(80) {
+        Ok(header) => header,
+        Err(fault) => return Err(FeedFault::Tx(height, TxFault::from(fault))),
+    };
+    match link_fault(previous, header) {
+        Some(fault) => return Err(fault),
+        None => {}
+    }
+    let txids = counted_txids(alloc, height, &mut cursor)?;
+    sealed(alloc, height, header, txids)
 }
 
-/// The block at this height that the bytes are, behind a block of this hash. A place in its faults
+/// What names the block at this height that the bytes are, behind a block of this hash. A place in its faults
 /// counts from the first of the bytes.
-pub fn block_of(
+pub fn names_of(
     alloc: Global,
     previous: &[u8; 32],
     height: u32,
     bytes: &[u8],
-) -> Result<Block, FeedFault>
+) -> Result<BlockNames, FeedFault>
     requires { 80 ≤ length bytes.now }
-    ensures linked { IfOk result (λ b. IsLinked previous.now height b) }
-    ensures gives { YieldsAll Memory (λ b. b) result (block_at previous.now height (record { rest = bytes.now; place = 0 })) }
+    ensures linked { IfOk result (λ b. IsLinked previous.now height (held_block height b.hash bytes.now)) }
+    ensures gives { YieldsAll Memory (λ b. held_block height b.hash bytes.now) result (block_at previous.now height (record { rest = bytes.now; place = 0 })) }
+    ensures txids { IfOk result (λ b. b.txids.items ≡ map txid_of (held_txs height bytes.now)) }
     ensures short { result ≡ Err Memory → previous_of (take 80 bytes.now) ≡ previous.now }
     ensures some { result ≡ Err Memory → IsOkAnd (compact_at (after 80 (record { rest = bytes.now; place = 0 }))) (λ count. count.0 ≢ 0) }
     ensures height { IfOk result (λ b. b.height ≡ height) }
@@ -221,5 +226,5 @@ pub fn block_of(
     ensures never_memory { (at : ℕ) → result ≢ Err (OfTx at NoMemory) }
     ensures bytes { IsBytes bytes.now }
 {
-    whole_block(alloc, previous, height, bytes)
+    names_in(alloc, previous, height, bytes)
 }

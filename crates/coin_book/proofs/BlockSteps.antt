@@ -1,5 +1,5 @@
 -- One block more.
-use Rattle.std.proofs.Common.{◌≡◌, ◌∙◌, ℕ, ◌+◌, true, false, cond, List, [], ◌∷◌, ◌++◌, length, map, filter, Option, Some, None, Vec, Global, sym, ap, subst, arith, append_assoc, true≢false}
+use Rattle.std.proofs.Common.{◌≡◌, ◌∙◌, ℕ, ◌+◌, true, false, cond, List, [], ◌∷◌, ◌++◌, length, map, filter, Option, Some, None, Vec, Global, refl, sym, ap, subst, arith, append_assoc, true≢false}
 use Rattle.std.specs.Prelude.{bytes_eq, is_some, nat_le, nat_lt}
 use Rattle.std.specs.List.{IsDistinct, flat_map}
 use Rattle.std.specs.Map.{keys_of, lookup}
@@ -18,7 +18,7 @@ use Rattle.coin_book.specs.Coins.{Made, confirmed_made, made_by, pending_made, w
 use Rattle.coin_book.specs.Faults.{fault_behind, fault_of, full_at, points}
 use Rattle.coin_book.specs.History.{Confirmed, History, confirmed_at, confirmed_before, confirmed_in, with_block}
 use Rattle.coin_book.specs.Invariant.{HoldsChain, HoldsCoins, IsLedger, history_of, points_in, weigher}
-use Rattle.coin_book.specs.Watched.{PlainWatched, kept_height, kept_spends}
+use Rattle.coin_book.specs.Watched.{PlainWatched, WatchedHistory, kept_height, kept_spends}
 use Rattle.coin_book.specs.Merging.{all_in, shares, spends_in, staying, stays}
 use Rattle.coin_book.specs.declared.coin.Spend.{Spend}
 use Rattle.coin_book.specs.declared.fault.BookFault.{BookFault}
@@ -111,6 +111,45 @@ block_next h b w ws l more ps txids count left chain k same holds none told =
       none = subst (λ (c : List Confirmed). fault_behind (points_in (weigher ws) h.confirmed) (points_in (weigher ws) c) ≡ None) same none;
       many = left_is h b w (weigher ws) more ps txids left k.watched held k.waiting k.txids_are told;
     }
+
+-- ---- a block's ledger, as what a book shows speaks of it
+
+-- the ledger holds the block, and no coin of it is at fault
+abbrev pub HoldsNext : WatchedHistory → ChainBlock → Ledger → Type 0
+HoldsNext v b more = HoldsChain v.watched (weight_for v.history.scripts) v.history.confirmed (confirmed_in b) more
+
+abbrev pub IsSoundNext : WatchedHistory → ChainBlock → Type 0
+IsSoundNext v b = fault_behind (points_in (weight_for v.history.scripts) v.history.confirmed) (points_in (weight_for v.history.scripts) (confirmed_in b)) ≡ None
+
+pub holds_shown : (v : WatchedHistory) (h : History) (w : PlainWatched) (ws : List (Vec ℕ Global × ℕ)) (l more : Ledger) (ps : List (OutPoint × Held)) (txids : List (List ℕ)) (count : ℕ) (b : ChainBlock) (chain : List Confirmed) → record { history = h; watched = w } ≡ v → IsLedger h w ws l ps txids count
+    → chain ≡ confirmed_in b → HoldsChain w (weigher ws) h.confirmed chain more → HoldsNext v b more
+holds_shown v h w ws l more ps txids count b chain is k same holds =
+    let here = subst (λ (c : List Confirmed). HoldsChain w (weigher ws) h.confirmed c more) same holds in
+    let weighed = subst (λ (f : List ℕ → Option ℕ). HoldsChain w f h.confirmed (confirmed_in b) more) k.weights_are here in
+    subst (λ (x : WatchedHistory). HoldsNext x b more) is weighed
+
+pub sound_shown : (v : WatchedHistory) (h : History) (w : PlainWatched) (ws : List (Vec ℕ Global × ℕ)) (l : Ledger) (ps : List (OutPoint × Held)) (txids : List (List ℕ)) (count : ℕ) (b : ChainBlock) (chain : List Confirmed) → record { history = h; watched = w } ≡ v → IsLedger h w ws l ps txids count
+    → chain ≡ confirmed_in b → fault_behind (points_in (weigher ws) h.confirmed) (points_in (weigher ws) chain) ≡ None → IsSoundNext v b
+sound_shown v h w ws l ps txids count b chain is k same none =
+    let here = subst (λ (c : List Confirmed). fault_behind (points_in (weigher ws) h.confirmed) (points_in (weigher ws) c) ≡ None) same none in
+    let weighed = subst (λ (f : List ℕ → Option ℕ). fault_behind (points_in f h.confirmed) (points_in f (confirmed_in b)) ≡ None) k.weights_are here in
+    subst (λ (x : WatchedHistory). IsSoundNext x b) is weighed
+
+pub shown_next : (v : WatchedHistory) (h : History) (w : PlainWatched) (ws : List (Vec ℕ Global × ℕ)) (l more : Ledger) (ps : List (OutPoint × Held)) (txids : List (List ℕ)) (count left : ℕ) (b : ChainBlock) → record { history = h; watched = w } ≡ v → IsLedger h w ws l ps txids count
+    → HoldsNext v b more → IsSoundNext v b → left ≡ cond (shares txids more.heights.entries) (length (filter (stays more.heights.entries) (keys_of ps))) (length ps) → IsNext h b w ws l more ps txids count left
+shown_next v h w ws l more ps txids count left b is k holds none told =
+    let here : HoldsChain w (weight_for h.scripts) h.confirmed (confirmed_in b) more = subst (λ (x : WatchedHistory). HoldsNext x b more) (sym is) holds in
+    let fresh : fault_behind (points_in (weight_for h.scripts) h.confirmed) (points_in (weight_for h.scripts) (confirmed_in b)) ≡ None = subst (λ (x : WatchedHistory). IsSoundNext x b) (sym is) none in
+    block_next h b w ws l more ps txids count left (confirmed_in b) k refl
+    (subst (λ (f : List ℕ → Option ℕ). HoldsChain w f h.confirmed (confirmed_in b) more) (sym k.weights_are) here)
+    (subst (λ (f : List ℕ → Option ℕ). fault_behind (points_in f h.confirmed) (points_in f (confirmed_in b)) ≡ None) (sym k.weights_are) fresh)
+    told
+
+-- how many are confirmed with the block
+pub count_shown : (v : WatchedHistory) (h : History) (w : PlainWatched) (old new : ℕ) (b : ChainBlock) → record { history = h; watched = w } ≡ v → old ≡ length h.confirmed → new ≡ length v.history.confirmed + length b.txs → new ≡ old + length b.txs
+count_shown v h w old new b is had has =
+    let same : length h.confirmed ≡ length v.history.confirmed = ap (λ (x : WatchedHistory). length x.history.confirmed) is in
+    omega (arith, had, has, same)
 
 -- the coins of the ledgers and those that still wait are all
 block_total : (h : History) (b : ChainBlock) (w : PlainWatched) (ws : List (Vec ℕ Global × ℕ)) (l more : Ledger) (ps : List (OutPoint × Held)) (txids : List (List ℕ)) (count left : ℕ) → IsNext h b w ws l more ps txids count left

@@ -6,6 +6,7 @@ pub mod CoinSteps
 pub mod FaultSteps
 pub mod FoundCoins
 pub mod LawSteps
+pub mod LentSteps
 pub mod ListSteps
 pub mod MapSteps
 pub mod MergeSteps

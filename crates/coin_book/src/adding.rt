@@ -2,6 +2,7 @@
 
 ghost use Rattle.std.specs.Prelude.{ℕ, ◌≡◌, ◌+◌, ◌<◌, ◌^◌, ◌++◌, ◌&&◌, ◌||◌, ◌∷◌, [], Err, IfOk, IfSome, List, None, OnOk, Option, Some, bytes_eq, is_some, length, map, not, take, unwrap_or, if◌then◌else◌};
 ghost use Rattle.std.specs.Map.{keys_of, lookup};
+ghost use Rattle.std.specs.Option.{option_to_list};
 ghost use Rattle.fund_base.specs.declared.outpoint.OutPoint.{OutPoint};
 ghost use Rattle.tx_codec.specs.Txid.{txid_of};
 ghost use Rattle.coin_book.specs.Coins.{made_by, made_in};
@@ -19,7 +20,7 @@ use crate::fault::BookFault;
 use crate::ledger::{Ledger, Weights, add_coins, add_spends, point_fault};
 use crate::making::{first_point, held_in};
 use crate::watched::Watched;
-use fund_base::{Memory, Txid};
+use fund_base::{Memory, OutPoint, Txid};
 use indexmap::IndexMap;
 use indexmap::map::Entry;
 use std::alloc::Global;
@@ -65,16 +66,23 @@ fn add_watched_height(
     add_height(heights, spend.txid, spend.height)
 }
 
-/// What is told of a transaction of this txid where memory is short before its coins are added: the fault of its first coin,
-/// or else that memory is short.
+/// What is told where memory is short before the coins of a transaction are added, whose first coin stands at this outpoint,
+/// if it has one: the fault of that coin, or else that memory is short.
+pub fn point_or_short(base: &Ledger, own: &Ledger, point: Option<OutPoint>) -> BookFault
+    ensures { result ≡ unwrap_or (fault_behind (keys_of base.now.coins.entries ++ keys_of own.now.coins.entries) (option_to_list point)) NoMemory }
+{
+    match point {
+        Some(point) => point_fault(&base.coins, &own.coins, point).unwrap_or(BookFault::Memory),
+        None => BookFault::Memory,
+    }
+}
+
+/// The same of a transaction of this txid.
 fn fault_or_short(base: &Ledger, own: &Ledger, weights: &Weights, tx: &Tx, txid: Txid) -> BookFault
     requires { txid ≡ txid_of tx.now }
     ensures { (height : Option ℕ) → result ≡ unwrap_or (fault_behind (keys_of base.now.coins.entries ++ keys_of own.now.coins.entries) (take 1 (points (made_in (weigher weights.now.entries) height tx.now)))) NoMemory }
 {
-    match first_point(weights, tx, txid) {
-        Some(point) => point_fault(&base.coins, &own.coins, point).unwrap_or(BookFault::Memory),
-        None => BookFault::Memory,
-    }
+    point_or_short(base, own, first_point(weights, tx, txid))
 }
 
 impl Ledger {

@@ -18,7 +18,7 @@ use crate::fault::BookFault;
 use crate::known::Known;
 use crate::watched::Watched;
 use crate::watching::Watching;
-use block_feed::Block;
+use block_feed::{Block, RawBlock};
 use fund_base::{OutPoint, Txid};
 use std::alloc::Global;
 use std::marker::Model;
@@ -79,6 +79,17 @@ impl Book {
         ensures kept { OnErr result (self.new ≡ self.old) }
     {
         self.watching.add_block(block)
+    }
+
+    /// Adds a block whose transactions stay in its bytes, as [`Book::add_block`] does.
+    pub fn add_raw(&mut self, block: &RawBlock) -> Result<(), BookFault>
+        requires texts { All IsTransaction block.now.txs }
+        ensures added { OnOk result (self.new ≡ with_block self.old block.now) }
+        ensures exact { Answers result (with_block self.old block.now) }
+        ensures short { result ≡ Err Memory → IsShortFor self.old block.now }
+        ensures kept { OnErr result (self.new ≡ self.old) }
+    {
+        self.watching.add_raw(block)
     }
 
     /// Adds a transaction that waits for a block, after all that were added before. Its coins stand last, unless a

@@ -1,6 +1,7 @@
 //! The coins of a wallet in order of creation, the transactions that made them, and what confirmed transactions spend.
 #![tactic(auto)]
 
+mod added;
 mod adding;
 mod book;
 mod coin;
@@ -11,6 +12,7 @@ mod held;
 mod known;
 mod laws;
 mod ledger;
+mod lent;
 mod making;
 mod merging;
 mod moving;

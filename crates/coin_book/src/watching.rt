@@ -1,6 +1,6 @@
 //! The coins of a wallet, beside what of the chain is watched.
 
-ghost use Rattle.std.specs.Prelude.{◌≡◌, ◌≢◌, ◌↔◌, All, Err, IfErr, IfOk, IfSome, None, OnErr, OnOk, false, length, option_map, slice_get, true};
+ghost use Rattle.std.specs.Prelude.{◌≡◌, ◌≢◌, ◌+◌, ◌↔◌, All, Err, IfErr, IfOk, IfSome, None, OnErr, OnOk, false, length, option_map, slice_get, true};
 ghost use Rattle.std.specs.List.{list_all};
 ghost use Rattle.std.specs.Map.{keys_of};
 ghost use Rattle.std.specs.Option.{option_copied};
@@ -10,25 +10,28 @@ ghost use Rattle.tx_codec.specs.Txid.{txid_of};
 ghost use Rattle.tx_codec.specs.declared.tx.TxIn.{TxIn};
 ghost use Rattle.coin_book.specs.Asked.{HasUnwatchedCoin, Suffices};
 ghost use Rattle.coin_book.specs.AtOutpoint.{coin_under};
-ghost use Rattle.coin_book.specs.Coins.{coins_of, parent_of};
-ghost use Rattle.coin_book.specs.Faults.{Answers, fault_of};
-ghost use Rattle.coin_book.specs.History.{start_of, with_block, with_pending};
+ghost use Rattle.coin_book.specs.Coins.{coins_of, parent_of, weight_for};
+ghost use Rattle.coin_book.specs.Faults.{Answers, fault_behind, fault_of};
+ghost use Rattle.coin_book.specs.History.{confirmed_in, start_of, with_block, with_pending};
+ghost use Rattle.coin_book.specs.Invariant.{HoldsChain, points_in};
 ghost use Rattle.coin_book.specs.Short.{IsShortFor};
 ghost use Rattle.coin_book.specs.Spends.{height_of, spends_of};
 ghost use Rattle.coin_book.specs.Watched.{IsWatched, everything, watches, watches_txid};
 ghost use Rattle.coin_book.specs.declared.fault.BookFault.TheVariants.{Full, Memory};
 
+use crate::added::Added;
 use crate::adding::ledger_behind;
 use crate::coin::{Coin, Spend};
 use crate::earlier::{ledger_of, weights_of};
 use crate::fault::BookFault;
 use crate::held::Held;
 use crate::ledger::{Ledger, Weights};
+use crate::lent::lent_behind;
 use crate::moving::{left_of, settle};
 use crate::showing::{coin_in, held_in, made_in, maker_in};
 use crate::waiting::{check_fits, coins_beside, count_beside, fits, keep_waiting};
 use crate::watched::Watched;
-use block_feed::Block;
+use block_feed::{Block, RawBlock};
 use fund_base::{OutPoint, Txid};
 use indexmap::{IndexMap, IndexSet};
 use std::alloc::Global;
@@ -44,7 +47,7 @@ pub struct Watching {
     watched: Watched,
     // what the book was made from takes no memory
     wallet: Snapshot<Wallet>,
-    blocks: Vec<Snapshot<Block>>,
+    blocks: Vec<Added>,
     waiting: Vec<Snapshot<Tx>>,
     weights: Weights,
     ledger: Ledger,
@@ -135,6 +138,48 @@ impl Watching {
             Ok(more) => more,
             Err(fault) => return Err(fault),
         };
+        self.append(more, Added::lists(block), count)
+    }
+
+    /// Adds a block whose transactions stay in its bytes, as [`Book::add_block`](crate::Book::add_block) does. Lists are made
+    /// only of those that pay a listed script, spend an outpoint that is watched or have a txid that is watched.
+    pub fn add_raw(&mut self, block: &RawBlock) -> Result<(), BookFault>
+        requires texts { All IsTransaction block.now.txs }
+        ensures added { OnOk result (self.new.history ≡ with_block self.old.history block.now) }
+        ensures watched { self.new.watched ≡ self.old.watched }
+        ensures exact { Answers result (with_block self.old.history block.now) }
+        ensures short { result ≡ Err Memory → IsShortFor self.old.history block.now }
+        ensures kept { OnErr result (self.new ≡ self.old) }
+    {
+        let Some(count) = self.count.checked_add(block.txids().len() as u64) else {
+            // no memory holds so many transactions
+            return Err(BookFault::Memory);
+        };
+        let more = match lent_behind(
+            self.alloc,
+            &self.ledger,
+            &self.watched,
+            &self.weights,
+            block,
+            self.count,
+        ) {
+            Ok(more) => more,
+            Err(fault) => return Err(fault),
+        };
+        self.append(more, Added::bytes(block), count)
+    }
+
+    /// Puts the ledger of a block after that of the chain, so that so many transactions are confirmed.
+    fn append(&mut self, more: Ledger, block: Added, count: u64) -> Result<(), BookFault>
+        requires holds { HoldsChain self.old.watched (weight_for self.old.history.scripts) self.old.history.confirmed (confirmed_in block.value) more }
+        requires sound { fault_behind (points_in (weight_for self.old.history.scripts) self.old.history.confirmed) (points_in (weight_for self.old.history.scripts) (confirmed_in block.value)) ≡ None }
+        requires count { count ≡ length self.old.history.confirmed + length block.value.txs }
+        ensures added { OnOk result (self.new.history ≡ with_block self.old.history block.value) }
+        ensures watched { self.new.watched ≡ self.old.watched }
+        ensures exact { Answers result (with_block self.old.history block.value) }
+        ensures short { result ≡ Err Memory → fault_of (with_block self.old.history block.value) ≡ None }
+        ensures kept { OnErr result (self.new ≡ self.old) }
+    {
         let left = left_of(&self.txids, &self.pending, &more.heights);
         match check_fits(self.ledger.coins.len(), more.coins.len(), left) {
             Ok(()) => {}
@@ -143,7 +188,7 @@ impl Watching {
         self.blocks.reserve(1)?;
         self.ledger.append(self.alloc, more)?;
         // there is room for this one
-        let _ = self.blocks.push(Snapshot::of(block));
+        let _ = self.blocks.push(block);
         settle(&mut self.pending, &self.ledger.heights, left);
         self.count = count;
         Ok(())

@@ -62,7 +62,7 @@ fn read_blocks<H: Shelf>(
         hash: wallet.hash,
     };
     'reading: for _ in 0..u64::MAX {
-        let Some(block) = feed.next(alloc, shelf, name)? else {
+        let Some(block) = feed.next_raw(alloc, shelf, name)? else {
             return Ok((booked, tip));
         };
         if let Err(Memory) = add_block(&mut booked, &block) {

@@ -9,7 +9,7 @@ ghost use Rattle.coin_book.specs.Watched.{PlainWatched};
 ghost use Rattle.wallet_text.specs.WalletRules.{AreDistinct};
 ghost use Rattle.fund_files.specs.Booked.{CanWait, IfKept, IsBooked, Keeps};
 
-use block_feed::Block;
+use block_feed::RawBlock;
 use coin_book::{Book, BookFault, Watched, Watching, first_fault_stays};
 use fund_base::Memory;
 use std::alloc::Global;
@@ -59,8 +59,8 @@ fn broken(fault: BookFault) -> Result<Booked, Memory>
     }
 }
 
-/// Adds one block more, where no transaction waits yet.
-pub fn add_block(booked: &mut Booked, block: &Block) -> Result<(), Memory>
+/// Adds one block more, whose transactions stay in its bytes, where no transaction waits yet.
+pub fn add_block(booked: &mut Booked, block: &RawBlock) -> Result<(), Memory>
     requires { All IsTransaction block.now.txs }
     ensures booked { (h : History) → h.pending ≡ [] → IsBooked booked.old h → OnOk result (IsBooked booked.new (with_block h block.now)) }
     ensures keeps { (kept : Option PlainWatched) → Keeps kept booked.old → OnOk result (Keeps kept booked.new) }
@@ -68,12 +68,12 @@ pub fn add_block(booked: &mut Booked, block: &Block) -> Result<(), Memory>
     first_fault_stays();
     match booked {
         Booked::Whole(book) => {
-            if let Err(fault) = book.add_block(block) {
+            if let Err(fault) = book.add_raw(block) {
                 *booked = broken(fault)?;
             }
         }
         Booked::Part(book) => {
-            if let Err(fault) = book.add_block(block) {
+            if let Err(fault) = book.add_raw(block) {
                 *booked = broken(fault)?;
             }
         }

@@ -7,7 +7,7 @@ use crate::paid::Paid;
 use fund_base::{Cursor, Memory};
 use fund_shelf::{Fault, PIECE, Shelf};
 use std::alloc::{AllocError, Global};
-use tx_codec::{TxFault, read_tx};
+use tx_codec::pass_tx;
 
 /// How many bytes of a block file are read at most.
 const MOST: u64 = 1_073_741_824;
@@ -15,8 +15,8 @@ const MOST: u64 = 1_073_741_824;
 /// The greatest length of a record: its eight bytes in front, and its block.
 const RECORD: usize = 4_000_008;
 
-/// Adds what the transactions of a block pay. It ends at the first bytes that are no transaction. The error is out of memory.
-fn look_in_block(alloc: Global, paid: &mut Paid, block: &[u8]) -> Result<(), Memory> {
+/// Adds what the transactions of a block pay. No list of one is made. It ends at the first bytes that are no transaction. The error is out of memory.
+fn look_in_block(paid: &mut Paid, block: &[u8]) -> Result<(), Memory> {
     let mut cursor = Cursor::new(block);
     if cursor.take(80).is_err() {
         return Ok(());
@@ -25,9 +25,8 @@ fn look_in_block(alloc: Global, paid: &mut Paid, block: &[u8]) -> Result<(), Mem
         return Ok(());
     };
     for _ in 0..count {
-        match read_tx(alloc, &mut cursor) {
-            Ok(tx) => paid.add(&tx)?,
-            Err(TxFault::Memory) => return Err(Memory),
+        match pass_tx(&mut cursor) {
+            Ok(tx) => paid.add_lent(&tx)?,
             Err(_) => return Ok(()),
         }
     }
@@ -55,12 +54,12 @@ fn split_record(bytes: &[u8]) -> Option<(&[u8], &[u8])>
 
 /// Adds what the whole records at the front of these bytes pay, and gives how many bytes they have. The error is out of
 /// memory.
-fn look_in_records(alloc: Global, paid: &mut Paid, bytes: &[u8]) -> Result<usize, Memory>
+fn look_in_records(paid: &mut Paid, bytes: &[u8]) -> Result<usize, Memory>
     ensures { IfOk result (λ seen. seen ≤ length bytes.now) }
 {
     let mut left = bytes;
     'records: while let Some((block, behind)) = split_record(left) {
-        look_in_block(alloc, paid, block)?;
+        look_in_block(paid, block)?;
         left = behind;
     }
     Ok(bytes.len() - left.len())
@@ -73,8 +72,8 @@ fn room(alloc: Global) -> Result<Vec<u8>, AllocError> {
 
 /// Takes the whole records from the front of these bytes, adds what they pay, and gives whether more bytes may make a record
 /// of what is left. The error is out of memory.
-fn take_records(alloc: Global, paid: &mut Paid, bytes: &mut Vec<u8>) -> Result<bool, Memory> {
-    let seen = look_in_records(alloc, paid, bytes)?;
+fn take_records(paid: &mut Paid, bytes: &mut Vec<u8>) -> Result<bool, Memory> {
+    let seen = look_in_records(paid, bytes)?;
     bytes.drain(..seen);
     Ok(bytes.len() < RECORD)
 }
@@ -99,7 +98,7 @@ fn look_in_file<H: Shelf>(
         }
         place = place.saturating_add(read as u64);
         bytes.extend_from_slice(&piece[..read])?;
-        match take_records(alloc, paid, &mut bytes) {
+        match take_records(paid, &mut bytes) {
             Ok(true) => {}
             Ok(false) => return Ok(()),
             Err(Memory) => return Err(Fault::Memory),

@@ -3,7 +3,7 @@
 use fund_base::{Memory, OutPoint, Txid};
 use indexmap::IndexSet;
 use std::alloc::Global;
-use tx_codec::{Tx, txid};
+use tx_codec::{Tx, TxView, txid};
 use wallet_text::{Wallet, Watch};
 
 /// The scripts of a wallet, and the outpoints of the outputs found that pay one. Nothing is promised of what is found: a book
@@ -48,6 +48,36 @@ fn add_outputs(
     Ok(())
 }
 
+/// Whether an output of the transaction that is lent pays one of the scripts.
+fn lent_pays(scripts: &IndexSet<Vec<u8>>, tx: &TxView) -> bool {
+    for script in tx.scripts() {
+        if scripts.contains(script) {
+            return true;
+        }
+    }
+    false
+}
+
+/// Adds the outpoints of the outputs that pay one of the scripts, of a transaction of this txid that is lent. The error is out
+/// of memory.
+fn add_lent_outputs(
+    points: &mut IndexSet<OutPoint>,
+    scripts: &IndexSet<Vec<u8>>,
+    tx: &TxView,
+    txid: Txid,
+) -> Result<(), Memory> {
+    let mut paid = tx.scripts();
+    for index in 0..u32::MAX {
+        let Some(script) = paid.next() else {
+            return Ok(());
+        };
+        if scripts.contains(script) {
+            points.insert(OutPoint { txid, index })?;
+        }
+    }
+    Ok(())
+}
+
 impl Paid {
     /// What the wallet's earlier and pending transactions pay. The error is out of memory.
     pub fn of(alloc: Global, wallet: &Wallet) -> Result<Paid, Memory> {
@@ -70,9 +100,17 @@ impl Paid {
     }
 
     /// Adds what the transaction pays. Its txid is computed only where it pays a script. The error is out of memory.
-    pub fn add(&mut self, tx: &Tx) -> Result<(), Memory> {
+    fn add(&mut self, tx: &Tx) -> Result<(), Memory> {
         if pays(&self.scripts, tx) {
             add_outputs(&mut self.points, &self.scripts, tx, txid(tx))?;
+        }
+        Ok(())
+    }
+
+    /// The same of a transaction that is lent, of which no list is made.
+    pub fn add_lent(&mut self, tx: &TxView) -> Result<(), Memory> {
+        if lent_pays(&self.scripts, tx) {
+            add_lent_outputs(&mut self.points, &self.scripts, tx, tx.txid())?;
         }
         Ok(())
     }

@@ -33,7 +33,7 @@ pub record IsOf (version : ℕ) (segwit : Bool) (t : Transaction) : Type 0 where
   pub version_is : t.version ≡ version
   pub form : t.segwit ≡ segwit
 
-bare_inputs : (inputs : List TxIn) → All BareFits inputs → AllByRecursion IsBare inputs
+pub bare_inputs : (inputs : List TxIn) → All BareFits inputs → AllByRecursion IsBare inputs
 bare_inputs inputs fits = recursion_from_All IsBare inputs (All-weaker BareFits IsBare (λ i fit. fit.bare) inputs fits)
 
 no_witness : (inputs : List TxIn) → All BareFits inputs → Any (λ (i : TxIn). i.witness ≢ []) inputs → ⊥
@@ -95,7 +95,7 @@ legacy_again version t at rest fits is =
 
 -- ---- after marker and flag, the segregated form
 
-same_inputs : (inputs : List TxIn) → counted input_text (strips inputs) ≡ counted input_text inputs
+pub same_inputs : (inputs : List TxIn) → counted input_text (strips inputs) ≡ counted input_text inputs
 same_inputs inputs = rw (length-strips inputs, flat_map-strips inputs) refl
 
 witnessed_takes : (version : ℕ) → version < 2 ^ 32 → (at : At) (x : Transaction × At) → IsBytes at.rest → witnessed_at version at ≡ Ok x → Takes at (segregated_rest x.0) x.1 × IsOf version true x.0

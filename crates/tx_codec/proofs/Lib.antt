@@ -2,9 +2,12 @@ pub mod Counts
 pub mod FinalFaults
 pub mod Laws
 pub mod LawsOfStacks
+pub mod LentSteps
 pub mod MoreBytes
 pub mod Outputs
 pub mod OwnFaults
 pub mod PartLaws
+pub mod PassSteps
 pub mod PublicClauses
 pub mod Stacks
+pub mod ViewSteps

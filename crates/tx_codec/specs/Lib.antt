@@ -1,4 +1,5 @@
 pub mod Fault
+pub mod Passing
 pub mod Reading
 pub mod Signals
 pub mod Stack
@@ -6,4 +7,5 @@ pub mod Transaction
 pub mod TransactionText
 pub mod Truncation
 pub mod Txid
+pub mod Views
 pub mod Weight

@@ -1,5 +1,5 @@
 -- Reading a transaction from left to right, with the first fault in reading order.
-use Rattle.std.specs.Prelude.{ℕ, ◌≡◌, ◌≢◌, ◌+◌, ◌==◌, Bool, true, false, List, [], ◌∷◌, length, slice_index, sum_by, min, nat_lt, Result, Ok, Err, IsOkAnd, MatchResult, if◌then◌else◌}
+use Rattle.std.specs.Prelude.{ℕ, ◌≡◌, ◌≢◌, ◌+◌, ◌==◌, Bool, true, false, List, [], ◌∷◌, length, slice_index, sum_by, min, nat_lt, Result, Ok, Err, IsOk, IsOkAnd, MatchResult, if◌then◌else◌}
 use Rattle.std.specs.Int.{w32, w64}
 use Rattle.std.specs.List.{list_all}
 use Rattle.fund_base.specs.declared.cursor.CutFault.{CutFault}
@@ -98,17 +98,17 @@ abbrev pub is_marked : List ℕ → Bool
 is_marked [] = false
 is_marked (b ∷ rest) = b == 0
 
--- a number stands there that isn't 0
-abbrev pub CountsSome : At → Type 0
-CountsSome at = IsOkAnd (compact_at at) (λ n. n.0 ≢ 0)
+-- a number of inputs that isn't 0 stands there, and the first of them, whole
+abbrev pub HasInput : At → Type 0
+HasInput at = IsOkAnd (compact_at at) (λ n. (n.0 ≢ 0) × IsOk (input_at n.1))
 
--- inputs stand there, after the marker: the flag is 01, and they are counted
+-- an input stands there, after the marker: the flag is 01
 abbrev pub BeginsSegregated : At → Type 0
-BeginsSegregated at = IsOkAnd (take_at 1 at) (λ flag. (slice_index flag.0 0 ≡ 1) × CountsSome flag.1)
+BeginsSegregated at = IsOkAnd (take_at 1 at) (λ flag. (slice_index flag.0 0 ≡ 1) × HasInput flag.1)
 
--- Inputs stand after the version, in one form or the other.
+-- An input stands after the version, in one form or the other.
 pub record BeginsInputs (at : At) : Type 0 where
-  pub legacy : is_marked at.rest ≡ false → CountsSome at
+  pub legacy : is_marked at.rest ≡ false → HasInput at
   pub segregated : is_marked at.rest ≡ true → BeginsSegregated (after 1 at)
 
 -- a transaction

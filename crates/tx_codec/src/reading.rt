@@ -1,12 +1,12 @@
 //! Reading a transaction, byte by byte and item by item: a count alone asks for no memory.
 
-ghost use Rattle.std.specs.Prelude.{◌≡◌, ◌≢◌, ◌+◌, ◌≤◌, ◌<◌, ◌^◌, ℕ, List, [], ◌++◌, ◌==◌, length, slice_index, IfOk, IsOk, IsOkAnd, OnErr, MatchResult, Ok, Err, if◌then◌else◌};
+ghost use Rattle.std.specs.Prelude.{◌≡◌, ◌≢◌, ◌+◌, ◌≤◌, ◌<◌, ℕ, List, [], ◌++◌, ◌==◌, length, slice_index, IfOk, IsOk, IsOkAnd, OnErr, MatchResult, Ok, Err, if◌then◌else◌};
 ghost use Rattle.std.specs.Int.{w32};
 ghost use Rattle.fund_base.specs.Cursor.{IsBytes, compact_at, number_at, take_at};
 ghost use Rattle.fund_base.specs.Parsing.{Yields, YieldsAll, many_from, many_at, whole_of};
 ghost use Rattle.tx_codec.specs.declared.fault.TxFault.TheVariants.{EmptyWitness, Memory, Trailing};
 ghost use Rattle.tx_codec.specs.Stack.{lists};
-ghost use Rattle.tx_codec.specs.Reading.{BeginsInputs, BeginsSegregated, input_at, output_at, output_in, inputs_at, outputs_at, item_at, stack_at, stacks_at, are_empty, legacy_at, witnessed_at, segregated_at, tx_at, legacy_tx_at, IsRead};
+ghost use Rattle.tx_codec.specs.Reading.{BeginsInputs, BeginsSegregated, HasInput, input_at, output_at, output_in, inputs_at, outputs_at, item_at, stack_at, stacks_at, are_empty, legacy_at, witnessed_at, segregated_at, tx_at, legacy_tx_at, IsRead};
 ghost use Rattle.tx_codec.specs.Transaction.{Transaction};
 ghost use Rattle.tx_codec.specs.TransactionText.{IsFollowed, IsLegacy, IsTransaction, text_of};
 
@@ -17,7 +17,7 @@ use std::alloc::Global;
 
 /// The bytes behind their number. They aren't copied, so it never runs out of memory.
 #[tactic(auto, unfolding(fund_base::specs::Parsing::string_at))]
-fn bytes_of<'a>(cursor: &mut Cursor<'a>) -> Result<&'a [u8], TxFault>
+pub(crate) fn bytes_of<'a>(cursor: &mut Cursor<'a>) -> Result<&'a [u8], TxFault>
     ensures gives { Yields Memory (λ b. b.now) cursor.new result (item_at cursor.old) }
     ensures never_short { result ≢ Err Memory }
 {
@@ -74,7 +74,8 @@ fn output_of(alloc: Global, index: u64, sum: u64, cursor: &mut Cursor) -> Result
 }
 
 fn inputs_of(alloc: Global, count: u64, cursor: &mut Cursor) -> Result<Vec<TxIn>, TxFault>
-    ensures { Yields Memory (λ v. v.items) cursor.new result (many_at input_at count cursor.old) }
+    ensures gives { Yields Memory (λ v. v.items) cursor.new result (many_at input_at count cursor.old) }
+    ensures short { result ≡ Err Memory → IsOk (input_at cursor.old) }
 {
     let mut inputs = Vec::new(alloc);
     for _ in 0..count {
@@ -164,7 +165,7 @@ fn check_end(cursor: &Cursor) -> Result<(), TxFault>
 #[tactic(auto, unfolding(crate::specs::Reading::some_at))]
 fn some_inputs(alloc: Global, cursor: &mut Cursor) -> Result<Vec<TxIn>, TxFault>
     ensures gives { Yields Memory (λ v. v.items) cursor.new result (inputs_at cursor.old) }
-    ensures short { result ≡ Err Memory → IsOkAnd (compact_at cursor.old) (λ count. count.0 ≢ 0) }
+    ensures short { result ≡ Err Memory → HasInput cursor.old }
 {
     let count = cursor.compact()?;
     if count == 0 {
@@ -185,10 +186,10 @@ fn some_outputs(alloc: Global, cursor: &mut Cursor) -> Result<Vec<TxOut>, TxFaul
     outputs_of(alloc, count, cursor)
 }
 
-#[tactic(auto, using(crate::proofs::Counts::count_of_some), unfolding(crate::specs::Reading::legacy_at))]
+#[tactic(auto, using(crate::proofs::Counts::input_of_some), unfolding(crate::specs::Reading::legacy_at))]
 fn legacy_of(alloc: Global, version: u32, cursor: &mut Cursor) -> Result<Tx, TxFault>
     ensures gives { Yields Memory (λ x. x) cursor.new result (legacy_at version cursor.old) }
-    ensures short { result ≡ Err Memory → IsOkAnd (compact_at cursor.old) (λ count. count.0 ≢ 0) }
+    ensures short { result ≡ Err Memory → HasInput cursor.old }
 {
     let inputs = some_inputs(alloc, cursor)?;
     let outputs = some_outputs(alloc, cursor)?;
@@ -202,10 +203,10 @@ fn legacy_of(alloc: Global, version: u32, cursor: &mut Cursor) -> Result<Tx, TxF
     })
 }
 
-#[tactic(auto, using(crate::proofs::Counts::count_of_some), unfolding(crate::specs::Reading::witnessed_at))]
+#[tactic(auto, using(crate::proofs::Counts::input_of_some), unfolding(crate::specs::Reading::witnessed_at))]
 fn witnessed_of(alloc: Global, version: u32, cursor: &mut Cursor) -> Result<Tx, TxFault>
     ensures gives { Yields Memory (λ x. x) cursor.new result (witnessed_at version cursor.old) }
-    ensures short { result ≡ Err Memory → IsOkAnd (compact_at cursor.old) (λ count. count.0 ≢ 0) }
+    ensures short { result ≡ Err Memory → HasInput cursor.old }
 {
     let mut inputs = some_inputs(alloc, cursor)?;
     let outputs = some_outputs(alloc, cursor)?;
@@ -225,7 +226,7 @@ fn witnessed_of(alloc: Global, version: u32, cursor: &mut Cursor) -> Result<Tx, 
 fn segregated_of(alloc: Global, version: u32, cursor: &mut Cursor) -> Result<Tx, TxFault>
     ensures gives { Yields Memory (λ x. x) cursor.new result (segregated_at version cursor.old) }
     ensures short { result ≡ Err Memory → IsOkAnd (take_at 1 cursor.old) (λ flag. slice_index flag.0 0 ≡ 1) }
-    ensures some { result ≡ Err Memory → IsOkAnd (take_at 1 cursor.old) (λ flag. IsOkAnd (compact_at flag.1) (λ count. count.0 ≢ 0)) }
+    ensures some { result ≡ Err Memory → IsOkAnd (take_at 1 cursor.old) (λ flag. HasInput flag.1) }
     ensures form { result ≡ Err Memory → BeginsSegregated cursor.old }
 {
     let flag = cursor.take(1)?;
@@ -276,7 +277,7 @@ pub fn read_tx(alloc: Global, cursor: &mut Cursor) -> Result<Tx, TxFault>
     ensures never_trailing { (place : ℕ) → result ≢ Err (Trailing place) }
     ensures stays { OnErr result (cursor.new ≡ cursor.old) }
 
-    // Memory is taken behind the number of inputs, which isn't 0, and behind the flag where there is a marker.
+    // Memory is taken after the first input, and after the flag where there is a marker.
     ensures form { result ≡ Err Memory → IsOkAnd (number_at w32 cursor.old) (λ version. BeginsInputs version.1) }
 {
     front_of(alloc, cursor)
@@ -306,7 +307,7 @@ pub fn read_whole_tx(alloc: Global, bytes: &[u8]) -> Result<Tx, TxFault>
     ensures trailing { (place : ℕ) → result ≡ Err (Trailing place) → IsFollowed IsTransaction bytes.now place }
     ensures followed { (place : ℕ) → IsFollowed IsTransaction bytes.now place → MatchResult result (λ _. ⊥) (λ e. e ≢ Memory → e ≡ Trailing place) }
 
-    // Memory is taken behind the version and the number of inputs, which isn't 0, and behind the flag where there is a marker.
+    // Memory is taken after the version and the first input, and after the flag where there is a marker.
     ensures short { result ≡ Err Memory → IsOk (number_at w32 (record { rest = bytes.now; place = 0 })) }
     ensures form { result ≡ Err Memory → IsOkAnd (number_at w32 (record { rest = bytes.now; place = 0 })) (λ version. BeginsInputs version.1) }
 {
@@ -317,7 +318,7 @@ pub fn read_whole_tx(alloc: Global, bytes: &[u8]) -> Result<Tx, TxFault>
 fn legacy_tx_of(alloc: Global, cursor: &mut Cursor) -> Result<Tx, TxFault>
     ensures gives { Yields Memory (λ x. x) cursor.new result (legacy_tx_at cursor.old) }
     ensures short { result ≡ Err Memory → IsOk (number_at w32 cursor.old) }
-    ensures some { result ≡ Err Memory → IsOkAnd (number_at w32 cursor.old) (λ version. IsOkAnd (compact_at version.1) (λ count. count.0 ≢ 0)) }
+    ensures some { result ≡ Err Memory → IsOkAnd (number_at w32 cursor.old) (λ version. HasInput version.1) }
 {
     let version = cursor.u32_le()?;
     legacy_of(alloc, version, cursor)
@@ -326,7 +327,7 @@ fn legacy_tx_of(alloc: Global, cursor: &mut Cursor) -> Result<Tx, TxFault>
 fn whole_legacy_of(alloc: Global, bytes: &[u8]) -> Result<Tx, TxFault>
     ensures exact { YieldsAll Memory (λ t. t) result (whole_of Trailing (legacy_tx_at (record { rest = bytes.now; place = 0 }))) }
     ensures short { result ≡ Err Memory → IsOk (number_at w32 (record { rest = bytes.now; place = 0 })) }
-    ensures some { result ≡ Err Memory → IsOkAnd (number_at w32 (record { rest = bytes.now; place = 0 })) (λ version. IsOkAnd (compact_at version.1) (λ count. count.0 ≢ 0)) }
+    ensures some { result ≡ Err Memory → IsOkAnd (number_at w32 (record { rest = bytes.now; place = 0 })) (λ version. HasInput version.1) }
     ensures bytes { IsBytes bytes.now }
 {
     let mut cursor = Cursor::new(bytes);
@@ -347,9 +348,9 @@ pub fn read_whole_legacy_tx(alloc: Global, bytes: &[u8]) -> Result<Tx, TxFault>
     ensures trailing { (place : ℕ) → result ≡ Err (Trailing place) → IsFollowed IsLegacy bytes.now place }
     ensures followed { (place : ℕ) → IsFollowed IsLegacy bytes.now place → MatchResult result (λ _. ⊥) (λ e. e ≢ Memory → e ≡ Trailing place) }
 
-    // Memory is taken behind the version and the number of inputs, which isn't 0.
+    // Memory is taken after the version and the first input.
     ensures short { result ≡ Err Memory → IsOk (number_at w32 (record { rest = bytes.now; place = 0 })) }
-    ensures some { result ≡ Err Memory → IsOkAnd (number_at w32 (record { rest = bytes.now; place = 0 })) (λ version. IsOkAnd (compact_at version.1) (λ count. count.0 ≢ 0)) }
+    ensures some { result ≡ Err Memory → IsOkAnd (number_at w32 (record { rest = bytes.now; place = 0 })) (λ version. HasInput version.1) }
 {
     whole_legacy_of(alloc, bytes)
 }

@@ -38,14 +38,14 @@ returns-in_default-clause-read g c =
     let ends : g.H.Shelf.tells → IsEnd file c.reading.feed.place = λ t.
     file_none 1_073_741_824 file c.reading.feed.hash c.reading.feed.height c.reading.feed.place
     (subst (λ (files : List ℕ → List ℕ). next_of (files c.args.name.now) c.reading.feed ≡ Ok None) (c.reading.invariant.frame.same t) (exact t c.reading.invariant.fine)) in
-    so_far_all g.H.Shelf.tells _ _ _ c.reading.feed c.next.new.self _
+    so_far_all g.H.Shelf.tells _ _ _ c.reading.feed c.next_raw.new.self _
     (λ t. (ends t).0) (λ t. (ends t).1)
     c.reading.invariant.so_far
 
 pub returns-in_default-clause-digest : goal.returns-in_default-clause-digest
 returns-in_default-clause-digest g c =
     let digests = rw c.in_default.is at c.in_ok-block.ensures.digests in
-    taken_all g.H.Shelf.tells _ ((g.H.Shelf.view c.reading.shelf).files c.args.name.now) c.args.feed.now c.reading.feed c.next.new.self c.reading.invariant.hashing (λ t. ap (λ (files : List ℕ → List ℕ). files c.args.name.now) (c.reading.invariant.frame.same t))
+    taken_all g.H.Shelf.tells _ ((g.H.Shelf.view c.reading.shelf).files c.args.name.now) c.args.feed.now c.reading.feed c.next_raw.new.self c.reading.invariant.hashing (λ t. ap (λ (files : List ℕ → List ℕ). files c.args.name.now) (c.reading.invariant.frame.same t))
     (λ t. digests t c.reading.invariant.fine) c.reading.invariant.taken
 
 pub reading-preserved : goal.reading-preserved
@@ -64,10 +64,10 @@ reading-preserved g c =
       frame = frame_then _ ⊥ ⊥ _ _ _ _ (λ failed. failed) c.reading.invariant.frame (frame_fine _ _ ⊥ _ _ _ (ok_not _ _) (λ failed. failed) e.frame);
       keeps = λ kept k. c.in_default-add_block.ensures.keeps kept (c.reading.invariant.keeps kept k);
       hashing = e.asked_for ∙ c.reading.invariant.hashing;
-      taken = taken_more g.H.Shelf.tells _ ((g.H.Shelf.view c.reading.shelf).files c.args.name.now) c.reading.feed c.next.new.self c.in-Some.block (λ t. ap (λ (files : List ℕ → List ℕ). files c.args.name.now) (c.reading.invariant.frame.same t))
+      taken = taken_more g.H.Shelf.tells _ ((g.H.Shelf.view c.reading.shelf).files c.args.name.now) c.reading.feed c.next_raw.new.self c.in-Some.block (λ t. ap (λ (files : List ℕ → List ℕ). files c.args.name.now) (c.reading.invariant.frame.same t))
           (λ t. digests t c.reading.invariant.fine) (λ t. (within t c.reading.invariant.fine).0) c.reading.invariant.taken;
-      so_far = so_far_more g.H.Shelf.tells _ _ _ _ c.reading.feed c.next.new.self c.reading.booked c.add_block.new.booked c.in-Some.block _ _ linked moves (λ t. ap (λ (files : List ℕ → List ℕ). files c.args.name.now) (c.reading.invariant.frame.same t))
-          (λ t. exact t c.reading.invariant.fine) (λ t. within t c.reading.invariant.fine) (λ t. gives_before 1_073_741_824 ((g.H.Shelf.view c.reading.shelf).files c.args.name.now) c.reading.feed c.next.new.self (Ok (Some c.in-Some.block)) (exact t c.reading.invariant.fine) (bytes t) moves) _ _ height hash c.in_default-add_block.ensures.booked c.reading.invariant.so_far;
+      so_far = so_far_more g.H.Shelf.tells _ _ _ _ c.reading.feed c.next_raw.new.self c.reading.booked c.add_block.new.booked c.in-Some.block _ _ linked moves (λ t. ap (λ (files : List ℕ → List ℕ). files c.args.name.now) (c.reading.invariant.frame.same t))
+          (λ t. exact t c.reading.invariant.fine) (λ t. within t c.reading.invariant.fine) (λ t. gives_before 1_073_741_824 ((g.H.Shelf.view c.reading.shelf).files c.args.name.now) c.reading.feed c.next_raw.new.self (Ok (Some c.in-Some.block)) (exact t c.reading.invariant.fine) (bytes t) moves) _ _ height hash c.in_default-add_block.ensures.booked c.reading.invariant.so_far;
     }
 
 -- ---- what is left of the shelf

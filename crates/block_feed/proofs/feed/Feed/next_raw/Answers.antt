@@ -2,7 +2,7 @@ use Rattle.block_feed.proofs.DigestLaws.{gives_digests}
 use Rattle.block_feed.proofs.FeedLaws.{gives_within}
 use Rattle.block_feed.specs.Feed.{seen_from}
 use Rattle.block_feed.proofs.NextLaws.{past_bytes, past_linked, past_taken, past_within}
-use Rattle.block_feed.proofs.feed.Feed.next.Goals as goal
+use Rattle.block_feed.proofs.feed.Feed.next_raw.Goals as goal
 
 pub returns-clause-bytes : goal.returns-clause-bytes
 returns-clause-bytes g c = past_bytes g.H.Shelf.tells (seen_from ((g.H.Shelf.view c.args.shelf.now).files c.args.name.now) c.args.self.now.place) c.args.self.now c.advance.new.self c.advance.result c.advance.ensures.past

@@ -1,0 +1,6 @@
+use Rattle.tx_codec.specs.Reading.{item_at}
+use Rattle.tx_codec.proofs.PassSteps.{ManySoFar}
+use Rattle.tx_codec.proofs.passing.pass_items.Given as goal
+
+abbrev pub invariant-loop : goal.invariant-loop
+invariant-loop l = ManySoFar (λ _. item_at) l.count l.fn.cursor l.counter l.cursor
