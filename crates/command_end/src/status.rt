@@ -5,7 +5,8 @@ ghost use Rattle.std.specs.Prelude.{◌≡◌};
 /// How a command ends.
 #[derive(Clone, Copy, PartialEq, Eq)]
 pub enum Status {
-    /// The payment is funded and the report is printed whole, or the listing or the summary is.
+    /// What was asked for is done and printed whole: a report of a payment, a listing, a summary, a PSBT, an accepted report, a
+    /// settlement, or a desk's replies.
     Done,
     /// The words are no command.
     Usage,
@@ -13,7 +14,7 @@ pub enum Status {
     Input,
     /// A file wasn't read.
     ReadFault,
-    /// The log wasn't written, or the report, the listing or the summary wasn't printed whole.
+    /// The log wasn't written, or what was to be printed wasn't printed whole.
     WriteFault,
     /// The keeper of jobs failed.
     KeepFault,
@@ -21,8 +22,8 @@ pub enum Status {
     Memory,
     /// The kept job is refused: it isn't there, isn't that of the files, or doesn't bear what it says.
     Saved,
-    /// A file or the parts of a job are longer than their limit, there are more coins than a book holds, or a job has made
-    /// all its tries.
+    /// A file or the parts of a job are longer than their limit, there are more coins than a book holds, a row of the ladder
+    /// keeps more than 10,000 groups, or a job has made all its tries.
     Limit,
     /// The tries are used up, a search is open, and nothing is taken.
     Unfinished,
@@ -30,7 +31,7 @@ pub enum Status {
     NoSelection,
     /// A report isn't accepted with its log.
     CheckRefused,
-    /// A signed transaction isn't the payment of its report, or doesn't pay what was asked.
+    /// A report is of no payment, or a signed transaction isn't that payment or doesn't pay what was asked.
     Settle,
 }
 

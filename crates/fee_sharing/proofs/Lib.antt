@@ -3,3 +3,4 @@ pub mod SearchLaws
 pub mod ShareLaws
 pub mod SharedLaws
 pub mod SweepLaws
+pub mod WeighLaws

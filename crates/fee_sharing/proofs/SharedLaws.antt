@@ -108,7 +108,7 @@ least_in : (r : PlainRequest) (l : PaymentLoad) → (terms_of (rates_of r) l).ch
 unfolding terms_of
 least_in r l = refl
 
-base_in : (r : PlainRequest) (l : PaymentLoad) → (terms_of (rates_of r) l).base ≡ base_of l
+pub base_in : (r : PlainRequest) (l : PaymentLoad) → (terms_of (rates_of r) l).base ≡ base_of l
 unfolding terms_of
 base_in r l = refl
 

@@ -1,4 +1,4 @@
--- The pieces of which a row's search is made, as the code makes them.
+-- The pieces of which a row's search is made: coins without prices, sizes of groups, terms, problem and section.
 use Rattle.std.specs.Prelude.{ℕ, ◌≡◌, ◌≤◌, ◌↔◌, true, All, List, Option, Some, None}
 use Rattle.closing_log.specs.Log.{PlainSection}
 use Rattle.closing_log.specs.declared.log.Stage.TheVariants as stage

@@ -85,9 +85,9 @@ IsSweptBy r cs (swept.Paid coins amount) = PaysSwept r cs coins.items amount
 abbrev pub KeepsAlone : PlainRequest → List Candidate → ℕ → Type 0
 KeepsAlone r cs n = CountsKept false (last_row r) r.rate cs n
 
--- Why nothing is swept: the row keeps more than 10,000 coins; or all of them with the base weigh more than 400,000 weight
--- units.
+-- Why nothing is swept: the row keeps more than 10,000 coins; or it doesn't, and all of them with the base weigh more than
+-- 400,000 weight units.
 abbrev pub IsSweepFault : PlainRequest → List Candidate → SweepFault → Type 0
 IsSweepFault r cs (fault.TooMany n) = KeepsAlone r cs n × (10_000 < n)
-IsSweepFault r cs (fault.TooHeavy weight) = (weight ≡ sweep_weight r (swept_of r cs)) × (400_000 < weight)
+IsSweepFault r cs (fault.TooHeavy weight) = (weight ≡ sweep_weight r (swept_of r cs)) × (400_000 < weight) × ((n : ℕ) → KeepsAlone r cs n → n ≤ 10_000)
 IsSweepFault r cs fault.Memory = Unit {0}

@@ -89,7 +89,7 @@ fn closed(
 }
 
 /// What a search sees of the row's pool.
-fn seen(alloc: Global, groups: &Groups, row: &Row) -> Result<RowItems, ShareRowFault>
+pub(crate) fn seen(alloc: Global, groups: &Groups, row: &Row) -> Result<RowItems, ShareRowFault>
     ensures items { IfOk result (λ p. p.items.items ≡ (pool_in groups.now row.now).items) }
     ensures sizes { IfOk result (λ p. p.sizes.items ≡ sizes_of (pool_in groups.now row.now).groups) }
     ensures fit { IfOk result (λ p. AreItems p.items.items) }
@@ -106,9 +106,9 @@ fn seen(alloc: Global, groups: &Groups, row: &Row) -> Result<RowItems, ShareRowF
 
 /// The payment from the coins of a row whose recipients bear the fee, after at most `budget` tries.
 ///
-/// The pool is that of the row at rate 0 and without prices, so that a group is worth what its coins are. A selection is to be
-/// worth what the recipients are asked to get together, and at least 1 satoshi. It is to be within the weight that is left
-/// beside a change. The lightest one is looked for, and of these the one that is worth least (Bitcoin Core, `CoinGrinder`).
+/// The pool is that of the row at rate 0 and without prices, so that a group is worth what its coins are, and no unconfirmed
+/// parent is raised to the rate. A selection is to be worth the sum of the amounts, and at least 1 satoshi. It leaves the
+/// weight that a change output takes. The lightest one is looked for, and of these the one that is worth least (Bitcoin Core, `CoinGrinder`).
 ///
 /// What it is worth above the amounts is change, exactly where that is no less than the least change that is worth making.
 /// With a change the recipients bear the fees of the base, of each input and of the change output. Without one they bear what

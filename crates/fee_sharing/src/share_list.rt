@@ -45,7 +45,7 @@ fn share(borne: u64, count: u64, place: usize) -> u64
     }
 }
 
-/// The place of the first amount that is below its share and its dust threshold together.
+/// The place of the first amount that is below the sum of its share and its dust threshold.
 fn first_short(borne: u64, amounts: &[u64], dusts: &[u64]) -> Option<usize>
     requires { length dusts.now ≡ length amounts.now }
     ensures { MatchOption result (AllReach borne amounts.now dusts.now) (IsFirstShort borne amounts.now dusts.now) }
@@ -86,12 +86,12 @@ fn left(alloc: Global, borne: u64, amounts: &[u64]) -> Result<Vec<u64>, Memory>
     Ok(left)
 }
 
-/// What recipients are left with who bear `borne` satoshi together of these amounts, in satoshi. Each bears an equal part,
+/// What is left of these amounts once the recipients bear `borne` satoshi together, in satoshi. Each bears an equal part,
 /// rounded down, and the first bears what is left over besides (Bitcoin Core, `subtractFeeFromOutputs`). The lists are of one
 /// length, which isn't 0, and a dust threshold is at most 1,000,000 satoshi.
 ///
-/// The error is [`ShareFault::ShareDust`] exactly where an amount is below its share and its dust threshold together, with
-/// the place of the first such, or out of memory, where none is.
+/// The error is [`ShareFault::ShareDust`] exactly where an amount is below the sum of its share and its dust threshold, with
+/// the place of the first such. [`ShareFault::Memory`] comes only where there is no such amount.
 pub fn shares(
     alloc: Global,
     borne: u64,

@@ -6,7 +6,7 @@ use coin_candidates::Candidate;
 /// What a row comes to where the recipients bear the fee. The tries are those that its search made.
 #[derive(Drop)]
 pub enum Shared {
-    /// The search is done, and no selection of the row's coins does.
+    /// The search is done, and no groups of the row reach the amounts within the weight.
     None {
         section: Section,
         tries: u64,
@@ -20,7 +20,7 @@ pub enum Shared {
         borne: u64,
         tries: u64,
     },
-    /// All tries were made, and the search isn't done.
+    /// The budget is used up, and the search isn't done.
     Open {
         tries: u64,
     },

@@ -20,7 +20,7 @@ use request_text::{Request, outputs_count, outputs_size};
 use std::alloc::Global;
 
 /// The last row of the request's ladder.
-fn last_row(request: &Request) -> &'static Row
+pub fn last_row(request: &Request) -> &'static Row
     ensures row { result.now ≡ last_row request.now }
     ensures own { result.now.own ≤ result.now.foreign }
 {
@@ -123,9 +123,9 @@ fn left(request: &Request, base: u64, coins: &[Candidate]) -> i128
 
 /// The payment of all coins to the one recipient of the request.
 ///
-/// Its inputs are all coins of the pool of the ladder's last row, each a group by itself, in the order of their outpoints.
-/// The recipient gets what they are worth less the fees of their inputs and their prices, less the fee of the base, in satoshi.
-/// The answer is `Short` where this is less than the request asks for, or where there is no coin (Bitcoin Core, `sendall`).
+/// Its inputs are all coins of the pool of the ladder's last row, each a group by itself, in the order of their outpoints:
+/// those that are worth more than the fee and the price of their input (Bitcoin Core, `sendall` with `send_max`). The recipient gets what they are worth less the fees of their inputs and their prices, less the fee of the base, in satoshi.
+/// The answer is `Short` where this is less than the request asks for, or where there is no coin.
 ///
 /// The candidates are together worth at most [`fund_base::MAX_MONEY`], and the request has one recipient. The error is
 /// [`SweepFault::TooMany`] where the row keeps more than 10,000 coins, with their number. It is [`SweepFault::TooHeavy`], with
@@ -160,4 +160,12 @@ pub fn sweep(
         coins,
         amount: left as u64,
     })
+}
+
+/// The declared weight of the payment that spends these coins, which [`sweep`] gave, in weight units.
+pub fn sweep_weight(request: &Request, coins: &[Candidate]) -> u64
+    requires { AreWithin coins.now }
+    ensures { result ≡ sweep_weight request.now coins.now }
+{
+    base(request, coins.len() as u64) + weight(coins)
 }

@@ -39,7 +39,7 @@ fn shuffle(seed: [u8; 32], places: &mut [u32])
 
 /// The places from 0 to `count` - 1, at most 10,000, in the order into which a seed shuffles them (Fisher and Yates):
 /// the entries from the last one down to number 1 are exchanged, each with the one whose number is what the next word
-/// of ChaCha20, stream 0, leaves when it is divided by how many entries there are up to it. The error is want of
+/// of ChaCha20, stream 0, leaves when it is divided by how many entries there are up to it. The error is out of
 /// memory.
 pub fn order(alloc: Global, count: u32, seed: [u8; 32]) -> Result<Places, Memory>
     requires { count ≤ 10_000 }

@@ -1,4 +1,4 @@
--- Why a signed transaction doesn't settle a payment: the first part of what settles that is broken.
+-- Why a signed transaction doesn't settle a payment: the first field of `Settles` that doesn't hold.
 use Rattle.std.specs.Prelude.{ℕ, ℤ, pos, ◌≡◌, ◌≢◌, ◌+◌, ◌-ℤ◌, ◌≤◌, ◌<◌, ◌⊎◌, List, length, map, slice_get, Some}
 use Rattle.fund_base.specs.Least.{IsLeast}
 use Rattle.psbt_codec.specs.Fault.{shown}

@@ -11,3 +11,4 @@ mod worth;
 
 pub use fault::{Differing, SettleFault};
 pub use judging::{Settled, settle};
+pub use weights::true_weight;

@@ -47,8 +47,8 @@ fn script_size(input: &TxIn) -> u64
 }
 
 /// What an input weighs, in weight units, in the segregated form or in the legacy one. A greater number than
-/// 18,446,744,073,709,551,615 counts as that number.
-fn true_weight(segwit: bool, input: &TxIn) -> u64
+/// 18,446,744,073,709,551,615 counts as that number (BIP 141, 'Transaction size calculations').
+pub fn true_weight(segwit: bool, input: &TxIn) -> u64
     ensures { result ≡ true_weight_of segwit input.now }
 {
     let bare = script_size(input).saturating_add(40).saturating_mul(4);

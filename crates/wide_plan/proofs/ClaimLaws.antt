@@ -129,6 +129,7 @@ module _ (p : PlainPlan) (are : AreSteps (steps_of p)) (asked : IsForWide p.requ
       rest = h.rest;
       parts = h.parts;
       row = h.row;
+      problem = row_problem p asked h.step number (there_in p h.front h.rest h.step h.parts) h.row;
       empty = h.empty;
       sections = h.sections;
     };
@@ -142,6 +143,7 @@ module _ (p : PlainPlan) (are : AreSteps (steps_of p)) (asked : IsForWide p.requ
       asked = take;
       used_up = h.used_up;
       row = h.row;
+      problem = row_problem p asked h.used_up.step number (open_in p are asked p.request.tries closed tries h.used_up) h.row;
       places = q;
       met = h.met;
       selection =

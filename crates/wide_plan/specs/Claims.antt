@@ -74,6 +74,7 @@ pub record IsProvedLeast (p : PlainPlan) (f : PlainFunded) (closed : List PlainW
   pub rest : List PlainStep
   pub parts : steps_of p ≡ front ++ step ∷ rest
   pub row : step.row ≡ f.row
+  pub problem : step.problem ≡ problem_at p (row_of p f.row) stage.Changeless
   pub empty : AreEmpty front
   pub sections : AreSectionsOf (front ++ step ∷ []) closed
 
@@ -83,6 +84,7 @@ pub record IsTakenShort (p : PlainPlan) (f : PlainFunded) (closed : List PlainWi
   pub asked : p.request.take ≡ true
   pub used_up : IsUsedUp (steps_of p) p.request.tries closed tries
   pub row : used_up.step.row ≡ f.row
+  pub problem : used_up.step.problem ≡ problem_at p (row_of p f.row) stage.Changeless
   pub places : List ℕ
   pub met : (open_walk (steps_of p) p.request.tries closed tries used_up).best ≡ Some places
   pub selection : IsWide (problem_at p (row_of p f.row) stage.Changeless) places
