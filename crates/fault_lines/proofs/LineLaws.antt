@@ -25,8 +25,8 @@ use Rattle.fault_laws.proofs.ShownLaws.{bytes_plain}
 use Rattle.fund_base.specs.Cursor.{IsBytes}
 use Rattle.fault_laws.proofs.WordLaws.{decimal_plain, name_bytes}
 use Rattle.fault_laws.specs.Numbers.{HasRequestNumbers, HasWalletNumbers}
-use Rattle.fault_lines.specs.Sentences.{address_sentence, blocks_sentence, bump_sentence, not_pending_sentence, plan_sentence, psbt_sentence, request_kind_sentence, request_member_sentence, request_sentence, state_sentence, tx_sentence, wallet_kind_sentence, wallet_sentence}
-use Rattle.fault_lines.specs.Lines.{address_line, blocks_line, bump_line, input_line, limit_line, plan_line, psbt_line, psbt_rest, request_line, request_rest, state_line, tx_line, wallet_line, words_sentence}
+use Rattle.fault_lines.specs.Sentences.{address_sentence, blocks_sentence, bump_sentence, not_pending_sentence, plan_sentence, psbt_sentence, request_kind_sentence, request_member_sentence, request_sentence, signed_sentence, state_sentence, tx_sentence, wallet_kind_sentence, wallet_sentence}
+use Rattle.fault_lines.specs.Lines.{address_line, blocks_line, bump_line, input_line, limit_line, plan_line, psbt_line, psbt_rest, request_line, request_rest, signed_line, state_line, tx_line, wallet_line, words_sentence}
 use Rattle.fault_lines.specs.Word.{after_word, word}
 use Rattle.fault_lines.proofs.KindLaws.{request_kind_shown, request_member_shown, wallet_kind_shown}
 use Rattle.fault_lines.proofs.WordLaws.{after_word_is, shown_printable, word_is}
@@ -46,6 +46,18 @@ tx_told txs.BadFlag = refl
 tx_told txs.EmptyWitness = refl
 tx_told (txs.Trailing place) = refl
 tx_told txs.Memory = refl
+
+pub signed_told : (f : TxFault) → signed_line (ended (tx_fault_words f)) ≡ Some (signed_sentence f)
+unfolding signed_line tx_fault_words signed_sentence
+signed_told (txs.Truncated place) = refl
+signed_told (txs.LongCompact place) = refl
+signed_told (txs.ValueRange output) = refl
+signed_told txs.NoInputs = refl
+signed_told txs.NoOutputs = refl
+signed_told txs.BadFlag = refl
+signed_told txs.EmptyWitness = refl
+signed_told (txs.Trailing place) = refl
+signed_told txs.Memory = refl
 
 pub address_told : (f : AddrFault) → address_line (ended (address_fault_words f)) ≡ Some (address_sentence f)
 unfolding address_line address_sentence

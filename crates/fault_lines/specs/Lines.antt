@@ -1,7 +1,8 @@
 -- The sentence of a fault line, or of a report without a payment: by its words, from the front.
-use Rattle.std.specs.Prelude.{ℕ, ◌≡◌, ◌++◌, List, bytes_eq, codes, Option, Some, None, if◌then◌else◌}
-use Rattle.fault_lines.specs.Sentences.{address_sentence, blocks_sentence, bump_sentence, check_sentence, kept_sentence, missing_sentence, none_sentence, not_pending_sentence, other_output_sentence, other_pairs_sentence, plan_sentence, psbt_sentence, rate_range_sentence, request_kind_sentence, request_member_sentence, request_missing_sentence, request_sentence, stop_sentence, tx_sentence, unfinished_sentence, wallet_kind_sentence, wallet_member_sentence, wallet_missing_sentence, wallet_repeat_sentence, wallet_sentence}
+use Rattle.std.specs.Prelude.{ℕ, pos, ◌≡◌, ◌++◌, List, bytes_eq, codes, Option, Some, None, if◌then◌else◌}
+use Rattle.fault_lines.specs.Sentences.{address_sentence, blocks_sentence, bump_sentence, check_sentence, differing_sentence, kept_sentence, missing_sentence, none_sentence, not_pending_sentence, other_output_sentence, other_pairs_sentence, plan_sentence, psbt_sentence, rate_range_sentence, request_kind_sentence, request_member_sentence, request_missing_sentence, request_sentence, settle_sentence, signed_sentence, stop_sentence, tx_sentence, unfinished_sentence, unsuited_sentence, wallet_kind_sentence, wallet_member_sentence, wallet_missing_sentence, wallet_repeat_sentence, wallet_sentence}
 use Rattle.fault_lines.specs.declared.stop.Stop.TheVariants as stops
+use Rattle.fault_lines.specs.declared.unsuited.Unsuited.TheVariants as unsuited
 use Rattle.tx_codec.specs.declared.fault.TxFault.TheVariants as txs
 use Rattle.block_feed.specs.declared.fault.FeedFault.TheVariants as feeds
 use Rattle.segwit_addr.specs.declared.fault.AddrFault.TheVariants as addresses
@@ -14,6 +15,8 @@ use Rattle.report_check.specs.declared.fault.CheckFault.TheVariants as checks
 use Rattle.psbt_codec.specs.declared.fault.PsbtFault.TheVariants as psbts
 use Rattle.payment_states.specs.declared.state.State.TheVariants as states
 use Rattle.fee_bump.specs.declared.fault.BumpFault.TheVariants as bumps
+use Rattle.settle_check.specs.declared.fault.Differing.TheVariants as parts
+use Rattle.settle_check.specs.declared.fault.SettleFault.TheVariants as settles
 use Rattle.command_end.specs.Lines.{fault_line}
 use Rattle.fault_lines.specs.Word.{after_word, begins, behind, no_coin, told, word, zeros}
 
@@ -100,12 +103,22 @@ blocks_line words =
     if begins (codes "Memory") words then Some (blocks_sentence feeds.Memory) else
     None
 
+-- the sentence of why `wide`, `share` or `sweep` doesn't pay, by its words
+unfoldable pub unsuited_line : List ℕ → Option (List ℕ)
+unsuited_line words =
+    if begins (codes "NotWide") words then Some (unsuited_sentence unsuited.NotWide) else
+    if begins (codes "NotShare") words then Some (unsuited_sentence unsuited.NotShare) else
+    if begins (codes "NotSweep") words then Some (unsuited_sentence unsuited.NotSweep) else
+    if begins (codes "ShareDust ") words then Some (unsuited_sentence (unsuited.ShareDust 0)) else
+    if begins (codes "TooHeavy ") words then Some (unsuited_sentence (unsuited.TooHeavy 0)) else
+    None
+
 -- the sentence of a plan's fault, by its words
 unfoldable pub plan_line : List ℕ → Option (List ℕ)
 plan_line words =
     if begins (codes "Total ") words then Some (plan_sentence (plans.Total 0)) else
     if begins (codes "NotEligible ") words then Some (plan_sentence (plans.NotEligible no_coin)) else
-    None
+    unsuited_line words
 
 -- the sentence of a payment that isn't there or doesn't wait, by the words of its state
 unfoldable pub state_line : List ℕ → Option (List ℕ)
@@ -185,6 +198,46 @@ check_line words =
     if begins (codes "Memory") words then Some (check_sentence checks.Memory) else
     None
 
+-- the sentence of what is wrong with the file of a signed transaction, by its words
+unfoldable pub signed_line : List ℕ → Option (List ℕ)
+signed_line words =
+    if begins (codes "Hex") words then Some (stop_sentence stops.NotHex) else
+    if begins (codes "Truncated ") words then Some (signed_sentence (txs.Truncated 0)) else
+    if begins (codes "LongCompact ") words then Some (signed_sentence (txs.LongCompact 0)) else
+    if begins (codes "ValueRange ") words then Some (signed_sentence (txs.ValueRange 0)) else
+    if begins (codes "NoInputs") words then Some (signed_sentence txs.NoInputs) else
+    if begins (codes "NoOutputs") words then Some (signed_sentence txs.NoOutputs) else
+    if begins (codes "BadFlag") words then Some (signed_sentence txs.BadFlag) else
+    if begins (codes "EmptyWitness") words then Some (signed_sentence txs.EmptyWitness) else
+    if begins (codes "Trailing ") words then Some (signed_sentence (txs.Trailing 0)) else
+    if begins (codes "Memory") words then Some (signed_sentence txs.Memory) else
+    None
+
+-- the sentence of in what a signed transaction is another payment, by its words
+unfoldable pub differing_line : List ℕ → Option (List ℕ)
+differing_line words =
+    if begins (codes "Version") words then Some (differing_sentence parts.Version) else
+    if begins (codes "Locktime") words then Some (differing_sentence parts.Locktime) else
+    if begins (codes "Count") words then Some (differing_sentence parts.Count) else
+    if begins (codes "Input ") words then Some (differing_sentence (parts.Input 0)) else
+    if begins (codes "Output ") words then Some (differing_sentence (parts.Output 0)) else
+    None
+
+-- the sentence of a rule that a signed transaction breaks, or the report beside it, by its words
+unfoldable pub settle_line : List ℕ → Option (List ℕ)
+settle_line words =
+    if begins (codes "Report ") words then Some (settle_sentence (settles.Report 0)) else
+    if begins (codes "NotFunded") words then Some (settle_sentence settles.NotFunded) else
+    if begins (codes "Psbt ") words then Some (settle_sentence (settles.Psbt psbts.Magic)) else
+    if begins (codes "NoValue ") words then Some (settle_sentence (settles.NoValue 0)) else
+    if begins (codes "Foreign ") words then Some (settle_sentence (settles.Foreign 0)) else
+    told (behind (codes "Differs ") words) (λ rest. differing_line rest) (
+    if begins (codes "Unsigned ") words then Some (settle_sentence (settles.Unsigned 0)) else
+    if begins (codes "Heavier ") words then Some (settle_sentence (settles.Heavier 0 0 0)) else
+    if begins (codes "TooHeavy ") words then Some (settle_sentence (settles.TooHeavy 0)) else
+    if begins (codes "BelowRate ") words then Some (settle_sentence (settles.BelowRate (pos 0) 0)) else
+    None)
+
 -- the sentence of a limit, by the word of what is above it
 unfoldable pub limit_line : List ℕ → Option (List ℕ)
 limit_line words =
@@ -198,6 +251,7 @@ limit_line words =
     if begins (codes "log") words then Some (stop_sentence stops.LogLimit) else
     if begins (codes "script") words then Some (stop_sentence stops.ScriptLimit) else
     if begins (codes "psbt") words then Some (stop_sentence stops.PsbtLimit) else
+    if begins (codes "tx") words then Some (stop_sentence stops.TxLimit) else
     None
 
 -- the sentence of an input that is refused, by the word of the input and its fault
@@ -209,8 +263,9 @@ input_line words =
     told (behind (codes "plan ") words) (λ rest. plan_line rest) (
     told (behind (codes "bump ") words) (λ rest. bump_line rest) (
     told (behind (codes "psbt ") words) (λ rest. psbt_line rest) (
+    told (behind (codes "tx ") words) (λ rest. signed_line rest) (
     if begins (codes "book RepeatCoin ") words then Some (stop_sentence stops.RepeatCoin) else
-    None))))))
+    None)))))))
 
 -- the sentence of what stands behind the word `fault`
 unfoldable pub words_sentence : List ℕ → Option (List ℕ)
@@ -219,12 +274,13 @@ words_sentence words =
     told (behind (codes "limit ") words) (λ rest. limit_line rest) (
     told (behind (codes "saved ") words) (λ rest. kept_line rest) (
     told (behind (codes "check ") words) (λ rest. check_line rest) (
+    told (behind (codes "settle ") words) (λ rest. settle_line rest) (
     if begins (codes "read ") words then Some (stop_sentence stops.Read) else
     if begins (codes "write ") words then Some (stop_sentence stops.Write) else
     if begins (codes "keep") words then Some (stop_sentence stops.Keep) else
     if begins (codes "memory") words then Some (stop_sentence stops.Memory) else
     if begins (codes "usage") words then Some (stop_sentence stops.Usage) else
-    None))))
+    None)))))
 
 -- the sentence of a report without a payment, by its first word
 unfoldable pub unpaid_line : List ℕ → Option (List ℕ)

@@ -23,7 +23,13 @@ use Rattle.report_check.specs.declared.fault.CheckFault.TheVariants as checks
 use Rattle.psbt_codec.specs.declared.fault.PsbtFault.{PsbtFault}
 use Rattle.psbt_codec.specs.declared.fault.PsbtFault.TheVariants as psbts
 use Rattle.fault_lines.specs.declared.stop.Stop.{Stop}
+use Rattle.settle_check.specs.declared.fault.Differing.{Differing}
+use Rattle.settle_check.specs.declared.fault.Differing.TheVariants as parts
+use Rattle.settle_check.specs.declared.fault.SettleFault.{SettleFault}
+use Rattle.settle_check.specs.declared.fault.SettleFault.TheVariants as settles
 use Rattle.fault_lines.specs.declared.stop.Stop.TheVariants as stops
+use Rattle.fault_lines.specs.declared.unsuited.Unsuited.{Unsuited}
+use Rattle.fault_lines.specs.declared.unsuited.Unsuited.TheVariants as unsuited
 
 -- what stops a command besides the faults of a file or of a plan
 unfoldable pub stop_sentence : Stop → List ℕ
@@ -40,6 +46,8 @@ stop_sentence stops.ReportLimit = codes "The report is above 64 MiB: give the re
 stop_sentence stops.LogLimit = codes "The log is above 64 MiB: give LOG as it was written, or where a job is gone on with, begin anew under another name."
 stop_sentence stops.ScriptLimit = codes "The script of the desk is above 16 MiB: cut it into several."
 stop_sentence stops.PsbtLimit = codes "The PSBT file is above 64 MiB: give the PSBT that was printed."
+stop_sentence stops.TxLimit = codes "The file of the signed transaction is above 1 MiB: give the hex of one transaction, and nothing else."
+stop_sentence stops.NotHex = codes "The file of the signed transaction is no hex, or a blank or quotes stand in it: give the hex alone, as finalizepsbt tells it."
 stop_sentence stops.RepeatCoin = codes "A transaction stands in earlier and in a block too: leave it out of earlier."
 
 -- a fault of a transaction
@@ -187,6 +195,14 @@ plan_sentence (plans.NotEligible coin) = codes "A listed coin may not be spent: 
 plan_sentence (plans.TooMany number n) = codes "More than 10,000 groups of coins are there: spend the coins of one script together, or lock some."
 plan_sentence plans.Memory = stop_sentence stops.Memory
 
+-- why a request that is in order isn't paid by `wide`, `share` or `sweep`, besides the faults of every plan
+unfoldable pub unsuited_sentence : Unsuited → List ℕ
+unsuited_sentence unsuited.NotWide = codes "The wide search takes a request whose method is changeless, without coins and bump: write it so, or use fund."
+unsuited_sentence unsuited.NotShare = codes "Recipients bear the fee of a request whose method is weight, without coins and bump: write it so, or use fund."
+unsuited_sentence unsuited.NotSweep = codes "A sweep takes a request of one recipient, without coins and bump: write it so, or use fund."
+unsuited_sentence (unsuited.ShareDust index) = codes "The amount of the recipient at this index, less its share of the fee, is less than nodes relay: pay more, or give a lower rate."
+unsuited_sentence (unsuited.TooHeavy weight) = codes "A payment of all coins weighs above 400,000 weight units, and nodes do not relay it: lock some coins, and pay these later."
+
 -- a fault of a kept job
 unfoldable pub kept_sentence : KeptFault → List ℕ
 kept_sentence jobs.NoJob = codes "There is no job of this name: fund with this JOB, and with when_unfinished stop."
@@ -213,6 +229,39 @@ check_sentence (checks.Section index) = codes "The log is of another request, wa
 check_sentence (checks.Log index fault) = codes "The log proves nothing of a search: fund the payment anew."
 check_sentence checks.Answer = codes "Do not believe the mark of the report: fund the payment anew."
 check_sentence checks.Memory = stop_sentence stops.Memory
+
+-- a fault of a signed transaction
+unfoldable pub signed_sentence : TxFault → List ℕ
+signed_sentence (txs.Truncated place) = codes "The signed transaction was cut off, or a txid or a PSBT stands in its place: give its whole hex, as finalizepsbt tells it."
+signed_sentence (txs.LongCompact place) = codes "The signed transaction has a number in a spelling that is too long: it was changed, so copy it again."
+signed_sentence (txs.ValueRange output) = codes "The outputs of the signed transaction are worth more than all bitcoin: it was changed, so copy it again."
+signed_sentence txs.NoInputs = codes "The signed transaction has no input: it was changed or is no transaction, so copy its whole hex again."
+signed_sentence txs.NoOutputs = codes "The signed transaction has no output: it was changed or is no transaction, so copy its whole hex again."
+signed_sentence txs.BadFlag = codes "The signed transaction has a marker of witnesses without its flag: it was changed, so copy it again."
+signed_sentence txs.EmptyWitness = codes "The transaction announces witnesses and has none: it was changed or is not signed, so give the hex that the signer made."
+signed_sentence (txs.Trailing place) = codes "Bytes stand behind the signed transaction: leave off what is behind it."
+signed_sentence txs.Memory = stop_sentence stops.Memory
+
+-- in what a signed transaction is another payment
+unfoldable pub differing_sentence : Differing → List ℕ
+differing_sentence parts.Version = codes "Do not send it: its version is not that of the payment; sign the PSBT of the report, or give the report of this transaction."
+differing_sentence parts.Locktime = codes "Do not send it: its lock time is not that of the payment; sign the PSBT of the report, or give the report of this transaction."
+differing_sentence parts.Count = codes "Do not send it: it has other inputs or outputs than the payment; sign the PSBT of the report, or give the report of this transaction."
+differing_sentence (parts.Input index) = codes "Do not send it: the input at this index is not that of the payment; sign the PSBT of the report, or give the report of this transaction."
+differing_sentence (parts.Output index) = codes "Do not send it: the output at this index is not that of the payment; sign the PSBT of the report, or give the report of this transaction."
+
+-- a rule that a signed transaction breaks, or the report beside it
+unfoldable pub settle_sentence : SettleFault → List ℕ
+settle_sentence (settles.Report place) = codes "The report leaves its form at this place: give it as it was written; those of wide, share and sweep are not read."
+settle_sentence settles.NotFunded = codes "The report is of no payment: give one whose first line begins with funded."
+settle_sentence (settles.Psbt fault) = codes "The PSBT of the report was cut or changed: give the report as it was written."
+settle_sentence (settles.NoValue index) = codes "The PSBT of the report does not show what the input at this index spends: give the report as it was written."
+settle_sentence (settles.Foreign index) = codes "The input at this index spends from a script that the wallet file does not list: give the wallet file of the payment."
+settle_sentence (settles.Differs part) = differing_sentence part
+settle_sentence (settles.Unsigned index) = codes "The input at this index, counted from 0, is not signed: sign it, make the PSBT final, and give the whole transaction."
+settle_sentence (settles.Heavier index declared weight) = codes "The input at this index weighs more than the wallet file declares: write the last number as the weight of its script, and fund anew."
+settle_sentence (settles.TooHeavy weight) = codes "The transaction weighs above 400,000 weight units, and nodes do not relay it: fund anew, from fewer coins."
+settle_sentence (settles.BelowRate fee needed) = codes "The fee is less than the rate of the request asks for this size: give the request of the payment, or fund anew."
 
 -- a fault of a PSBT
 unfoldable pub psbt_sentence : PsbtFault → List ℕ

@@ -1,18 +1,22 @@
 //! What the sentence of a line comes to, in words of the faults that lines tell.
 
-ghost use Rattle.std.specs.Prelude.{◌≡◌, ◌≢◌, ◌++◌, ℕ, List, None, Some, codes};
+ghost use Rattle.std.specs.Prelude.{◌≡◌, ◌≢◌, ◌++◌, ℕ, ℤ, List, None, Some, codes};
 ghost use Rattle.block_feed.specs.declared.fault.FeedFault.{FeedFault};
 ghost use Rattle.fund_base.specs.declared.outpoint.OutPoint.{OutPoint};
 ghost use Rattle.fund_steps.specs.declared.fault.PlanFault.{PlanFault};
 ghost use Rattle.fee_bump.specs.declared.fault.BumpFault.{BumpFault};
 ghost use Rattle.psbt_codec.specs.declared.fault.PsbtFault.{PsbtFault};
 ghost use Rattle.request_text.specs.declared.fault.RequestFault.{RequestFault};
+ghost use Rattle.settle_check.specs.declared.fault.Differing.TheVariants as parts;
+ghost use Rattle.settle_check.specs.declared.fault.SettleFault.TheVariants as settles;
+ghost use Rattle.tx_codec.specs.declared.fault.TxFault.{TxFault};
 ghost use Rattle.wallet_text.specs.declared.fault.WalletFault.{WalletFault};
 ghost use Rattle.command_end.specs.Coin.{coin_text};
-ghost use Rattle.command_end.specs.Words.{bump_fault_words, feed_fault_words, plan_fault_words, psbt_fault_words, request_fault_words, wallet_fault_words};
+ghost use Rattle.command_end.specs.Words.{bump_fault_words, feed_fault_words, plan_fault_words, psbt_fault_words, request_fault_words, tx_fault_words, wallet_fault_words};
 ghost use Rattle.fault_laws.specs.Numbers.{HasRequestNumbers, HasWalletNumbers};
-ghost use Rattle.fault_lines.specs.Sentences.{blocks_sentence, bump_sentence, check_sentence, kept_sentence, missing_sentence, none_sentence, other_output_sentence, other_pairs_sentence, plan_sentence, psbt_sentence, request_sentence, stop_sentence, unfinished_sentence, wallet_sentence};
+ghost use Rattle.fault_lines.specs.Sentences.{blocks_sentence, bump_sentence, check_sentence, kept_sentence, missing_sentence, none_sentence, other_output_sentence, other_pairs_sentence, plan_sentence, psbt_sentence, request_sentence, settle_sentence, signed_sentence, stop_sentence, unfinished_sentence, unsuited_sentence, wallet_sentence};
 ghost use Rattle.fault_lines.specs.declared.stop.Stop.TheVariants as stops;
+ghost use Rattle.fault_lines.specs.declared.unsuited.Unsuited.TheVariants as unsuited;
 ghost use Rattle.kept_job.specs.declared.fault.KeptFault.TheVariants as jobs;
 ghost use Rattle.log_checker.specs.declared.fault.LogFault.{LogFault};
 ghost use Rattle.report_check.specs.declared.fault.CheckFault.TheVariants as checks;
@@ -104,4 +108,45 @@ pub fn inputs_have_their_sentence()
     ensures other_pairs { HasSentence (codes "input psbt OtherPairs") other_pairs_sentence }
     ensures missing { AllHaveSentence (codes "input psbt Missing ") missing_sentence }
     ensures other_output { AllHaveSentence (codes "input psbt OtherOutput ") other_output_sentence }
+{}
+
+/// The law of the fault lines of requests that `wide`, `share` or `sweep` doesn't pay: each has its sentence, whatever it counts. A
+/// call does nothing.
+pub fn unsuited_have_their_sentence()
+    ensures not_wide { HasSentence (codes "input plan NotWide") (unsuited_sentence unsuited.NotWide) }
+    ensures not_share { HasSentence (codes "input plan NotShare") (unsuited_sentence unsuited.NotShare) }
+    ensures not_sweep { HasSentence (codes "input plan NotSweep") (unsuited_sentence unsuited.NotSweep) }
+    ensures share_dust { (index : ℕ) → AllHaveSentence (codes "input plan ShareDust ") (unsuited_sentence (unsuited.ShareDust index)) }
+    ensures too_heavy { (weight : ℕ) → AllHaveSentence (codes "input plan TooHeavy ") (unsuited_sentence (unsuited.TooHeavy weight)) }
+{}
+
+/// The law of the fault lines of a signed transaction's file: each has its sentence. A call does nothing.
+pub fn signed_have_their_sentence()
+    ensures limit { HasSentence (codes "limit tx") (stop_sentence stops.TxLimit) }
+    ensures not_hex { HasSentence (codes "input tx Hex") (stop_sentence stops.NotHex) }
+    ensures fault { (f : TxFault) → HasSentence (codes "input tx " ++ tx_fault_words f) (signed_sentence f) }
+{}
+
+/// The law of the fault lines of signed transactions that are judged: each has the sentence of its rule, whatever it counts. A
+/// call does nothing.
+pub fn settlings_have_their_sentence()
+    // The report leaves its form, is of no payment, or doesn't tell what is spent and with which declared weight.
+    ensures report { (place : ℕ) → AllHaveSentence (codes "settle Report ") (settle_sentence (settles.Report place)) }
+    ensures not_funded { HasSentence (codes "settle NotFunded") (settle_sentence settles.NotFunded) }
+    ensures psbt { (fault : PsbtFault) → AllHaveSentence (codes "settle Psbt ") (settle_sentence (settles.Psbt fault)) }
+    ensures no_value { (index : ℕ) → AllHaveSentence (codes "settle NoValue ") (settle_sentence (settles.NoValue index)) }
+    ensures foreign { (index : ℕ) → AllHaveSentence (codes "settle Foreign ") (settle_sentence (settles.Foreign index)) }
+
+    // The transaction is another payment.
+    ensures version { HasSentence (codes "settle Differs Version") (settle_sentence (settles.Differs parts.Version)) }
+    ensures locktime { HasSentence (codes "settle Differs Locktime") (settle_sentence (settles.Differs parts.Locktime)) }
+    ensures count { HasSentence (codes "settle Differs Count") (settle_sentence (settles.Differs parts.Count)) }
+    ensures input { (index : ℕ) → AllHaveSentence (codes "settle Differs Input ") (settle_sentence (settles.Differs (parts.Input index))) }
+    ensures output { (index : ℕ) → AllHaveSentence (codes "settle Differs Output ") (settle_sentence (settles.Differs (parts.Output index))) }
+
+    // It isn't signed, weighs more than was declared or more than nodes relay, or pays too little.
+    ensures unsigned { (index : ℕ) → AllHaveSentence (codes "settle Unsigned ") (settle_sentence (settles.Unsigned index)) }
+    ensures heavier { (index declared weight : ℕ) → AllHaveSentence (codes "settle Heavier ") (settle_sentence (settles.Heavier index declared weight)) }
+    ensures too_heavy { (weight : ℕ) → AllHaveSentence (codes "settle TooHeavy ") (settle_sentence (settles.TooHeavy weight)) }
+    ensures below_rate { (fee : ℤ) (needed : ℕ) → AllHaveSentence (codes "settle BelowRate ") (settle_sentence (settles.BelowRate fee needed)) }
 {}

@@ -20,10 +20,14 @@ mod report;
 mod report_sentences;
 mod request;
 mod request_sentences;
+mod settle;
+mod settle_sentences;
+mod signed;
 mod stop;
 mod transaction;
 mod transaction_sentences;
 mod unpaid_sentences;
+mod unsuited;
 mod wallet;
 mod wallet_sentences;
 mod word;
@@ -34,7 +38,8 @@ pub use bump_sentences::bump_sentence;
 pub use kept_sentences::kept_sentence;
 pub use laws::{
     inputs_have_their_sentence, jobs_have_their_sentence, lines_have_their_sentence,
-    reports_have_their_sentence, stops_have_their_sentence, unpaid_have_their_sentence,
+    reports_have_their_sentence, settlings_have_their_sentence, signed_have_their_sentence,
+    stops_have_their_sentence, unpaid_have_their_sentence, unsuited_have_their_sentence,
 };
 pub use line::line_sentence;
 pub use plan_sentences::plan_sentence;
@@ -46,9 +51,12 @@ pub use request_sentences::{
     rate_range_sentence, request_kind_sentence, request_member_sentence, request_missing_sentence,
     request_sentence,
 };
+pub use settle_sentences::{differing_sentence, settle_sentence};
+pub use signed::signed_sentence;
 pub use stop::{Stop, stop_sentence};
 pub use transaction_sentences::tx_sentence;
 pub use unpaid_sentences::{none_sentence, unfinished_sentence};
+pub use unsuited::{Unsuited, unsuited_sentence};
 pub use wallet_sentences::{
     wallet_kind_sentence, wallet_member_sentence, wallet_missing_sentence, wallet_repeat_sentence,
     wallet_sentence,

@@ -12,8 +12,11 @@ use crate::plan_sentences::plan_sentence;
 use crate::psbt::psbt_line;
 use crate::report::check_line;
 use crate::request::request_line;
+use crate::settle::settle_line;
+use crate::signed::signed_line;
 use crate::stop::{Stop, stop_sentence};
 use crate::unpaid_sentences::{none_sentence, unfinished_sentence};
+use crate::unsuited::unsuited_line;
 use crate::wallet::wallet_line;
 use crate::word::{begins, behind, word};
 use fund_steps::PlanFault;
@@ -29,7 +32,7 @@ pub fn plan_line(words: &[u8]) -> Option<&'static str>
     } else if begins(words, b"NotEligible ") {
         Some(plan_sentence(&PlanFault::NotEligible(no_coin())))
     } else {
-        None
+        unsuited_line(words)
     }
 }
 
@@ -58,6 +61,8 @@ pub fn limit_line(words: &[u8]) -> Option<&'static str>
         Some(stop_sentence(Stop::ScriptLimit))
     } else if begins(words, b"psbt") {
         Some(stop_sentence(Stop::PsbtLimit))
+    } else if begins(words, b"tx") {
+        Some(stop_sentence(Stop::TxLimit))
     } else {
         None
     }
@@ -80,6 +85,8 @@ pub fn input_line(words: &[u8]) -> Option<&'static str>
         bump_line(rest)
     } else if let Some(rest) = behind(words, b"psbt ") {
         psbt_line(rest)
+    } else if let Some(rest) = behind(words, b"tx ") {
+        signed_line(rest)
     } else if begins(words, b"book RepeatCoin ") {
         Some(stop_sentence(Stop::RepeatCoin))
     } else {
@@ -100,6 +107,8 @@ pub fn words_sentence(words: &[u8]) -> Option<&'static str>
         kept_line(rest)
     } else if let Some(rest) = behind(words, b"check ") {
         check_line(rest)
+    } else if let Some(rest) = behind(words, b"settle ") {
+        settle_line(rest)
     } else if begins(words, b"read ") {
         Some(stop_sentence(Stop::Read))
     } else if begins(words, b"write ") {

@@ -32,6 +32,10 @@ pub enum Stop {
     ScriptLimit,
     /// The PSBT file is over its limit.
     PsbtLimit,
+    /// The file of a signed transaction is over its limit.
+    TxLimit,
+    /// The file of a signed transaction is no hex.
+    NotHex,
     /// A coin is made twice.
     RepeatCoin,
 }
@@ -62,6 +66,10 @@ pub fn stop_sentence(stop: Stop) -> &'static str
             "The log is above 64 MiB: give LOG as it was written, or where a job is gone on with, begin anew under another name.",
         Stop::ScriptLimit => "The script of the desk is above 16 MiB: cut it into several.",
         Stop::PsbtLimit => "The PSBT file is above 64 MiB: give the PSBT that was printed.",
+        Stop::TxLimit =>
+            "The file of the signed transaction is above 1 MiB: give the hex of one transaction, and nothing else.",
+        Stop::NotHex =>
+            "The file of the signed transaction is no hex, or a blank or quotes stand in it: give the hex alone, as finalizepsbt tells it.",
         Stop::RepeatCoin =>
             "A transaction stands in earlier and in a block too: leave it out of earlier.",
     }

@@ -116,7 +116,7 @@ IsListingMeant wallet blocks (Files cause) = IsChainMeant wallet blocks cause
 IsListingMeant wallet blocks (Bump fault) = ⊥
 IsListingMeant wallet blocks (Plan fault) = ⊥
 
--- what a cause means by itself
+-- what a cause means by itself; what the refusals of the commands beside these mean is said by the crate of each
 abbrev pub IsMeant : (List ℕ → List ℕ) → Command → Cause → Type 0
 IsMeant files (Coins s) cause = IsListingMeant (files s.wallet) (files s.blocks) cause
 IsMeant files (Fund s p job) cause = payment_causes.IsMeant files s p cause

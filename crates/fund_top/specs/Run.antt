@@ -1,4 +1,6 @@
 -- What is true of a run, by the command that its words are, its outside and its status.
+-- The process ends with these numbers: Done 0, Usage 2, Input 3, ReadFault 4, WriteFault 5, KeepFault 6, Memory 7, Saved 8, Limit 9,
+-- Unfinished 10, NoSelection 11, CheckRefused 12, Settle 13. There is no 1.
 use Rattle.std.specs.Prelude.{◌≡◌, ◌≢◌, ◌↔◌, ◌⊎◌, Option, None, codes, IfSome}
 use Rattle.command_end.specs.Lines.{GotLine, fault_line}
 use Rattle.command_end.specs.Printed.{TellsWhole, TookAll}
@@ -33,7 +35,8 @@ pub record TellsUsage (v : Outside) (words : Option Command) (status : Status) :
 -- How the command ends, by each other status.
 pub record EndsByStatus (v : Outside) (words : Option Command) (status : Status) : Type 0 where
   -- Done, with a payment: its coins may be spent, the transaction pays each recipient exactly and at least the fee, the log is
-  -- written, and the report is printed. Where the request names a payment, this one replaces it by BIP 125. An exhausted payment
+  -- written, and the report is printed. Where the request names a payment, this one replaces it by BIP 125, and spends what that one
+  -- spends too, of which it isn't asked again whether it may be spent. An exhausted payment
   -- is the best of its row and stage, and of the stages that are compared with it that of least waste. No stage before these has a
   -- result. The log shows it.
   pub done : status ≡ statuses.Done → WhereFunding words (λ s p. EndsFunded v.tells_files v.tells_output s p v.shelf v.shelf' v.sink v.sink')
@@ -41,11 +44,14 @@ pub record EndsByStatus (v : Outside) (words : Option Command) (status : Status)
   -- says, whatever the keeper returned.
   pub resumed : status ≡ statuses.Done → WhereResuming words (λ s p job. EndsResumed v.tells_files v.tells_output v.tells_jobs s p job v.shelf v.shelf' v.sink v.sink' v.keeper)
   -- No selection: no search and no draw has a result, and the presets alone don't pay. The log, which proves it of each search, is
-  -- written, and the report is printed. A workload can end so too: its summary is printed.
+  -- written, and the report is printed. A workload can end so too: its summary is printed. `wide` ends so where no row has coins that
+  -- pay without change, `share` where neither row 1 nor row 2 reaches the amounts, which their logs prove. `sweep` ends so where all
+  -- coins bring less than is asked for; it has no log.
   pub none : status ≡ statuses.NoSelection → IfSome words (λ c. EndsNotFunded v.tells_files v.tells_output v.tells_jobs c v.shelf v.shelf' v.sink v.sink' v.keeper)
   -- Unfinished: the request's tries are made, or as many as the job had left. A search is open. Either nothing was found, or the
   -- request says that nothing is taken then. No file is written, and where there is a job, the run is kept as that. A workload that ends
-  -- so has no job: its summary is printed.
+  -- so has no job: its summary is printed. `wide` and `share` end so in the row where their tries are used up, without a job: the report
+  -- alone is printed.
   pub unfinished : status ≡ statuses.Unfinished → IfSome words (λ c. EndsUnfinished v.tells_files v.tells_output v.tells_jobs c v.shelf v.shelf' v.sink v.sink' v.keeper v.keeper')
   -- Done, where coins are listed: the states and the candidates are printed, and nothing else.
   pub listed : status ≡ statuses.Done → WhereListing words (λ s. EndsListed v.tells_files v.tells_output s v.shelf v.sink v.sink')
@@ -58,32 +64,44 @@ pub record EndsByStatus (v : Outside) (words : Option Command) (status : Status)
   -- Done, where a script is run at a desk: what is printed is the machine's reply to each of its lines, and nothing else.
   pub replied : status ≡ statuses.Done → WhereDesk words (λ s script. EndsRunning v.tells_files v.tells_output s script v.shelf v.shelf' v.sink v.sink' statuses.Done)
   -- Done, by a command beside these. A payment of the wide search wastes the least of all choices of the first row that has one,
-  -- whether or not each coin is needed, which its log proves; or it is the best so far of one, where the tries are used up. A signed
-  -- transaction is the payment of its report, each input weighs at most what was declared, and it pays the request's rate by what it
-  -- truly weighs; its txid, weight, size, fee and what it weighs less than declared are printed, and nothing else.
+  -- whether or not each coin is needed, which its log proves; or it is the best so far of one, where the tries are used up. `share`
+  -- takes the first of rows 1 and 2 that has a choice of coins worth the amounts. The payment spends the lightest such choice, and of the
+  -- lightest one that is worth least; its log proves it. The recipients bear the fee, without change less what is left over: each the same
+  -- share, the first also the satoshi that can't be parted, and each keeps at least its dust threshold. `sweep` spends all coins of the
+  -- last row, and pays the one recipient what they bring at the rate, their prices paid, less the fee of the base. A signed transaction is
+  -- the payment of its report, each input weighs at most what was declared, and it pays the request's rate by what it truly weighs; its
+  -- txid, weight, size, fee and what it weighs less than declared are printed, and nothing else.
   pub further : status ≡ statuses.Done → WhereFurther words (λ c. further.Ends v.tells_files v.tells_output c v.shelf v.shelf' v.sink v.sink' statuses.Done)
-  -- Input: the first rule that a file breaks is told.
+  -- Input: the first rule that is broken is told: of a file, or of the request on its chain. So it is with a payment that can't be
+  -- replaced, a listed coin that isn't eligible, or a request that `wide`, `share` or `sweep` doesn't take. `share` ends so too where a
+  -- recipient can't bear its share, `sweep` where the payment is too heavy, and `work` where two of its transactions have one txid. At a
+  -- desk the rule is one of the wallet or the blocks.
   pub input : status ≡ statuses.Input → IfSome words (λ c. EndsInput v.tells_files v.tells_output c v.shelf v.sink v.sink')
-  -- Limit: the first limit of a file is told, or one of the kept job: its tries are all made, or its parts are too long.
+  -- Limit: the first limit of a file is told, or a row of the ladder keeps more than 10,000 groups. A report, a transaction, a script and
+  -- a file that a line of it names are files here. Or it is a limit of the kept job: its tries are all made, or its parts are too long. A
+  -- desk that has printed a reply puts no line.
   pub limit : status ≡ statuses.Limit → IfSome words (λ c. EndsLimited v.tells_files v.tells_output v.tells_jobs c v.shelf v.shelf' v.sink v.sink' v.keeper)
   -- Saved, with `resume` alone: the first rule that the kept job breaks is told, after those of the files.
   pub saved : status ≡ statuses.Saved → IfSome words (λ c. EndsNotKept v.tells_files v.tells_output v.tells_jobs c v.shelf v.sink v.sink' v.keeper)
   -- A check that refuses, with `check` alone: the first rule that the report breaks is told, after those of the files.
   pub check_refused : status ≡ statuses.CheckRefused → IfSome words (λ c. EndsBroken v.tells_files v.tells_output c v.shelf v.sink v.sink')
-  -- A settling that refuses, with `settle` alone: the first rule that the signed transaction breaks is told, after those of the files.
+  -- A settling that refuses, with `settle` alone: the first rule that is broken is told, after those of the files. It is one of the
+  -- report, as that of a payment, or else of the signed transaction.
   pub settle_refused : status ≡ statuses.Settle → IfSome words (λ c. EndsUnsettled v.tells_files v.tells_output c v.shelf v.sink v.sink')
-  -- A read fault comes only where the count of a file's failed reads rose. The line names the file, and those before it are in
-  -- order.
+  -- A read fault comes only where the count of a file's failed reads rose. The line names the file; but where a desk has printed a
+  -- reply, no line is put. The files before it are in order.
   pub read_fault : status ≡ statuses.ReadFault → IfSome words (λ c. EndsUnread v.tells_files v.tells_output c v.shelf v.shelf' v.sink v.sink')
-  -- A write fault comes only where the count of the log's failed writes rose, or that of the output's failures. If the log wasn't
-  -- written, its line names it; what the file then holds isn't said, and the job is as before. If the output failed, it has a part
-  -- of what is due; then the log, where one is due, is written, and an unfinished job is kept.
+  -- A write fault: nothing is refused, since a refusal keeps its status where the output fails. It comes only where the count of the
+  -- log's failed writes rose, or that of the output's failures. If the log wasn't written, its line names it; what the file then holds
+  -- isn't said, and the job is as before. If the output failed, it has a part of what is due; then the log, where one is due, is written,
+  -- and an unfinished job is kept.
   pub write_fault : status ≡ statuses.WriteFault → IfSome words (λ c. EndsUnwritten v.tells_files v.tells_output v.tells_jobs c v.shelf v.shelf' v.sink v.sink' v.keeper v.keeper')
   -- A keep fault comes only where the count of the keeper's failures rose: with `fund` where an unfinished run was to be kept, with
   -- `resume` at any time behind the files.
   pub keep_fault : status ≡ statuses.KeepFault → IfSome words (λ c. EndsUnkept v.tells_files v.tells_output c v.shelf v.sink v.sink' v.keeper v.keeper')
-  -- Memory: its line is put, or the output found none and has got a part of what is due. With its line files and jobs are as
-  -- before. Otherwise the log, where one is due, is written, and an unfinished job is kept.
+  -- Memory: its line is put, and files and jobs are as before. Or the output found none and has got a part of what is due; then the
+  -- log, where one is due, is written, and an unfinished job is kept. Or a desk stopped after replies, which stand whole and without a
+  -- line.
   pub memory : status ≡ statuses.Memory → IfSome words (λ c. EndsWithoutMemory v.tells_files v.tells_output v.tells_jobs c v.shelf v.shelf' v.sink v.sink' v.keeper v.keeper')
 
 -- A failed read, write of the log or keeper is told as that. An output that failed or found no memory is never told as success.

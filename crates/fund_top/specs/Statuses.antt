@@ -223,7 +223,7 @@ EndsUnsettled told_files told (Work number count) shelf sink sink' = ⊥
 EndsUnsettled told_files told (Desk s script) shelf sink sink' = ⊥
 EndsUnsettled told_files told (Further c) shelf sink sink' = further.EndsUnsettled told_files told c shelf sink sink'
 
--- a file of the command wasn't read, those before it being in order, and the line names it
+-- a file of the command wasn't read, those before it being in order, and the line names it; after a desk's reply there is no line
 abbrev pub EndsUnread : Type 0 → Type 0 → Command → ShelfView → ShelfView → SinkView → SinkView → Type 0
 EndsUnread told_files told (Coins s) shelf shelf' sink sink' = listings.EndsUnread told_files told s shelf shelf' sink sink'
 EndsUnread told_files told (Fund s p job) shelf shelf' sink sink' = payment_results.EndsUnread told_files told s p shelf shelf' sink sink'
@@ -253,7 +253,8 @@ EndsUnwritten told_files told told_jobs (Work number count) shelf shelf' sink si
 EndsUnwritten told_files told told_jobs (Desk s script) shelf shelf' sink sink' keeper keeper' = desks.EndsRunning told_files told s script shelf shelf' sink sink' statuses.WriteFault
 EndsUnwritten told_files told told_jobs (Further c) shelf shelf' sink sink' keeper keeper' = further.Ends told_files told c shelf shelf' sink sink' statuses.WriteFault
 
--- there was not enough memory, and the line says so, or the sink found none and has got a part of what is due
+-- there was not enough memory, and the line says so, or the sink found none and has got a part of what is due; or a desk stopped
+-- after its replies
 abbrev pub EndsWithoutMemory : Type 0 → Type 0 → Type 0 → Command → ShelfView → ShelfView → SinkView → SinkView → KeeperView → KeeperView → Type 0
 EndsWithoutMemory told_files told told_jobs (Coins s) shelf shelf' sink sink' keeper keeper' = listings.EndsWithoutMemory told_files told s shelf sink sink'
 EndsWithoutMemory told_files told told_jobs (Fund s p job) shelf shelf' sink sink' keeper keeper' = payments.EndsWithoutMemory told_files told told_jobs s p job shelf shelf' sink sink' keeper keeper'

@@ -5,7 +5,7 @@ use Rattle.fund_base.specs.Decimal.{number_of}
 use Rattle.fund_outside.specs.JobName.{is_job_name}
 use Rattle.command_end.specs.Names.{Sources}
 use Rattle.command_inputs.specs.Names.{Payment}
-use Rattle.further_commands.specs.Command.{FurtherCommand, Settle, Wide}
+use Rattle.further_commands.specs.Command.{FurtherCommand, Settle, Share, Sweep, Wide}
 
 -- to list payments and coins; to fund a payment, with a job to keep it as where it isn't finished; to go on with a job; to
 -- check the report of a payment; to fund one from a workload; to run a script at a desk; or to do one of the commands beside
@@ -60,6 +60,15 @@ abbrev pub wide_of : (wallet blocks request log : List ℕ) → Option Command
 wide_of wallet blocks request log =
     where_stands (names_stand (record { wallet = wallet; blocks = blocks }) (record { request = request; log = log })) (Further (Wide (record { wallet = wallet; blocks = blocks }) (record { request = request; log = log })))
 
+-- a payment whose recipients bear the fee from files, where their names stand
+abbrev pub share_of : (wallet blocks request log : List ℕ) → Option Command
+share_of wallet blocks request log =
+    where_stands (names_stand (record { wallet = wallet; blocks = blocks }) (record { request = request; log = log })) (Further (Share (record { wallet = wallet; blocks = blocks }) (record { request = request; log = log })))
+
+-- the sweep by files, where none of their names is empty
+abbrev pub sweep_of : (wallet blocks request : List ℕ) → Option Command
+sweep_of wallet blocks request = where_stands (are_named (record { wallet = wallet; blocks = blocks }) && nat_lt 0 (length request)) (Further (Sweep (record { wallet = wallet; blocks = blocks }) request))
+
 -- the settling of a payment by files, where none of their names is empty
 abbrev pub settle_of : (wallet request report tx : List ℕ) → Option Command
 settle_of wallet request report tx =
@@ -102,12 +111,18 @@ job_command s p verb job =
     then where_stands (names_stand s p && is_job_name job) (Fund s p (Some job))
     else (if bytes_eq verb (codes "resume") then where_stands (names_stand s p && is_job_name job) (Resume s p job) else None)
 
+-- a command of three names, by its verb
+abbrev pub of_three_names : (verb wallet blocks third : List ℕ) → Option Command
+of_three_names verb wallet blocks third = if bytes_eq verb (codes "desk") then desk_of wallet blocks third else if bytes_eq verb (codes "sweep") then sweep_of wallet blocks third else None
+
 -- a command of four names, by its verb
 abbrev pub of_four_names : (verb first second third fourth : List ℕ) → Option Command
 of_four_names verb first second third fourth =
     if bytes_eq verb (codes "fund")
     then payment_of first second third fourth
-    else if bytes_eq verb (codes "wide") then wide_of first second third fourth else if bytes_eq verb (codes "settle") then settle_of first second third fourth else None
+    else if bytes_eq verb (codes "wide") then wide_of first second third fourth
+    else if bytes_eq verb (codes "share") then share_of first second third fourth
+    else if bytes_eq verb (codes "settle") then settle_of first second third fourth else None
 
 -- a command of five names, by its verb
 abbrev pub of_five_names : (verb wallet blocks request fourth fifth : List ℕ) → Option Command
@@ -118,14 +133,13 @@ of_five_names verb wallet blocks request fourth fifth =
 
 -- the command that the words are: coins WALLET BLOCKS, work NUMBER COUNT, desk WALLET BLOCKS SCRIPT, fund WALLET BLOCKS
 -- REQUEST LOG, with or without a JOB, resume WALLET BLOCKS REQUEST LOG JOB, check WALLET BLOCKS REQUEST REPORT LOG, wide WALLET
--- BLOCKS REQUEST LOG, or settle WALLET REQUEST REPORT TX
+-- BLOCKS REQUEST LOG, share WALLET BLOCKS REQUEST LOG, sweep WALLET BLOCKS REQUEST, or settle WALLET REQUEST REPORT TX
 abbrev pub command_of : List (String Global) → Option Command
 command_of (verb ∷ first ∷ second ∷ []) =
     if bytes_eq (string_bytes verb) (codes "coins")
     then listing_of (string_bytes first) (string_bytes second)
     else if bytes_eq (string_bytes verb) (codes "work") then work_of (string_bytes first) (string_bytes second) else None
-command_of (verb ∷ wallet ∷ blocks ∷ script ∷ []) =
-    if bytes_eq (string_bytes verb) (codes "desk") then desk_of (string_bytes wallet) (string_bytes blocks) (string_bytes script) else None
+command_of (verb ∷ wallet ∷ blocks ∷ third ∷ []) = of_three_names (string_bytes verb) (string_bytes wallet) (string_bytes blocks) (string_bytes third)
 command_of (verb ∷ first ∷ second ∷ third ∷ fourth ∷ []) = of_four_names (string_bytes verb) (string_bytes first) (string_bytes second) (string_bytes third) (string_bytes fourth)
 command_of (verb ∷ wallet ∷ blocks ∷ request ∷ fourth ∷ fifth ∷ []) =
     of_five_names (string_bytes verb) (string_bytes wallet) (string_bytes blocks) (string_bytes request) (string_bytes fourth) (string_bytes fifth)

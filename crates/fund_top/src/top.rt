@@ -80,16 +80,25 @@ fn act<H: Shelf, O: Sink, K: Keeper>(
 ///   the summary of that run.
 /// - `desk WALLET BLOCKS SCRIPT` reads three files, and does the lines of the script at the desk of the wallet: the reply to each
 ///   is printed before the file is read that the next line names.
-/// - `wide WALLET BLOCKS REQUEST LOG` reads three files, and funds the payment of the request without change at the least waste of all
-///   choices of a row, whether or not each coin is needed. It writes the log, and then prints the report.
-/// - `settle WALLET REQUEST REPORT TX` reads four files, and prints of the signed transaction what it is and pays, where it is the
-///   payment of the report and pays the request's rate by what it truly weighs. No signature is checked.
+/// - `wide WALLET BLOCKS REQUEST LOG` reads three files, and funds the payment of the request without change at the least waste
+///   of all choices of a row, whether or not each coin is needed; or at the least that was met, where the tries are used up and
+///   the request takes that. It writes the log, and then prints the report.
+/// - `share WALLET BLOCKS REQUEST LOG` reads three files, and funds the payment of the request so that its recipients bear the
+///   fee in equal shares. Its coins are the lightest choice of row 1, or else of row 2, that is worth the amounts. It writes the
+///   log, and then prints the report.
+/// - `sweep WALLET BLOCKS REQUEST` reads three files, and pays all coins of the last row to the one recipient of the request. It
+///   prints the report, and writes no file.
+/// - `settle WALLET REQUEST REPORT TX` reads four files, and prints of the signed transaction what it is and pays, where it is
+///   the payment of the report and pays the request's rate by what it truly weighs. No signature is checked.
 ///
-/// Whatever the files and the keeper hold, a payment spends only coins that may be spent,
+/// Whatever the files and the keeper hold, a payment of `fund` or `resume` spends only coins that may be spent,
 /// and pays each recipient exactly and at least the fee. Where its request names a payment, it replaces that one by the rules of
-/// BIP 125 ('Implementation Details', 1 to 5). One that is marked exhausted is the best of all that are admissible in
-/// its row and stage, and its log is accepted. No selection means that there is none. Unfinished comes only where the tries are
-/// used up, and going on with a job that unfinished runs of the same files left gives the answer of a run without a stop.
+/// BIP 125 ('Implementation Details', 1 to 5), and spends what that one spends. One that is marked exhausted is the best of
+/// all that are admissible in its row and stage, and its log is accepted. No selection means that no search of the request
+/// has an admissible choice, no draw finds one, and the listed coins alone don't pay. Unfinished comes only where the tries
+/// are used up, and going on with a job that unfinished runs of the same files left gives the answer of a run without a stop.
+/// Of `wide` exhausted and no selection say the same of all choices without change. Of `share` a payment and no selection say
+/// it of the lightest choices of rows 1 and 2.
 pub fn run<H: Shelf, O: Sink, K: Keeper>(
     alloc: Global,
     words: &Vec<String>,

@@ -4,7 +4,7 @@ ghost use Rattle.std.specs.Prelude.{◌≡◌, IfSome, option_map};
 ghost use Rattle.command_end.specs.Names.{plain_sources};
 ghost use Rattle.command_inputs.specs.Names.{plain_payment};
 ghost use Rattle.fund_top.specs.Command.{plain};
-ghost use Rattle.fund_top.specs.Words.{IsInRange, are_judged, are_named, check_of, command_of, desk_of, job_command, listing_of, names_stand, of_five_names, of_four_names, payment_of, settle_of, wide_of, work_of};
+ghost use Rattle.fund_top.specs.Words.{IsInRange, are_judged, are_named, check_of, command_of, desk_of, job_command, listing_of, names_stand, of_five_names, of_four_names, of_three_names, payment_of, settle_of, share_of, sweep_of, wide_of, work_of};
 
 use command_end::Sources;
 use command_inputs::Payment;
@@ -153,6 +153,38 @@ fn wide_in<'a>(
     }
 }
 
+/// The payment whose recipients bear the fee from the files of these names, where they stand.
+fn share_in<'a>(
+    wallet: &'a str,
+    blocks: &'a str,
+    request: &'a str,
+    log: &'a str,
+) -> Option<Command<'a>>
+    ensures command { option_map plain result ≡ share_of wallet.now blocks.now request.now log.now }
+    ensures range { IfSome result (λ c. IsInRange (plain c)) }
+{
+    let sources = Sources { wallet, blocks };
+    let payment = Payment { request, log };
+    if names_stand(&sources, &payment) {
+        Some(Command::Further(FurtherCommand::Share(sources, payment)))
+    } else {
+        None
+    }
+}
+
+/// The sweep by the files of these names, where none is empty.
+fn sweep_in<'a>(wallet: &'a str, blocks: &'a str, request: &'a str) -> Option<Command<'a>>
+    ensures command { option_map plain result ≡ sweep_of wallet.now blocks.now request.now }
+    ensures range { IfSome result (λ c. IsInRange (plain c)) }
+{
+    let sources = Sources { wallet, blocks };
+    if are_named(&sources) && !request.is_empty() {
+        Some(Command::Further(FurtherCommand::Sweep(sources, request)))
+    } else {
+        None
+    }
+}
+
 /// The settling of a payment by the files of these names, where none is empty.
 fn settle_in<'a>(
     wallet: &'a str,
@@ -210,6 +242,25 @@ fn desk_in<'a>(wallet: &'a str, blocks: &'a str, script: &'a str) -> Option<Comm
     }
 }
 
+/// The command of three names, by its verb.
+fn of_three_names<'a>(
+    verb: &str,
+    wallet: &'a str,
+    blocks: &'a str,
+    third: &'a str,
+) -> Option<Command<'a>>
+    ensures command { option_map plain result ≡ of_three_names verb.now wallet.now blocks.now third.now }
+    ensures range { IfSome result (λ c. IsInRange (plain c)) }
+{
+    if verb == "desk" {
+        desk_in(wallet, blocks, third)
+    } else if verb == "sweep" {
+        sweep_in(wallet, blocks, third)
+    } else {
+        None
+    }
+}
+
 /// The command of four names, by its verb.
 fn of_four_names<'a>(
     verb: &str,
@@ -225,6 +276,8 @@ fn of_four_names<'a>(
         payment_in(first, second, third, fourth)
     } else if verb == "wide" {
         wide_in(first, second, third, fourth)
+    } else if verb == "share" {
+        share_in(first, second, third, fourth)
     } else if verb == "settle" {
         settle_in(first, second, third, fourth)
     } else {
@@ -258,7 +311,8 @@ fn of_five_names<'a>(
 
 /// The command that the words are, which is `coins WALLET BLOCKS`, `work NUMBER COUNT`, `desk WALLET BLOCKS SCRIPT`, `fund
 /// WALLET BLOCKS REQUEST LOG`, with or without a `JOB`, `resume WALLET BLOCKS REQUEST LOG JOB`, `check WALLET BLOCKS REQUEST
-/// REPORT LOG`, `wide WALLET BLOCKS REQUEST LOG` or `settle WALLET REQUEST REPORT TX`. A `JOB` is 1 to 32 digits, letters and hyphens of ASCII.
+/// REPORT LOG`, `wide WALLET BLOCKS REQUEST LOG`, `share WALLET BLOCKS REQUEST LOG`, `sweep WALLET BLOCKS REQUEST` or `settle
+/// WALLET REQUEST REPORT TX`. A `JOB` is 1 to 32 digits, letters and hyphens of ASCII.
 pub fn parse(words: &[String]) -> Option<Command<'_>>
     ensures command { option_map plain result ≡ command_of words.now }
     ensures range { IfSome result (λ c. IsInRange (plain c)) }
@@ -273,13 +327,12 @@ pub fn parse(words: &[String]) -> Option<Command<'_>>
                 None
             }
         }
-        [verb, wallet, blocks, script] => {
-            if verb.as_str() == "desk" {
-                desk_in(wallet.as_str(), blocks.as_str(), script.as_str())
-            } else {
-                None
-            }
-        }
+        [verb, wallet, blocks, third] => of_three_names(
+            verb.as_str(),
+            wallet.as_str(),
+            blocks.as_str(),
+            third.as_str(),
+        ),
         [verb, first, second, third, fourth] => of_four_names(
             verb.as_str(),
             first.as_str(),

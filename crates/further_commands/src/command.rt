@@ -11,6 +11,8 @@ ghost use Rattle.further_commands.specs.Statuses.{Ends, KeepsOthers};
 use command_end::{Sources, Status};
 use command_inputs::Payment;
 use command_settle::{SettleNames, settle_payment};
+use command_share::share;
+use command_sweep::sweep;
 use command_wide::wide;
 use fund_shelf::{Shelf, Sink};
 use std::alloc::Global;
@@ -22,6 +24,10 @@ pub enum FurtherCommand<'a> {
     Wide(Sources<'a>, Payment<'a>),
     /// To tell whether a signed transaction is the payment of a report.
     Settle(SettleNames<'a>),
+    /// To fund a payment whose recipients bear the fee.
+    Share(Sources<'a>, Payment<'a>),
+    /// To pay all coins to the one recipient of the request, which is the file of this name.
+    Sweep(Sources<'a>, &'a str),
 }
 
 /// Does the command. What is refused gets its fault line. The clauses on content hold where the shelf and the sink tell theirs.
@@ -47,5 +53,7 @@ pub fn act<H: Shelf, O: Sink>(
     match command {
         FurtherCommand::Wide(sources, payment) => wide(alloc, sources, payment, shelf, out),
         FurtherCommand::Settle(names) => settle_payment(alloc, names, shelf, out),
+        FurtherCommand::Share(sources, payment) => share(alloc, sources, payment, shelf, out),
+        FurtherCommand::Sweep(sources, request) => sweep(alloc, sources, request, shelf, out),
     }
 }

@@ -1,21 +1,29 @@
 -- The line of each refusal has its sentence.
-use Rattle.std.proofs.Common.{refl}
+use Rattle.std.proofs.Common.{◌++◌, codes, refl}
 use Rattle.command_complete.specs.Words as completing
 use Rattle.command_complete.specs.Words.{input_fault_words}
 use Rattle.command_complete.specs.declared.stop.Refusal as completions
 use Rattle.command_complete.specs.declared.stop.Refusal.TheVariants as incomplete
+use Rattle.command_complete.specs.declared.fault.CompleteFault.TheVariants as inputs
 use Rattle.command_end.specs.Lines.{file_refusal_words}
 use Rattle.command_inputs.specs.Words as funding
 use Rattle.command_inputs.specs.declared.refusal.Refusal as payments
 use Rattle.command_inputs.specs.declared.refusal.Refusal.TheVariants as unpaid
-use Rattle.fault_lines.specs.Lines.{HasSentence, input_line, limit_line, line_sentence, psbt_line, psbt_rest, words_sentence}
-use Rattle.fault_lines.proofs.LineLaws.{blocks_told, bump_told, plan_told, psbt_told, request_told, wallet_told}
-use Rattle.fault_lines.specs.Sentences.{psbt_sentence}
+use Rattle.command_settle.specs.Words as settling
+use Rattle.command_settle.specs.Words.{differing_words, settle_fault_words}
+use Rattle.command_settle.specs.declared.stop.Refusal as settlings
+use Rattle.command_settle.specs.declared.stop.Refusal.TheVariants as unsettled
+use Rattle.fault_lines.specs.Lines.{HasSentence, differing_line, input_line, limit_line, line_sentence, psbt_line, psbt_rest, settle_line, signed_line, words_sentence}
+use Rattle.fault_lines.proofs.LineLaws.{blocks_told, bump_told, plan_told, psbt_told, request_told, signed_told, wallet_told}
+use Rattle.fault_lines.specs.Sentences.{differing_sentence, psbt_sentence, settle_sentence}
 use Rattle.fund_files.specs.declared.refusal.File.TheVariants as files
 use Rattle.fund_files.specs.declared.refusal.FileRefusal.{FileRefusal}
 use Rattle.fund_files.specs.declared.refusal.FileRefusal.TheVariants as refused
-use Rattle.command_complete.specs.declared.fault.CompleteFault.TheVariants as inputs
-use Rattle.line_laws.specs.Sentences.{HasFileNumbers, HasPaymentNumbers, completion_sentence, file_sentence, payment_sentence}
+use Rattle.settle_check.specs.declared.fault.Differing.{Differing}
+use Rattle.settle_check.specs.declared.fault.Differing.TheVariants as parts
+use Rattle.settle_check.specs.declared.fault.SettleFault.{SettleFault}
+use Rattle.settle_check.specs.declared.fault.SettleFault.TheVariants as settles
+use Rattle.line_laws.specs.Sentences.{HasFileNumbers, HasPaymentNumbers, HasSettlingNumbers, completion_sentence, file_sentence, payment_sentence, settling_sentence}
 
 pub file_told : (r : FileRefusal) → HasFileNumbers r → HasSentence (file_refusal_words r) (file_sentence r)
 unfolding line_sentence words_sentence input_line limit_line file_refusal_words
@@ -41,3 +49,35 @@ completion_told incomplete.OtherPairs = refl
 completion_told (incomplete.Input (inputs.Missing index coin)) = refl
 completion_told (incomplete.Input (inputs.OtherOutput index coin)) = refl
 completion_told (incomplete.Input inputs.Memory) = refl
+
+-- each way in which a transaction is another payment
+differing_told : (part : Differing) → HasSentence (codes "settle Differs " ++ differing_words part) (differing_sentence part)
+unfolding line_sentence words_sentence settle_line differing_line differing_words differing_sentence
+differing_told parts.Version = refl
+differing_told parts.Locktime = refl
+differing_told parts.Count = refl
+differing_told (parts.Input index) = refl
+differing_told (parts.Output index) = refl
+
+-- each rule that is broken
+rule_told : (fault : SettleFault) → HasSentence (codes "settle " ++ settle_fault_words fault) (settle_sentence fault)
+unfolding line_sentence words_sentence settle_line settle_fault_words settle_sentence
+rule_told (settles.Report place) = refl
+rule_told settles.NotFunded = refl
+rule_told (settles.Psbt fault) = refl
+rule_told (settles.NoValue index) = refl
+rule_told (settles.Foreign index) = refl
+rule_told (settles.Differs part) = differing_told part
+rule_told (settles.Unsigned index) = refl
+rule_told (settles.Heavier index declared weight) = refl
+rule_told (settles.TooHeavy weight) = refl
+rule_told (settles.BelowRate fee needed) = refl
+
+pub settling_told : (r : settlings.Refusal) → HasSettlingNumbers r → HasSentence (settling.refusal_words r) (settling_sentence r)
+unfolding line_sentence words_sentence input_line limit_line signed_line
+settling_told (unsettled.File refusal) p = file_told refusal p
+settling_told unsettled.LongReport p = refl
+settling_told unsettled.LongTx p = refl
+settling_told unsettled.NotHex p = refl
+settling_told (unsettled.NotTx fault) p = signed_told fault
+settling_told (unsettled.Unsettled fault) p = rule_told fault

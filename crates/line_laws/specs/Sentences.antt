@@ -6,8 +6,10 @@ use Rattle.command_complete.specs.declared.stop.Refusal as completions
 use Rattle.command_complete.specs.declared.stop.Refusal.TheVariants as incomplete
 use Rattle.command_inputs.specs.declared.refusal.Refusal as payments
 use Rattle.command_inputs.specs.declared.refusal.Refusal.TheVariants as unpaid
+use Rattle.command_settle.specs.declared.stop.Refusal as settlings
+use Rattle.command_settle.specs.declared.stop.Refusal.TheVariants as unsettled
 use Rattle.fault_laws.specs.Numbers.{HasRequestNumbers, HasWalletNumbers}
-use Rattle.fault_lines.specs.Sentences.{blocks_sentence, bump_sentence, missing_sentence, other_output_sentence, other_pairs_sentence, plan_sentence, psbt_sentence, request_sentence, stop_sentence, wallet_sentence}
+use Rattle.fault_lines.specs.Sentences.{blocks_sentence, bump_sentence, missing_sentence, other_output_sentence, other_pairs_sentence, plan_sentence, psbt_sentence, request_sentence, settle_sentence, signed_sentence, stop_sentence, wallet_sentence}
 use Rattle.fault_lines.specs.declared.stop.Stop.TheVariants as stops
 use Rattle.fund_files.specs.declared.refusal.File.{File}
 use Rattle.fund_files.specs.declared.refusal.File.TheVariants as files
@@ -49,6 +51,15 @@ completion_sentence (incomplete.Input (inputs.Missing index coin)) = missing_sen
 completion_sentence (incomplete.Input (inputs.OtherOutput index coin)) = other_output_sentence
 completion_sentence (incomplete.Input inputs.Memory) = stop_sentence stops.Memory
 
+-- a signed transaction that is refused, or a file beside it
+abbrev pub settling_sentence : settlings.Refusal → List ℕ
+settling_sentence (unsettled.File refusal) = file_sentence refusal
+settling_sentence unsettled.LongReport = stop_sentence stops.ReportLimit
+settling_sentence unsettled.LongTx = stop_sentence stops.TxLimit
+settling_sentence unsettled.NotHex = stop_sentence stops.NotHex
+settling_sentence (unsettled.NotTx fault) = signed_sentence fault
+settling_sentence (unsettled.Unsettled fault) = settle_sentence fault
+
 -- the indexes of a refusal have 128 bits at most
 abbrev pub HasFileNumbers : FileRefusal → Type 0
 HasFileNumbers (refused.BadWallet fault) = HasWalletNumbers fault
@@ -58,3 +69,7 @@ HasFileNumbers _ = Unit {0}
 abbrev pub HasPaymentNumbers : payments.Refusal → Type 0
 HasPaymentNumbers (unpaid.Files refusal) = HasFileNumbers refusal
 HasPaymentNumbers _ = Unit {0}
+
+abbrev pub HasSettlingNumbers : settlings.Refusal → Type 0
+HasSettlingNumbers (unsettled.File refusal) = HasFileNumbers refusal
+HasSettlingNumbers _ = Unit {0}

@@ -5,5 +5,5 @@ mod laws;
 
 pub use laws::{
     judgements_have_their_sentence, limits_have_their_sentence, refusals_have_their_sentence,
-    unpaid_reports_have_their_sentence,
+    unpaid_reports_have_their_sentence, unsuited_requests_have_their_sentence,
 };

@@ -1,4 +1,4 @@
-use Rattle.line_laws.proofs.Refusals.{completion_told, file_told, payment_told}
+use Rattle.line_laws.proofs.Refusals.{completion_told, file_told, payment_told, settling_told}
 use Rattle.line_laws.proofs.laws.refusals_have_their_sentence.Goals as goal
 
 pub returns-clause-file : goal.returns-clause-file
@@ -9,3 +9,6 @@ returns-clause-payment c = payment_told
 
 pub returns-clause-completion : goal.returns-clause-completion
 returns-clause-completion c = completion_told
+
+pub returns-clause-settling : goal.returns-clause-settling
+returns-clause-settling c = settling_told

@@ -1,0 +1,5 @@
+pub mod AmountLaws
+pub mod CoinLaws
+pub mod FileLaws
+pub mod LineLaws
+pub mod SignLaws

@@ -1,0 +1,5 @@
+pub mod Amounts
+pub mod Coins
+pub mod Files
+pub mod Lines
+pub mod Signing

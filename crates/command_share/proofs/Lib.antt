@@ -1,0 +1,13 @@
+pub mod AskedLaws
+pub mod BearLaws
+pub mod ConcludedLaws
+pub mod EndedLaws
+pub mod FinishLaws
+pub mod LeftLaws
+pub mod OutcomeLaws
+pub mod PayLaws
+pub mod ReportLaws
+pub mod RowLaws
+pub mod RunLaws
+pub mod SearchLaws
+pub mod StopLaws

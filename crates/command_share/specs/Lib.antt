@@ -1,0 +1,10 @@
+pub mod Asked
+pub mod Bearing
+pub mod Endings
+pub mod Inputs
+pub mod Outcome
+pub mod Paying
+pub mod Results
+pub mod Rows
+pub mod Statuses
+pub mod Stops
