@@ -1,5 +1,6 @@
 pub mod AskedLaws
 pub mod EndsLaws
+pub mod FileStopLaws
 pub mod FilesLaws
 pub mod OutcomeLaws
 pub mod PaymentLaws

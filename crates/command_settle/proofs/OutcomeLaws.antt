@@ -41,7 +41,7 @@ module _ (report : List ℕ) (j : Judged) where
   one_rule d e (inr x) (inl y) = absurd (payment_apart report j.wallet.scripts x.psbt x.spent x.declared e x.payment y)
   one_rule d e (inr x) (inr y) = one_fault y.psbt.tx y.spent y.declared j.signed j.request.rate d e (other_there d x y.psbt y.spent y.declared y.payment) y.first
 
-  rule_apart : (d : SettleFault) (text : List ℕ) → IsUnsettled report j d → IsSettledIn report j text → ⊥
+  pub rule_apart : (d : SettleFault) (text : List ℕ) → IsUnsettled report j d → IsSettledIn report j text → ⊥
   rule_apart d text (inl x) y = payment_apart report j.wallet.scripts y.psbt y.spent y.declared d y.payment x
   rule_apart d text (inr x) y = no_fault y.psbt.tx y.spent y.declared j.signed j.request.rate d y.settled.settles (other_there d x y.psbt y.spent y.declared y.payment)
 

@@ -74,6 +74,21 @@ StopsAtReport told name old new stop = StopsAt Report (Rose (old.reads name) (ne
 abbrev pub StopsAtTx : Type 0 → (name : List ℕ) → ShelfView → ShelfView → Stop → Type 0
 StopsAtTx told name old new stop = StopsAt Tx (Rose (old.reads name) (new.reads name)) (λ cause. told → (cause ≡ LongTx) × IsLongTx (old.files name)) stop
 
+-- a refusal that says nothing of what the report and the transaction are
+abbrev pub IsFileCause : Cause → Type 0
+IsFileCause (File cause) = Unit {0}
+IsFileCause LongReport = Unit {0}
+IsFileCause LongTx = Unit {0}
+IsFileCause NotHex = ⊥
+IsFileCause (NotTx fault) = ⊥
+IsFileCause (Unsettled fault) = ⊥
+
+-- a stop that doesn't
+abbrev pub IsFileStop : Stop → Type 0
+IsFileStop (stops.Read file) = Unit {0}
+IsFileStop (stops.Refused refusal) = IsFileCause (cause_of refusal)
+IsFileStop stops.Memory = Unit {0}
+
 -- ---- what they hold
 
 -- no file is read, and what was read is refused for such a cause

@@ -7,7 +7,7 @@ ghost use Rattle.command_settle.specs.Asked.{AsksFiles};
 ghost use Rattle.command_settle.specs.Names.{plain_names};
 ghost use Rattle.command_settle.specs.Statuses.{Ends, IsDueStatus};
 
-use crate::answer::answer;
+use crate::answering::answer;
 use crate::judging::settled;
 use crate::names::SettleNames;
 use command_end::{Status, put_report};

@@ -7,7 +7,7 @@ ghost use Rattle.wallet_text.specs.WalletRules.{IsWallet};
 ghost use Rattle.command_settle.specs.Asked.{AsksFiles};
 ghost use Rattle.command_settle.specs.Files.{AreFiles, IsReport, IsTx};
 ghost use Rattle.command_settle.specs.Names.{plain_names};
-ghost use Rattle.command_settle.specs.Stops.{StopsAtReport, StopsAtRequest, StopsAtTx, StopsAtWallet, StopsFor, file_stop_of};
+ghost use Rattle.command_settle.specs.Stops.{IsFileStop, StopsAtReport, StopsAtRequest, StopsAtTx, StopsAtWallet, StopsFor, file_stop_of};
 
 use crate::names::SettleNames;
 use crate::stop::{Refusal, SettleFile, Stop};
@@ -119,6 +119,7 @@ pub fn read_files<H: Shelf>(
     ensures files { H.tells → IfOk result (λ x. AreFiles (H.view shelf.old).files (plain_names names.now) x.wallet x.request x.report.items x.tx.items) }
     ensures frame { OnlyReads H.tells (H.view shelf.old) (H.view shelf.new) }
     ensures stop { IfErr result (StopsFor H.tells (plain_names names.now) (H.view shelf.old) (H.view shelf.new)) }
+    ensures form_unseen { H.tells → IfErr result IsFileStop }
     ensures asks { H.tells → AsksFiles (plain_names names.now) (H.view shelf.old) (H.view shelf.new) }
     ensures all_read { ((file : SettleFile) → result ≢ Err (Stop.Read file)) → (H.view shelf.new).reads ≡ (H.view shelf.old).reads }
 {

@@ -12,7 +12,7 @@ use std::alloc::Global;
 use tx_codec::{Tx, TxFault, read_whole_tx};
 
 /// The bytes of a file without the line feed at their end, where one stands there.
-fn line_of(file: &[u8]) -> &[u8]
+pub fn line_of(file: &[u8]) -> &[u8]
     ensures { result.now ≡ line_of file.now }
 {
     if file.is_empty() {

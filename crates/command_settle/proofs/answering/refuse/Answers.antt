@@ -1,4 +1,4 @@
-use Rattle.command_settle.proofs.answer.refuse.Goals as goal
+use Rattle.command_settle.proofs.answering.refuse.Goals as goal
 
 pub returns-in-LongReport-clause-answered : goal.returns-in-LongReport-clause-answered
 returns-in-LongReport-clause-answered g c = rw c.in-LongReport.is c.put_fault.ensures.answered

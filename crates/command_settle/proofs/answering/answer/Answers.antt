@@ -1,4 +1,4 @@
-use Rattle.command_settle.proofs.answer.answer.Goals as goal
+use Rattle.command_settle.proofs.answering.answer.Goals as goal
 
 pub returns-in-Read-clause-answered : goal.returns-in-Read-clause-answered
 returns-in-Read-clause-answered g c = rw c.in-Read.is (rw c.name_of.ensures at c.refuse_read.ensures.answered)

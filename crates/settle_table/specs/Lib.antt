@@ -1,0 +1,6 @@
+pub mod Forms
+pub mod Outcome
+pub mod Said
+pub mod Stops
+pub mod Table
+pub mod Weighed
