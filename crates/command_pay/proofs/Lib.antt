@@ -1,5 +1,7 @@
-mod MoneyLaws
+mod ConsolidatedLaws
+pub mod MoneyLaws
 mod PaymentLaws
 pub mod Pieces
 mod ReadLaws
-mod RunLaws
+pub mod RunLaws
+mod SavingLaws

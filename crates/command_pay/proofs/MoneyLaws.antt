@@ -32,7 +32,6 @@ use Rattle.fund_shelf.specs.Causes.{ShelfView}
 use Rattle.fund_files.specs.Chain.{chain_from, history_of}
 use Rattle.fund_payment.specs.Report.{line_of, psbt_of, reported}
 use Rattle.fund_plan.proofs.FigureLaws.{figures_agree}
-use Rattle.fund_plan.specs.Outcome.{tries_at}
 use Rattle.fund_plan.specs.Pays.{payment_from, recipient_output, unsigned_input}
 use Rattle.fund_report.specs.PlainFunded as reports
 use Rattle.psbt_codec.specs.Text.{psbt_text}
@@ -43,7 +42,7 @@ use Rattle.fund_steps.specs.Listed.{AreListed, listed_in, presets_by}
 use Rattle.fund_steps.specs.Plan.{PlainBump, PlainPlan}
 use Rattle.command_inputs.specs.Outcome.{bump_of, plan_of}
 use Rattle.pay_words.specs.declared.asked.Asked.{Asked}
-use Rattle.command_pay.specs.AsAsked.{IsAsAsked}
+use Rattle.command_pay.specs.AsAsked.{IsAsAsked, tries_by}
 use Rattle.command_pay.specs.Money.{IsMoneyOf, IsPaidBy, IsScriptOf, IsSpentBy}
 
 -- ---- who is paid
@@ -202,7 +201,7 @@ money_of a files f log k =
     let no_bump : plan.bump ≡ None = ap (λ (o : Option (List ℕ)). option_map bump_of (option_map (λ (txid : List ℕ). terms_of k.wallet (chain_from k.wallet k.blocks).book (chain_from k.wallet k.blocks).tip.height k.request) o)) parts.bump in
     let listed : All (Contains k.funded.coins) (listed_in plan) = subst (λ (x : List Candidate). All (Contains k.funded.coins) x) (presets_listed_in plan plan.bump no_bump) k.pays.presets in
     let worth : sum_by (λ (c : InLine). c.value) (map line_of k.funded.coins) ≡ value_of k.funded.coins = fold-map (λ (n : ℕ) (c : InLine). n + c.value) line_of 0 k.funded.coins in
-    let it : IsMoneyOf a k.wallet.change (reported history k.request k.wallet.change (tries_at plan k.request.tries) k.funded) = record {
+    let it : IsMoneyOf a k.wallet.change (reported history k.request k.wallet.change (tries_by a.way plan) k.funded) = record {
       psbt = psbt_of history k.request k.wallet.change k.funded;
       paid = map recipient_output k.request.recipients;
       is = k.psbt;

@@ -1,18 +1,20 @@
 -- Failed reads of a run for what is asked are counted at the files themselves.
 use Rattle.std.proofs.Common.{◌≡◌, ◌≤◌, ◌∙◌, ℕ, Bool, true, false, List, inl, inr, refl, sym, ap, subst, arith, bytes_eq, string_bytes}
 use Rattle.std.specs.Prelude.{◌≢◌, ◌⊎◌, if◌then◌else◌}
-use Rattle.fund_shelf.specs.Causes.{Rose, ShelfView}
+use Rattle.fund_shelf.specs.Causes.{Rose, ShelfView, SinkView}
 use Rattle.fund_files.specs.declared.refusal.File.{File}
 use Rattle.fund_files.specs.declared.refusal.File.TheVariants.{Wallet, Blocks, Request}
 use Rattle.command_end.specs.declared.status.Status.{Status}
 use Rattle.command_end.specs.declared.status.Status.TheVariants as statuses
+use Rattle.fund_top.specs.Statuses.{EndsUnread}
 use Rattle.pay_words.specs.declared.asked.Asked.{Asked}
-use Rattle.command_pay.specs.AsAsked.{IsOther}
-use Rattle.command_pay.specs.Held.{count_among, log_name, request_name}
+use Rattle.pay_words.specs.declared.way.Way.{Way}
+use Rattle.pay_words.specs.declared.way.Way.TheVariants as ways
+use Rattle.held_run.specs.Held.{IsOther, count_among, log_name, request_name}
+use Rattle.held_run.specs.Run.{beside, empty_sink}
+use Rattle.held_run.proofs.RunLaws.{none_rose, other_count}
 use Rattle.command_inputs.specs.Inputs.{IsUnread}
-use Rattle.command_pay.specs.Run.{IsRun, beside, held_names, sources_of}
-use Rattle.command_pay.proofs.PaymentLaws.{other_count}
-use Rattle.command_pay.proofs.RunLaws.{none_rose}
+use Rattle.command_pay.specs.Run.{IsRun, command_by, held_names, sources_of}
 
 -- a count that rose beside two that never do rose by itself
 rose_if : (held logged : Bool) (m n : ℕ) → Rose (if held then 0 else if logged then 0 else m) (if held then 0 else if logged then 0 else n) → Rose m n
@@ -33,15 +35,22 @@ one_of a files after request shelf counts Blocks h =
 one_of a files after request shelf counts Request h =
     absurd (none_rose (subst (λ (c : List ℕ → ℕ). Rose 0 (c request_name)) counts h))
 
+-- by the way: a read that failed is one of a file of the command
+unread_by : (way : Way) (a : Asked) (request : List ℕ) (files shelf : ShelfView) (sink : SinkView) → EndsUnread (Unit {0}) (Unit {0}) (command_by way (sources_of a) held_names) (beside files request) shelf empty_sink sink
+    → (file : File) × IsUnread (sources_of a) held_names file (beside files request) shelf
+unread_by ways.Fund a request files shelf sink ends = (ends.0, ends.1)
+unread_by ways.Wide a request files shelf sink ends = (ends.0, ends.1)
+
 pub one_failed : (a : Asked) (files after : ShelfView) (said log : List ℕ) → IsRun (Unit {0}) a files after statuses.ReadFault said log
     → Rose (files.reads (string_bytes a.names.wallet)) (after.reads (string_bytes a.names.wallet)) ⊎ Rose (files.reads (string_bytes a.names.blocks)) (after.reads (string_bytes a.names.blocks))
 one_failed a files after said log run =
-    let ends = run.ends (λ e. cc) in
-    one_of a files after run.request run.shelf (ap (λ (v : ShelfView). v.reads) run.left.is) ends.0 ends.1
+    let ran = run.ran in
+    let found = unread_by a.way a run.request files ran.shelf ran.sink (ran.ends (λ e. cc)) in
+    one_of a files after run.request ran.shelf (ap (λ (v : ShelfView). v.reads) ran.left.is) found.0 found.1
 
 pub none_failed : (a : Asked) (files after : ShelfView) (status : Status) (said log : List ℕ) → IsRun (Unit {0}) a files after status said log → status ≢ statuses.ReadFault → (name : List ℕ) → IsOther name → after.reads name ≡ files.reads name
 none_failed a files after status said log run apart name other =
     sym (other_count after.reads name other)
-    ∙ sym (ap (λ (v : ShelfView). v.reads name) run.left.is)
-    ∙ ap (λ (counts : List ℕ → ℕ). counts name) (run.all_read apart)
+    ∙ sym (ap (λ (v : ShelfView). v.reads name) run.ran.left.is)
+    ∙ ap (λ (counts : List ℕ → ℕ). counts name) (run.ran.all_read apart)
     ∙ other_count files.reads name other

@@ -1,12 +1,12 @@
 pub mod AsAsked
 pub mod Change
 pub mod Fees
-pub mod Held
 pub mod Lines
 pub mod Money
 pub mod Pays
 pub mod Rates
 pub mod Run
 pub mod Said
+pub mod Saving
 pub mod Table
 pub mod Written

@@ -4,6 +4,8 @@ use Rattle.std.specs.Fmt.{decimal}
 use Rattle.request_making.specs.Printed.{btc_text, rate_text, sat_text}
 use Rattle.closing_log.specs.declared.mark.Mark.{Mark}
 use Rattle.closing_log.specs.declared.mark.Mark.TheVariants as marks
+use Rattle.pay_words.specs.declared.way.Way.{Way}
+use Rattle.pay_words.specs.declared.way.Way.TheVariants as ways
 use Rattle.command_pay.specs.Rates.{rate_of}
 
 -- an amount in bitcoin and in satoshi
@@ -24,13 +26,18 @@ unfoldable pub change_line : Option ℕ → List ℕ
 change_line None = codes "change  none\n"
 change_line (Some change) = codes "change  " ++ (money_text change ++ codes "\n")
 
--- what a mark promises
-unfoldable pub mark_sentence : Mark → List ℕ
-mark_sentence marks.Exhausted = codes "These coins are the best of what was searched, to its end, and the log proves it."
-mark_sentence marks.Drawn = codes "These coins were drawn by the seed, and no search beside the draw found any that waste less."
-mark_sentence marks.Given = codes "These are exactly the coins that were listed: others may cost less."
-mark_sentence marks.Partial = codes "The tries were used up: these coins are the best so far, and more tries may find better."
+-- what a search promises that came to its end
+unfoldable pub best_sentence : Way → List ℕ
+best_sentence ways.Fund = codes "These coins are the best of what was searched, to its end, and the log proves it."
+best_sentence ways.Wide = codes "These coins waste least of all choices without change of their row, needed or not, and the log proves it."
+
+-- what a mark promises of a payment by this command
+unfoldable pub mark_sentence : Way → Mark → List ℕ
+mark_sentence way marks.Exhausted = best_sentence way
+mark_sentence way marks.Drawn = codes "These coins were drawn by the seed, and no search beside the draw found any that waste less."
+mark_sentence way marks.Given = codes "These are exactly the coins that were listed: others may cost less."
+mark_sentence way marks.Partial = codes "The tries were used up: these coins are the best so far, and more tries may find better."
 
 -- the line of the mark
-unfoldable pub mark_line : Mark → List ℕ
-mark_line mark = codes "choice  " ++ (mark_sentence mark ++ codes "\n")
+unfoldable pub mark_line : Way → Mark → List ℕ
+mark_line way mark = codes "choice  " ++ (mark_sentence way mark ++ codes "\n")

@@ -1,7 +1,6 @@
 -- Files that are written where they are asked for, and files that stay.
 use Rattle.std.specs.Prelude.{ℕ, ◌≡◌, List, Option, Some, None}
 use Rattle.fund_shelf.specs.Causes.{ShelfView, Rose, SameElsewhere}
-use Rattle.command_pay.specs.AsAsked.{IsOther}
 
 -- The file of this name has these bytes, and nothing else is changed.
 pub record HasFile (told : Type 0) (name bytes : List ℕ) (old new : ShelfView) : Type 0 where
@@ -24,8 +23,6 @@ pub record IsStill (told : Type 0) (old new : ShelfView) : Type 0 where
   pub files : told → new.files ≡ old.files
   pub writes : new.writes ≡ old.writes
 
--- Files that stay: each of a name other than those of the two that are held in memory is as before, where the shelf tells what
--- it holds; and no write of it has failed.
-pub record KeepsFiles (told : Type 0) (old new : ShelfView) : Type 0 where
-  pub files : told → (name : List ℕ) → IsOther name → new.files name ≡ old.files name
-  pub writes : (name : List ℕ) → IsOther name → new.writes name ≡ old.writes name
+-- files of which only reads are counted elsewhere: nothing is told of what they hold, and each count stands for every name
+abbrev pub new_file_view : ShelfView → ℕ → ShelfView
+new_file_view files writes = record files { writes = λ _. writes }

@@ -5,13 +5,17 @@ ghost use Rattle.command_end.specs.declared.status.Status.{Status};
 ghost use Rattle.fund_shelf.specs.Causes.{Rose, ShelfView};
 ghost use Rattle.fund_report.specs.PlainFunded.{PlainFunded};
 ghost use Rattle.pay_words.specs.declared.asked.Asked.{Asked};
-ghost use Rattle.command_pay.specs.AsAsked.{IsAsAsked, IsOther};
+ghost use Rattle.held_run.specs.Held.{IsOther};
+ghost use Rattle.command_pay.specs.AsAsked.{IsAsAsked};
 ghost use Rattle.command_pay.specs.Money.{IsMoneyOf};
 ghost use Rattle.command_pay.specs.Pays.{IsTaken, greatest_fee};
 ghost use Rattle.command_pay.specs.Run.{IsPayment, IsRun};
+ghost use Rattle.command_pay.specs.Saving.{IsSavingOf};
+ghost use Rattle.pay_words.specs.declared.way.Way.TheVariants as ways;
 
 /// The law of what is paid: where the files are told, a payment is one of the plan to which the wallet, the blocks and exactly
-/// the request that is asked for come. Its report and its log are those of that plan. A call does nothing.
+/// the request that is asked for come, and what its mark claims by its way is true. Its report and its log are those of that plan. A
+/// call does nothing.
 pub fn payments_are_as_asked()
     ensures { (a : Asked) (files after : ShelfView) (f : PlainFunded) (log : List ℕ) → IsOther (string_bytes a.names.wallet) → IsOther (string_bytes a.names.blocks) → IsPayment (Unit {0}) a files after f log → IsAsAsked a files f log }
 {}
@@ -21,6 +25,12 @@ pub fn payments_are_as_asked()
 /// is what its coins are worth beyond its outputs. The change goes to the wallet's script. A call does nothing.
 pub fn money_goes_as_asked()
     ensures { (a : Asked) (files after : ShelfView) (f : PlainFunded) (log : List ℕ) → IsOther (string_bytes a.names.wallet) → IsOther (string_bytes a.names.blocks) → IsTaken (Unit {0}) a files after f log → (k : IsAsAsked a files f log) × IsMoneyOf a k.wallet.change f × (f.fee ≤ greatest_fee a) }
+{}
+
+/// The law of savings: what a payment by `wide` saves, its waste below 0, is what its inputs would cost at the long-term rate, less what
+/// it pays beyond the fee of its base. A call does nothing.
+pub fn savings_are_later_fees()
+    ensures { (a : Asked) (files : ShelfView) (f : PlainFunded) (log : List ℕ) (k : IsAsAsked a files f log) → a.way ≡ ways.Wide → IsSavingOf k.wallet k.blocks k.request k.funded f }
 {}
 
 /// The law of failed reads: where the files are told, a run that ends with a failed read has raised the count of the wallet's or of

@@ -1,15 +1,16 @@
 //! The lines of the table that are of amounts.
 
 ghost use Rattle.std.specs.Prelude.{◌≡◌, IfOk, string_bytes};
-ghost use Rattle.command_pay.specs.Lines.{change_line, fee_line, mark_line, mark_sentence, money_text, rate_words};
+ghost use Rattle.command_pay.specs.Lines.{best_sentence, change_line, fee_line, mark_line, mark_sentence, money_text, rate_words};
 
 use crate::rates::rate_of;
 use closing_log::Mark;
 use fund_base::Memory;
+use pay_words::Way;
 use request_making::{btc_text, rate_text, sat_text};
 use std::alloc::Global;
 
-/// An amount in bitcoin and in satoshi.
+/// An amount in satoshi, shown in bitcoin and in satoshi. It refuses only when out of memory.
 #[tactic(auto, unfolding(crate::specs::Lines::money_text))]
 pub fn money_text(alloc: Global, amount: u64) -> Result<String, Memory>
     ensures { IfOk result (λ text. string_bytes text ≡ money_text amount) }
@@ -32,7 +33,7 @@ fn rate_words(alloc: Global, rate: Option<u64>) -> Result<String, Memory>
     }
 }
 
-/// The line of the fee.
+/// The line of the fee in satoshi, with what it comes to for each of these virtual bytes. It refuses only when out of memory.
 #[tactic(auto, unfolding(crate::specs::Lines::fee_line))]
 pub fn fee_line(alloc: Global, fee: u64, vsize: u64) -> Result<String, Memory>
     ensures { IfOk result (λ text. string_bytes text ≡ fee_line fee vsize) }
@@ -56,14 +57,26 @@ pub fn change_line(alloc: Global, change: Option<u64>) -> Result<String, Memory>
     }
 }
 
-/// What a mark promises, in a sentence.
+/// What a search promises that came to its end, in a sentence.
+#[tactic(auto, unfolding(crate::specs::Lines::best_sentence))]
+fn best_sentence(way: Way) -> &'static str
+    ensures { result.now ≡ best_sentence way }
+{
+    match way {
+        Way::Fund =>
+            "These coins are the best of what was searched, to its end, and the log proves it.",
+        Way::Wide =>
+            "These coins waste least of all choices without change of their row, needed or not, and the log proves it.",
+    }
+}
+
+/// What a mark promises of a payment by this command, in a sentence.
 #[tactic(auto, unfolding(crate::specs::Lines::mark_sentence))]
-pub fn mark_sentence(mark: Mark) -> &'static str
-    ensures { result.now ≡ mark_sentence mark }
+pub fn mark_sentence(way: Way, mark: Mark) -> &'static str
+    ensures { result.now ≡ mark_sentence way mark }
 {
     match mark {
-        Mark::Exhausted =>
-            "These coins are the best of what was searched, to its end, and the log proves it.",
+        Mark::Exhausted => best_sentence(way),
         Mark::Drawn =>
             "These coins were drawn by the seed, and no search beside the draw found any that waste less.",
         Mark::Given => "These are exactly the coins that were listed: others may cost less.",
@@ -74,8 +87,8 @@ pub fn mark_sentence(mark: Mark) -> &'static str
 
 /// The line of the mark.
 #[tactic(auto, unfolding(crate::specs::Lines::mark_line))]
-pub fn mark_line(alloc: Global, mark: Mark) -> Result<String, Memory>
-    ensures { IfOk result (λ text. string_bytes text ≡ mark_line mark) }
+pub fn mark_line(alloc: Global, way: Way, mark: Mark) -> Result<String, Memory>
+    ensures { IfOk result (λ text. string_bytes text ≡ mark_line way mark) }
 {
-    Ok(format!(in alloc; "choice  {}\n", mark_sentence(mark))?)
+    Ok(format!(in alloc; "choice  {}\n", mark_sentence(way, mark))?)
 }

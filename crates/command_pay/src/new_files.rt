@@ -76,7 +76,7 @@ fn told(answer: io::Result<()>, failures: &mut u64) -> Result<(), Fault>
 
 impl<'a, R: Files> Shelf for NewFileShelf<'a, R> {
     ghost use Rattle.fund_shelf.specs.FileShelf.{view_of};
-    ghost use Rattle.command_pay.specs.Held.{new_file_view};
+    ghost use Rattle.command_pay.specs.Written.{new_file_view};
 
     ghost tells = { ⊥ };
 

@@ -10,8 +10,8 @@ use fund_report::InLine;
 use request_making::{Payee, Payment};
 use std::alloc::Global;
 
-/// To whom is paid.
-fn payee_text(alloc: Global, to: &Payee) -> Result<String, Memory>
+/// To whom is paid: the address as it was given, or the script in hex. It refuses only when out of memory.
+pub fn payee_text(alloc: Global, to: &Payee) -> Result<String, Memory>
     ensures { IfOk result (λ text. string_bytes text ≡ payee_text to.now) }
 {
     match to {

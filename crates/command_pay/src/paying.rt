@@ -5,25 +5,29 @@ ghost use Rattle.fund_base.specs.Parsing.{YieldsAll};
 ghost use Rattle.fund_report.specs.PlainFunded.{PlainFunded};
 ghost use Rattle.fund_report.specs.ReportText.{IsReportText};
 ghost use Rattle.fund_report.specs.declared.report.Report.TheVariants as kinds;
+ghost use Rattle.wide_report.specs.WideText.{IsWideText};
+ghost use Rattle.held_run.specs.Held.{KeepsFiles};
 ghost use Rattle.pay_words.specs.Asked.{asked_in, plain_asked};
 ghost use Rattle.pay_words.specs.Given.{BeginsWithFlag};
 ghost use Rattle.pay_words.specs.declared.fault.WordFault.TheVariants.{Memory as OutOfMemory};
 ghost use Rattle.command_pay.specs.Pays.{HasTwoNames, Pays, greatest_fee};
-ghost use Rattle.command_pay.specs.Written.{KeepsFiles};
+ghost use Rattle.command_pay.specs.Run.{IsReportBy};
 
 use crate::fees::{fee_ceiling, is_fee_taken};
 use crate::outcome::Ending;
-use crate::run::{Run, run_asked};
+use crate::run::run_asked;
 use crate::written::{PutFault, put_files};
 use command_end::Status;
 use fund_base::Memory;
 use fund_report::{FundedReport, Report, ReportFault, read_report};
 use fund_shelf::Shelf;
-use pay_words::{Asked, WordFault, read_pay};
+use held_run::Run;
+use pay_words::{Asked, Way, WordFault, read_pay};
 use std::alloc::Global;
+use wide_report::{WideReportFault, read_wide_report};
 
-/// The payment of which these bytes are the report. It refuses only when out of memory.
-fn payment_in(alloc: Global, said: &[u8]) -> Result<FundedReport, Memory>
+/// The payment by `fund` of which these bytes are the report. It refuses only when out of memory.
+fn funded_in(alloc: Global, said: &[u8]) -> Result<FundedReport, Memory>
     requires { (f : PlainFunded) × IsReportText said.now (kinds.Funded f) }
     ensures { IfOk result (λ f. IsReportText said.now (kinds.Funded f)) }
 {
@@ -33,6 +37,29 @@ fn payment_in(alloc: Global, said: &[u8]) -> Result<FundedReport, Memory>
         Ok(Report::Unfinished { .. }) => unreachable!(),
         Err(ReportFault::Form(_)) => unreachable!(),
         Err(ReportFault::Memory) => Err(Memory),
+    }
+}
+
+/// The payment by `wide` of which these bytes are the report. It refuses only when out of memory.
+fn wide_in(alloc: Global, said: &[u8]) -> Result<FundedReport, Memory>
+    requires { (f : PlainFunded) × IsWideText said.now f }
+    ensures { IfOk result (λ f. IsWideText said.now f) }
+{
+    match read_wide_report(alloc, said) {
+        Ok(report) => Ok(report),
+        Err(WideReportFault::Form) => unreachable!(),
+        Err(WideReportFault::Memory) => Err(Memory),
+    }
+}
+
+/// The payment of which these bytes are the report, as the command of this way prints it. It refuses only when out of memory.
+fn payment_in(alloc: Global, way: Way, said: &[u8]) -> Result<FundedReport, Memory>
+    requires { (f : PlainFunded) × IsReportBy way said.now f }
+    ensures { IfOk result (λ f. IsReportBy way said.now f) }
+{
+    match way {
+        Way::Fund => funded_in(alloc, said),
+        Way::Wide => wide_in(alloc, said),
     }
 }
 
@@ -58,7 +85,7 @@ fn high_fee(asked: &Asked, report: &FundedReport) -> Ending
 }
 
 /// Pays what is asked. The wallet and the blocks are read at `files`, which is answered too: no file of it is changed. Where the
-/// run of `fund` comes to a payment whose fee is taken, its log and then its PSBT are written at `new_files`, each where it is
+/// run of its command comes to a payment whose fee is taken, its log and then its PSBT are written at `new_files`, each where it is
 /// asked for; else nothing is written. The two may not have one name. Out of memory is the one answer that stands for no other
 /// cause.
 pub fn pay_asked<H: Shelf + Drop, N: Shelf>(
@@ -80,7 +107,7 @@ pub fn pay_asked<H: Shelf + Drop, N: Shelf>(
     if !is_done(status) {
         return (Ending::NotPaid(status, said), files);
     }
-    let report = match payment_in(alloc, &said) {
+    let report = match payment_in(alloc, asked.way, &said) {
         Ok(report) => report,
         Err(Memory) => return (Ending::Memory, files),
     };

@@ -1,38 +1,35 @@
-//! The run of `fund` for what is asked.
+//! The run of a command for what is asked.
 
 ghost use Rattle.std.specs.Prelude.{◌≡◌, IfOk};
 ghost use Rattle.request_making.specs.Asked.{asked_of};
 ghost use Rattle.request_making.specs.Written.{request_bytes};
 ghost use Rattle.request_text.specs.RequestText.{request_of};
 ghost use Rattle.fund_top.specs.Words.{command_of, names_stand, where_stands};
-ghost use Rattle.command_pay.specs.Run.{IsRun, command_for, held_names, sources_of};
-ghost use Rattle.command_pay.specs.Written.{KeepsFiles};
+ghost use Rattle.held_run.specs.Held.{KeepsFiles};
+ghost use Rattle.command_pay.specs.Run.{IsRun, command_for, held_names, sources_of, verb_of};
 
-use crate::held::{RequestShelf, log_name, request_name};
-use command_end::Status;
 use fund_base::Memory;
-use fund_outside::SureKeeper;
-use fund_shelf::{Shelf, SureSink};
-use fund_top::run;
-use pay_words::Asked;
+use fund_shelf::Shelf;
+use held_run::{Run, log_name, request_name, run_held};
+use pay_words::{Asked, Way};
 use std::alloc::Global;
 
-/// What a run came to: its status, what it printed, and its log.
-#[derive(Drop)]
-pub struct Run {
-    /// Its status.
-    pub status: Status,
-    /// The bytes that it printed.
-    pub said: Vec<u8>,
-    /// The bytes of its log; none where it wrote none.
-    pub log: Vec<u8>,
+/// The word of the command by which a payment is made.
+fn verb_of(way: Way) -> &'static str
+    ensures { result.now ≡ verb_of way }
+{
+    match way {
+        Way::Fund => "fund",
+        Way::Wide => "wide",
+    }
 }
 
-/// The words of the command: `fund`, the names of the two files, and those of the request and the log that are held.
-fn fund_words(alloc: Global, asked: &Asked) -> Result<Vec<String>, Memory>
+/// The words of the command: its own, the names of the two files, and those of the request and the log that are held.
+#[tactic(auto, using(crate::proofs::RunLaws::words_are))]
+fn command_words(alloc: Global, asked: &Asked) -> Result<Vec<String>, Memory>
     ensures { IfOk result (λ words. command_of words.items ≡ where_stands (names_stand (sources_of asked.now) held_names) (command_for asked.now)) }
 {
-    let verb = String::from_str(alloc, "fund")?;
+    let verb = String::from_str(alloc, verb_of(asked.way))?;
     let wallet = String::from_str(alloc, asked.names.wallet.as_str())?;
     let blocks = String::from_str(alloc, asked.names.blocks.as_str())?;
     let request = String::from_str(alloc, request_name())?;
@@ -56,22 +53,11 @@ fn due_for(alloc: Global, asked: &Asked) -> Result<Due, Memory>
 {
     let text = asked.request(alloc)?;
     let request = Vec::from_slice(alloc, text.as_bytes())?;
-    let words = fund_words(alloc, asked)?;
+    let words = command_words(alloc, asked)?;
     Ok(Due { request, words })
 }
 
-/// A run of this status, which printed these bytes and left this log. It refuses only when out of memory.
-fn run_of(alloc: Global, status: Status, said: &[u8], log: &[u8]) -> Result<Run, Memory>
-    ensures status { IfOk result (λ r. r.status ≡ status) }
-    ensures said { IfOk result (λ r. r.said.items ≡ said.now) }
-    ensures log { IfOk result (λ r. r.log.items ≡ log.now) }
-{
-    let said = Vec::from_slice(alloc, said)?;
-    let log = Vec::from_slice(alloc, log)?;
-    Ok(Run { status, said, log })
-}
-
-/// The run of `fund` for what is asked, over the files with the request beside them; and these files, which are as before.
+/// The run of the command for what is asked, over the files with the request beside them; and these files, which are as before.
 pub fn run_asked<H: Shelf + Drop>(
     alloc: Global,
     asked: &Asked,
@@ -84,10 +70,5 @@ pub fn run_asked<H: Shelf + Drop>(
         Ok(due) => due,
         Err(Memory) => return (Err(Memory), files),
     };
-    let mut shelf = RequestShelf::new(alloc, files, request);
-    let mut out = SureSink::new(alloc);
-    let mut keeper = SureKeeper::new(alloc);
-    let status = run(alloc, &words, &mut shelf, &mut out, &mut keeper);
-    let ended = run_of(alloc, status, out.written(), shelf.log());
-    (ended, shelf.into_files())
+    run_held(alloc, &words, request, files)
 }

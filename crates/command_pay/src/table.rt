@@ -6,8 +6,10 @@ ghost use Rattle.command_pay.specs.Table.{figures_text, pays_line, spends_line, 
 
 use crate::lines::{change_line, fee_line, mark_line};
 use crate::parties::{pays_line, spends_line};
+use crate::saving::saving_text;
 use fund_base::Memory;
 use fund_report::{FundedReport, InLine};
+use pay_words::{Asked, Way};
 use request_making::Payment;
 use std::alloc::Global;
 
@@ -22,8 +24,9 @@ fn put_payments(alloc: Global, text: &mut String, payments: &[Payment]) -> Resul
     Ok(())
 }
 
-/// Puts the lines of the coins after the text.
-fn put_coins(alloc: Global, text: &mut String, coins: &[InLine]) -> Result<(), Memory>
+/// Puts the lines of the coins that are spent after the text, each with its value in bitcoin and in satoshi. It refuses only when out
+/// of memory.
+pub fn put_coins(alloc: Global, text: &mut String, coins: &[InLine]) -> Result<(), Memory>
     ensures { OnOk result (string_bytes text.new ≡ string_bytes text.old ++ flat_map spends_line coins.now) }
 {
     for coin in coins {
@@ -35,31 +38,34 @@ fn put_coins(alloc: Global, text: &mut String, coins: &[InLine]) -> Result<(), M
 
 /// The lines of what the payment comes to.
 #[tactic(auto, unfolding(crate::specs::Table::figures_text))]
-fn figures_text(alloc: Global, report: &FundedReport) -> Result<String, Memory>
-    ensures { IfOk result (λ text. string_bytes text ≡ figures_text report.now) }
+fn figures_text(
+    alloc: Global,
+    way: Way,
+    long_term: u64,
+    report: &FundedReport,
+) -> Result<String, Memory>
+    ensures { IfOk result (λ text. string_bytes text ≡ figures_text way long_term report.now) }
 {
     let fee = fee_line(alloc, report.fee, report.vsize)?;
     let change = change_line(alloc, report.change)?;
-    let mark = mark_line(alloc, report.mark)?;
-    Ok(format!(in alloc; "{}{}{}", fee, change, mark)?)
+    let mark = mark_line(alloc, way, report.mark)?;
+    let saving = saving_text(alloc, way, long_term, report.waste)?;
+    Ok(format!(in alloc; "{}{}{}{}", fee, change, mark, saving)?)
 }
 
 /// A payment as a table: a line `pays` for each recipient in order, with the amount in bitcoin and in satoshi, and the
 /// address as it was given or the script in hex; a line `spends` for each coin in the order of the inputs; a line `fee`,
 /// with what it comes to a virtual byte, rounded down; a line `change`; and a line `choice` that says what the mark of the
-/// report promises. It refuses only when out of memory.
+/// report promises. For a payment by `wide` a line `saves` or `costs` says what spending these coins now saves or costs, beside
+/// spending them later. It refuses only when out of memory.
 #[tactic(auto, unfolding(crate::specs::Table::table_text))]
-pub fn table_text(
-    alloc: Global,
-    payments: &[Payment],
-    report: &FundedReport,
-) -> Result<String, Memory>
-    ensures { IfOk result (λ text. string_bytes text ≡ table_text payments.now report.now) }
+pub fn table_text(alloc: Global, asked: &Asked, report: &FundedReport) -> Result<String, Memory>
+    ensures { IfOk result (λ text. string_bytes text ≡ table_text asked.now report.now) }
 {
     let mut text = String::new(alloc);
-    put_payments(alloc, &mut text, payments)?;
+    put_payments(alloc, &mut text, &asked.payments)?;
     put_coins(alloc, &mut text, &report.coins)?;
-    let figures = figures_text(alloc, report)?;
+    let figures = figures_text(alloc, asked.way, asked.settings.long_term, report)?;
     text.push_str(figures.as_str())?;
     Ok(text)
 }

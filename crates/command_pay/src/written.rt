@@ -18,8 +18,9 @@ pub enum PutFault {
     Memory,
 }
 
-/// Writes a file where one is asked for.
-fn put_if<N: Shelf>(new_files: &mut N, name: &Option<String>, bytes: &[u8]) -> Result<(), Fault>
+/// Writes a file of these bytes where one is asked for. A failure leaves each other file as it was; and where memory is short, nothing is
+/// written.
+pub fn put_if<N: Shelf>(new_files: &mut N, name: &Option<String>, bytes: &[u8]) -> Result<(), Fault>
     ensures ok { OnOk result (HasFileIf N.tells (option_map string_bytes name.now) bytes.now (N.view new_files.old) (N.view new_files.new)) }
     ensures failed { IsErrOf result Fault.Failed → IsUnwritten N.tells (option_map string_bytes name.now) (N.view new_files.old) (N.view new_files.new) }
     ensures memory { IsErrOf result Fault.Memory → IsStill N.tells (N.view new_files.old) (N.view new_files.new) }

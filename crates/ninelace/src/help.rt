@@ -7,9 +7,11 @@ pub const VERSION: &str = "ninelace 1.0";
 pub const COMMANDS: &str = "ninelace: payments of a wallet that only watches.
 
   ninelace pay --wallet FILE --blocks FILE --to ADDRESS=AMOUNT --fee-rate RATE
+  ninelace sweep --wallet FILE --blocks FILE --to ADDRESS --fee-rate RATE
   ninelace coins WALLET BLOCKS --fee-rate RATE
   ninelace check WALLET BLOCKS REQUEST REPORT LOG
   ninelace complete PSBT WALLET BLOCKS
+  ninelace settle --wallet FILE --request FILE --report FILE TX
   ninelace explain LINE
 
   --help                 this text; behind a command that of the command alone
@@ -42,6 +44,8 @@ Makes a payment and shows it as a table, with its PSBT for a signer. An amount i
   --psbt FILE            the PSBT goes into this new file
   --log FILE             the log, which proves the choice, goes into this new file
   --group                the coins of one script are spent together
+  --consolidate          with --method changeless: coins that are not needed are
+                         spent too, where spending them later would cost more
   --zero-conf            own outputs that wait for a block may be spent
   --unsafe               outputs that a stranger may take back may be spent
   --show-request         the request file is shown
@@ -50,6 +54,32 @@ For example:
 
   ninelace pay --wallet wallet.json --blocks blocks.dat --fee-rate 12.5 \\
       --to bc1qhwamhwamhwamhwamhwamhwamhwamhwame6jz2r=0.001BTC --psbt payment.psbt
+";
+
+/// The command that pays all coins.
+const SWEEP: &str = "ninelace sweep --wallet FILE --blocks FILE --to ADDRESS --fee-rate RATE
+
+Pays all coins that may be spent to one address, less the fee, and shows the payment as a
+table, with its PSBT for a signer. There is no change.
+
+  --wallet FILE          the wallet file
+  --blocks FILE          the block file
+  --to ADDRESS           who gets all; ADDRESS=AMOUNT pays nothing below that amount
+  --to-script HEX        the same by a script in hex, as for a base58 address
+  --fee-rate RATE        the fee rate; below 1 it wants --allow-low-rate
+  --allow-low-rate       a fee rate below 1 is taken, which nodes do not relay
+  --max-fee AMOUNT       the greatest fee: the less of 1000000sat and a tenth of
+                         what is paid
+  --psbt FILE            the PSBT goes into this new file
+  --zero-conf            own outputs that wait for a block go too
+  --unsafe               beside --zero-conf: outputs that a stranger may take back
+                         go too
+  --show-request         the request file is shown
+
+For example:
+
+  ninelace sweep --wallet wallet.json --blocks blocks.dat --fee-rate 12.5 \\
+      --to bc1qhwamhwamhwamhwamhwamhwamhwamhwame6jz2r --psbt payment.psbt
 ";
 
 /// The command that lists coins.
@@ -87,6 +117,25 @@ For example:
   ninelace complete payment.psbt wallet.json blocks.dat
 ";
 
+/// The command that looks at a signed transaction.
+const SETTLE: &str = "ninelace settle --wallet FILE --request FILE --report FILE TX
+
+Checks no signature. Says whether a signed transaction is the payment of a report, as
+fund_cli writes it, and pays the rate of its request by what it truly weighs. Shows what
+each input weighs and was declared to weigh, in weight units (WU), the fee and its rate,
+and by how much the inputs together weigh less than declared.
+
+  --wallet FILE          the wallet file
+  --request FILE         the request file
+  --report FILE          the report of the payment
+  TX                     the file of the signed transaction: in hex, or a PSBT whose
+                         inputs are all signed and final, as base64 or as bytes
+
+For example:
+
+  ninelace settle --wallet wallet.json --request request.json --report report.txt signed.txt
+";
+
 /// The command that explains a line.
 const EXPLAIN: &str = "ninelace explain LINE
 
@@ -98,15 +147,17 @@ For example:
 ";
 
 /// What the program says of each command.
-pub const ALL: [&str; 5] = [PAY, COINS, CHECK, COMPLETE, EXPLAIN];
+pub const ALL: [&str; 7] = [PAY, SWEEP, COINS, CHECK, COMPLETE, SETTLE, EXPLAIN];
 
 /// What the program says of one command; none where there is none of this name.
 pub fn of_command(name: &str) -> Option<&'static str> {
     match name {
         "pay" => Some(PAY),
+        "sweep" => Some(SWEEP),
         "coins" => Some(COINS),
         "check" => Some(CHECK),
         "complete" => Some(COMPLETE),
+        "settle" => Some(SETTLE),
         "explain" => Some(EXPLAIN),
         _ => None,
     }

@@ -1,13 +1,16 @@
 //! What is shown as JSON: one object on one line.
 
+use amount_reports::SweptReport;
 use closing_log::Worded;
-use command_end::coin_text;
-use command_pay::mark_sentence;
+use command_end::{coin_text, shown_hash};
+use command_pay::{mark_sentence, rate_of};
 use fund_base::Memory;
 use fund_report::{FundedReport, InLine};
-use pay_words::Asked;
+use pay_words::{Asked, Way};
 use request_making::{Payee, Payment};
 use serde_json::{Map, Value};
+use settle_check::Settled;
+use settle_table::{Settlement, WeighedInput};
 use std::alloc::Global;
 use std::io;
 
@@ -118,11 +121,11 @@ fn put_payee(alloc: Global, object: &mut Map<String, Value>, payee: &Payee) -> R
     }
 }
 
-/// A recipient, as a request file names it.
-fn recipient_value(alloc: Global, payment: &Payment) -> Result<Value, Memory> {
+/// A recipient of this amount, as a request file names it.
+fn recipient_value(alloc: Global, to: &Payee, amount: u64) -> Result<Value, Memory> {
     let mut object = Map::new(alloc);
-    put_payee(alloc, &mut object, &payment.to)?;
-    put(alloc, &mut object, "amount", Value::from(payment.amount))?;
+    put_payee(alloc, &mut object, to)?;
+    put(alloc, &mut object, "amount", Value::from(amount))?;
     Ok(Value::Object(object))
 }
 
@@ -130,7 +133,7 @@ fn recipient_value(alloc: Global, payment: &Payment) -> Result<Value, Memory> {
 fn recipients_value(alloc: Global, payments: &[Payment]) -> Result<Value, Memory> {
     let mut list = Vec::new(alloc);
     for payment in payments {
-        list.push(recipient_value(alloc, payment)?)?;
+        list.push(recipient_value(alloc, &payment.to, payment.amount)?)?;
     }
     Ok(Value::Array(list))
 }
@@ -199,7 +202,18 @@ fn put_figures(
     )
 }
 
-/// Puts what the coins of a payment promise, and how they were looked for.
+/// What a payment by `wide` saves in satoshi, below 0 where it costs; none for one by `fund`.
+fn saved(asked: &Asked, report: &FundedReport) -> Option<i64> {
+    match asked.way {
+        Way::Fund => None,
+        Way::Wide => match i64::try_from(report.waste) {
+            Ok(waste) => waste.checked_neg(),
+            Err(_) => None,
+        },
+    }
+}
+
+/// Puts what the coins of a payment promise, what they save, and how they were looked for.
 fn put_choice(
     alloc: Global,
     object: &mut Map<String, Value>,
@@ -207,7 +221,13 @@ fn put_choice(
     report: &FundedReport,
 ) -> Result<(), Memory> {
     put_text(alloc, object, "mark", report.mark.word())?;
-    put_text(alloc, object, "choice", mark_sentence(report.mark))?;
+    put_text(
+        alloc,
+        object,
+        "choice",
+        mark_sentence(asked.way, report.mark),
+    )?;
+    put(alloc, object, "saved", Value::from(saved(asked, report)))?;
     put(alloc, object, "tries", Value::from(report.tries))?;
     let seed = hex::encode(alloc, &asked.settings.seed)?;
     put_text(alloc, object, "seed", seed.as_str())
@@ -227,6 +247,92 @@ pub fn payment_value(
     put_sides(alloc, &mut object, asked, report)?;
     put_figures(alloc, &mut object, report, seen)?;
     put_choice(alloc, &mut object, asked, report)?;
+    put(alloc, &mut object, "request", request_value(alloc, asked)?)?;
+    put_text(alloc, &mut object, "psbt", psbt)?;
+    Ok(Value::Object(object))
+}
+
+/// An input of a settled payment: the output that it spends, what it weighs, and what it was declared to weigh.
+fn weighed_value(alloc: Global, input: &WeighedInput) -> Result<Value, Memory> {
+    let mut object = Map::new(alloc);
+    let coin = coin_text(alloc, &input.coin)?;
+    put_text(alloc, &mut object, "coin", coin.as_str())?;
+    put(alloc, &mut object, "weight", Value::from(input.weight))?;
+    put(alloc, &mut object, "declared", Value::from(input.declared))?;
+    Ok(Value::Object(object))
+}
+
+/// The inputs of a settled payment, in order.
+fn inputs_value(alloc: Global, inputs: &[WeighedInput]) -> Result<Value, Memory> {
+    let mut list = Vec::new(alloc);
+    for input in inputs {
+        list.push(weighed_value(alloc, input)?)?;
+    }
+    Ok(Value::Array(list))
+}
+
+/// The recipients of a payment of all coins, each with what the one gets.
+fn swept_recipients(alloc: Global, payments: &[Payment], amount: u64) -> Result<Value, Memory> {
+    let mut list = Vec::new(alloc);
+    for payment in payments {
+        list.push(recipient_value(alloc, &payment.to, amount)?)?;
+    }
+    Ok(Value::Array(list))
+}
+
+/// Puts what a settled payment comes to. The rate is in satoshi for 1,000 virtual bytes, rounded down.
+fn put_settled(
+    alloc: Global,
+    object: &mut Map<String, Value>,
+    settled: &Settled,
+) -> Result<(), Memory> {
+    let txid = shown_hash(alloc, settled.txid.bytes())?;
+    put_text(alloc, object, "txid", txid.as_str())?;
+    put(alloc, object, "weight", Value::from(settled.weight))?;
+    put(alloc, object, "vsize", Value::from(settled.vsize))?;
+    put(alloc, object, "fee", Value::from(settled.fee))?;
+    let rate = rate_of(settled.fee, settled.vsize);
+    put(alloc, object, "rate", Value::from(rate))?;
+    put(alloc, object, "spare", Value::from(settled.spare))
+}
+
+/// A settled payment: its figures, and what each input weighs and was declared to weigh.
+pub fn settlement_value(alloc: Global, settlement: &Settlement) -> Result<Value, Memory> {
+    let mut object = Map::new(alloc);
+    put(alloc, &mut object, "status", Value::from(0_u8))?;
+    put_settled(alloc, &mut object, &settlement.settled)?;
+    let inputs = inputs_value(alloc, &settlement.inputs)?;
+    put(alloc, &mut object, "inputs", inputs)?;
+    Ok(Value::Object(object))
+}
+
+/// Puts what a payment of all coins comes to, and what it has paid for ancestors.
+fn put_swept(
+    alloc: Global,
+    object: &mut Map<String, Value>,
+    report: &SweptReport,
+    parents: Option<u64>,
+) -> Result<(), Memory> {
+    put(alloc, object, "coins", coins_value(alloc, &report.coins)?)?;
+    put(alloc, object, "fee", Value::from(report.fee))?;
+    put(alloc, object, "parents", Value::from(parents))?;
+    put(alloc, object, "weight", Value::from(report.weight))?;
+    put(alloc, object, "vsize", Value::from(report.vsize))
+}
+
+/// A payment of all coins: who gets what, what it spends and comes to, what it has paid for ancestors, and its PSBT.
+pub fn sweep_value(
+    alloc: Global,
+    asked: &Asked,
+    report: &SweptReport,
+    parents: Option<u64>,
+    psbt: &str,
+) -> Result<Value, Memory> {
+    let mut object = Map::new(alloc);
+    put(alloc, &mut object, "status", Value::from(0_u8))?;
+    let recipients = swept_recipients(alloc, &asked.payments, report.amount)?;
+    put(alloc, &mut object, "recipients", recipients)?;
+    put_swept(alloc, &mut object, report, parents)?;
     put(alloc, &mut object, "request", request_value(alloc, asked)?)?;
     put_text(alloc, &mut object, "psbt", psbt)?;
     Ok(Value::Object(object))

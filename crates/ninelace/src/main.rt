@@ -1,4 +1,4 @@
-//! The program for people: it pays, lists coins, checks reports, completes PSBTs and explains fault lines.
+//! The program for people: it pays, lists coins, checks reports, completes PSBTs, looks at signed payments and explains fault lines.
 #![tactic(auto)]
 
 mod help;
@@ -6,13 +6,17 @@ mod json;
 mod pay;
 mod plain;
 mod prices;
+mod settle;
+mod sweep;
 
 use command_end::Status;
 use pay::pay;
 use plain::{by_words, coins, complete, explain, is_given, show, tell};
+use settle::settle;
 use std::io::ErrorKind;
 use std::process::ExitCode;
 use std::{env, io};
+use sweep::sweep;
 
 /// The words of the command line, without the program's name; or how the program ends where the system doesn't give them as
 /// text, or there is no memory for them.
@@ -45,6 +49,7 @@ fn help_whole(rt: &HostRuntime, status: Status) -> io::Result<u8> {
 fn command(rt: &HostRuntime, words: &[String], verb: &str, rest: &[String]) -> io::Result<u8> {
     match verb {
         "pay" => pay(rt, rest),
+        "sweep" => sweep(rt, rest),
         "coins" => coins(rt, words),
         "check" => by_words(
             rt,
@@ -53,6 +58,7 @@ fn command(rt: &HostRuntime, words: &[String], verb: &str, rest: &[String]) -> i
             "check takes five names: WALLET BLOCKS REQUEST REPORT LOG.",
         ),
         "complete" => complete(rt, rest),
+        "settle" => settle(rt, rest),
         "explain" => explain(rt, rest),
         _ => tell(
             rt,

@@ -10,7 +10,7 @@ use command_pay::{
 };
 use fault_lines::line_sentence;
 use fund_files::WALLET_LIMIT;
-use fund_report::FundedReport;
+use fund_report::{FundedReport, InLine};
 use fund_shelf::{FileShelf, Shelf, read_whole};
 use pay_words::{Asked, WordFault, flag_about, flag_word, word_place, word_sentence};
 use std::alloc::Global;
@@ -33,7 +33,7 @@ fn word_about<'a>(words: &'a [String], fault: &WordFault) -> &'a str {
 }
 
 /// Says why the words ask for no payment: the word or the flag that it is about, and the sentence.
-fn refuse_words(rt: &HostRuntime, words: &[String], fault: &WordFault) -> io::Result<u8> {
+pub fn refuse_words(rt: &HostRuntime, words: &[String], fault: &WordFault) -> io::Result<u8> {
     let status = match fault {
         WordFault::Memory => Status::Memory,
         _ => Status::Usage,
@@ -67,23 +67,17 @@ fn warn_of_change(rt: &HostRuntime, listed: Option<bool>) -> io::Result<()> {
 }
 
 /// What a payment has paid for the ancestors of its coins; none where the files can't be read any more.
-fn parents_of(rt: &HostRuntime, asked: &Asked, report: &FundedReport) -> Option<u64> {
+pub fn parents_of(rt: &HostRuntime, asked: &Asked, coins: &[InLine]) -> Option<u64> {
     let sources = Sources {
         wallet: asked.names.wallet.as_str(),
         blocks: asked.names.blocks.as_str(),
     };
     let mut shelf = FileShelf::new(rt);
-    paid_for_parents(
-        rt.alloc(),
-        &sources,
-        asked.settings.rate,
-        &report.coins,
-        &mut shelf,
-    )
+    paid_for_parents(rt.alloc(), &sources, asked.settings.rate, coins, &mut shelf)
 }
 
 /// Shows what a payment has paid for ancestors, where it has.
-fn show_parents(rt: &HostRuntime, paid: Option<u64>) -> io::Result<()> {
+pub fn show_parents(rt: &HostRuntime, paid: Option<u64>) -> io::Result<()> {
     match paid {
         Some(paid) if paid > 0 => match parents_line(rt.alloc(), paid) {
             Ok(line) => rt.println(line.as_str()),
@@ -94,13 +88,21 @@ fn show_parents(rt: &HostRuntime, paid: Option<u64>) -> io::Result<()> {
 }
 
 /// Shows the request file where it is asked for.
-fn show_request(rt: &HostRuntime, asked: &Asked) -> io::Result<()> {
+pub fn show_request(rt: &HostRuntime, asked: &Asked) -> io::Result<()> {
     if asked.show_request {
         if let Ok(request) = asked.request(rt.alloc()) {
             rt.println(request.as_str())?;
         }
     }
     Ok(())
+}
+
+/// Shows a PSBT, or the file in which it is.
+pub fn show_psbt(rt: &HostRuntime, asked: &Asked, psbt: &str) -> io::Result<()> {
+    match &asked.names.psbt {
+        None => println!(rt; "psbt    {}", psbt),
+        Some(name) => println!(rt; "psbt    is in the file {}", name),
+    }
 }
 
 /// Shows a payment as a table, and its PSBT where no file is given for it.
@@ -110,20 +112,17 @@ fn show_table(
     report: &FundedReport,
     psbt: &str,
 ) -> io::Result<u8> {
-    let text = match table_text(rt.alloc(), &asked.payments, report) {
+    let text = match table_text(rt.alloc(), asked, report) {
         Ok(text) => text,
         Err(_) => return show(rt, false, Status::Memory, b"fault memory\n"),
     };
     show_request(rt, asked)?;
     rt.print(text.as_str())?;
-    show_parents(rt, parents_of(rt, asked, report))?;
+    show_parents(rt, parents_of(rt, asked, &report.coins))?;
     if report.change.is_some() {
         warn_of_change(rt, is_listed(rt, asked.names.wallet.as_str()))?;
     }
-    match &asked.names.psbt {
-        None => println!(rt; "psbt    {}", psbt)?,
-        Some(name) => println!(rt; "psbt    is in the file {}", name)?,
-    }
+    show_psbt(rt, asked, psbt)?;
     Ok(Status::Done.code())
 }
 
@@ -141,7 +140,7 @@ fn show_payment(rt: &HostRuntime, asked: &Asked, report: &FundedReport) -> io::R
         None => None,
     };
     let seen = Seen {
-        parents: parents_of(rt, asked, report),
+        parents: parents_of(rt, asked, &report.coins),
         change_listed: listed,
     };
     match payment_value(rt.alloc(), asked, report, &seen, psbt) {
@@ -154,7 +153,7 @@ fn show_payment(rt: &HostRuntime, asked: &Asked, report: &FundedReport) -> io::R
 }
 
 /// Says why a payment isn't there, isn't taken or wasn't written: the lines of its run, and the sentence.
-fn refuse(
+pub fn refuse(
     rt: &HostRuntime,
     asked: &Asked,
     status: Status,
@@ -175,7 +174,7 @@ fn refuse(
 }
 
 /// Says that the fee is above the greatest that is taken.
-fn refuse_fee(rt: &HostRuntime, asked: &Asked, fee: u64, most: u64) -> io::Result<u8> {
+pub fn refuse_fee(rt: &HostRuntime, asked: &Asked, fee: u64, most: u64) -> io::Result<u8> {
     match high_fee_text(rt.alloc(), fee, most) {
         Ok(sentence) => refuse(rt, asked, Status::Input, "", Some(sentence.as_str())),
         Err(_) => show(rt, asked.json, Status::Memory, b"fault memory\n"),
@@ -183,7 +182,7 @@ fn refuse_fee(rt: &HostRuntime, asked: &Asked, fee: u64, most: u64) -> io::Resul
 }
 
 /// Says that a new file wasn't written: the log, or the PSBT behind it.
-fn refuse_file(rt: &HostRuntime, asked: &Asked, file: NewFile) -> io::Result<u8> {
+pub fn refuse_file(rt: &HostRuntime, asked: &Asked, file: NewFile) -> io::Result<u8> {
     let (name, log_written) = match file {
         NewFile::Log => (&asked.names.log, false),
         NewFile::Psbt => (&asked.names.psbt, asked.names.log.is_some()),
@@ -198,18 +197,21 @@ fn refuse_file(rt: &HostRuntime, asked: &Asked, file: NewFile) -> io::Result<u8>
     }
 }
 
+/// Says why a run came to no payment.
+pub fn refuse_run(rt: &HostRuntime, asked: &Asked, status: Status, said: &[u8]) -> io::Result<u8> {
+    let lines = match str::from_utf8(said) {
+        Ok(lines) => lines,
+        Err(_) => "",
+    };
+    refuse(rt, asked, status, lines, line_sentence(said))
+}
+
 /// Shows how a payment ended.
 fn show_ending(rt: &HostRuntime, asked: &Asked, ending: &Ending) -> io::Result<u8> {
     match ending {
         Ending::Paid(report, _) => show_payment(rt, asked, report),
         Ending::FeeAboveMaximum(fee, most) => refuse_fee(rt, asked, *fee, *most),
-        Ending::NotPaid(status, said) => {
-            let lines = match str::from_utf8(said) {
-                Ok(lines) => lines,
-                Err(_) => "",
-            };
-            refuse(rt, asked, *status, lines, line_sentence(said))
-        }
+        Ending::NotPaid(status, said) => refuse_run(rt, asked, *status, said),
         Ending::Unwritten(file) => refuse_file(rt, asked, *file),
         Ending::Memory => show(rt, asked.json, Status::Memory, b"fault memory\n"),
     }

@@ -35,7 +35,7 @@ pub fn is_given(words: &[String], wanted: &str) -> bool {
 }
 
 /// The words without the two flags that each command takes.
-fn names_in(rt: &HostRuntime, words: &[String]) -> io::Result<Vec<String>> {
+pub fn names_in(rt: &HostRuntime, words: &[String]) -> io::Result<Vec<String>> {
     let alloc = rt.alloc();
     let mut names = Vec::new(alloc);
     for word in words {
@@ -82,7 +82,7 @@ pub fn show(rt: &HostRuntime, json: bool, status: Status, said: &[u8]) -> io::Re
 }
 
 /// Says how the words of a command are.
-fn refuse(rt: &HostRuntime, words: &[String], usage: &str) -> io::Result<u8> {
+pub fn refuse(rt: &HostRuntime, words: &[String], usage: &str) -> io::Result<u8> {
     tell(
         rt,
         is_given(words, "--json"),

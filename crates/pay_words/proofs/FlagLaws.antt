@@ -23,6 +23,7 @@ word_known flags.MaxFee = refl
 word_known flags.Psbt = refl
 word_known flags.Log = refl
 word_known flags.Group = refl
+word_known flags.Consolidate = refl
 word_known flags.ZeroConf = refl
 word_known flags.Unsafe = refl
 word_known flags.AllowLowRate = refl

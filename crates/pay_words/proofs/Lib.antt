@@ -5,3 +5,4 @@ pub mod NameLaws
 pub mod PaymentRest
 pub mod Pieces
 pub mod Rest
+pub mod WayLaws

@@ -10,6 +10,7 @@ use Rattle.pay_words.specs.Asked.{PlainAsked, asked_by, asked_in, names_in, some
 use Rattle.pay_words.specs.Given.{flags_in, place_of}
 use Rattle.pay_words.specs.Settings.{default_or, fee_rate, low_or_not, max_fee, method_or_auto, rate_or, seed_or, settings_given, tries_or}
 use Rattle.pay_words.specs.Values.{has, rate_at, word_at}
+use Rattle.pay_words.specs.Ways.{way_of}
 use Rattle.pay_words.specs.declared.fault.WordFault.{WordFault}
 use Rattle.pay_words.specs.declared.fault.WordFault.TheVariants as faults
 use Rattle.pay_words.specs.declared.flag.Flag.TheVariants as flags
@@ -60,7 +61,8 @@ low_given drawn words given asked read is low =
     let paid = bind_ok (some_paid words read_in.0) _ asked names.2 in
     let settings = bind_ok (settings_given drawn words read_in.0) _ asked paid.2 in
     let fee = bind_ok (max_fee words read_in.0) _ asked settings.2 in
-    let same : settings.0 ≡ asked.settings = ap (λ (r : Result PlainAsked WordFault). settings_or settings.0 r) fee.2 in
+    let way = bind_ok (way_of read_in.0 settings.0.method) _ asked fee.2 in
+    let same : settings.0 ≡ asked.settings = ap (λ (r : Result PlainAsked WordFault). settings_or settings.0 r) way.2 in
     let one : read_in.0 ≡ given = ok_is read_in.0 given (flags_in words) read_in.1 read in
     subst (λ (g : List Given). has g flags.AllowLowRate ≡ true) one
     (rate_allowed words read_in.0 settings.0.rate (settings_rate drawn words read_in.0 settings.0 settings.1) (omega (arith, ap (λ (s : Settings). s.rate) same, low)))

@@ -10,6 +10,7 @@ use Rattle.pay_words.specs.Asked.{AreApart, PlainAsked, PlainNames, alike_at, al
 use Rattle.pay_words.specs.Given.{flags_in, place_of}
 use Rattle.pay_words.specs.Settings.{default_or, max_fee, settings_given}
 use Rattle.pay_words.specs.Values.{text_of, word_at}
+use Rattle.pay_words.specs.Ways.{way_of}
 use Rattle.pay_words.specs.declared.fault.WordFault.{WordFault}
 use Rattle.pay_words.specs.declared.fault.WordFault.TheVariants as faults
 use Rattle.pay_words.specs.declared.flag.Flag.{Flag}
@@ -118,7 +119,8 @@ names_apart drawn words asked is =
     let paid = bind_ok (some_paid words given.0) _ asked names.2 in
     let settings = bind_ok (settings_given drawn words given.0) _ asked paid.2 in
     let fee = bind_ok (max_fee words given.0) _ asked settings.2 in
-    let same : names.0 ≡ asked.names = ap (λ (r : Result PlainAsked WordFault). names_or names.0 r) fee.2 in
+    let way = bind_ok (way_of given.0 settings.0.method) _ asked fee.2 in
+    let same : names.0 ≡ asked.names = ap (λ (r : Result PlainAsked WordFault). names_or names.0 r) way.2 in
     subst AreApart {x = names.0} same apart
   where
     names_or : PlainNames → Result PlainAsked WordFault → PlainNames

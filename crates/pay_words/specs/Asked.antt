@@ -9,6 +9,7 @@ use Rattle.pay_words.specs.Given.{flags_in, place_of}
 use Rattle.pay_words.specs.Payments.{PlainPayment, coin_given, payments_from, plain_payment}
 use Rattle.pay_words.specs.Settings.{default_or, max_fee, needed, settings_given}
 use Rattle.pay_words.specs.Values.{has, text_of, word_at}
+use Rattle.pay_words.specs.Ways.{way_of}
 use Rattle.pay_words.specs.declared.asked.Asked.{Asked}
 use Rattle.pay_words.specs.declared.asked.Names.{Names}
 use Rattle.pay_words.specs.declared.fault.WordFault.{WordFault}
@@ -16,6 +17,7 @@ use Rattle.pay_words.specs.declared.fault.WordFault.TheVariants as faults
 use Rattle.pay_words.specs.declared.flag.Flag.{Flag}
 use Rattle.pay_words.specs.declared.flag.Flag.TheVariants as flags
 use Rattle.pay_words.specs.declared.given.Given.{Given}
+use Rattle.pay_words.specs.declared.way.Way.{Way}
 
 -- names of files
 pub record PlainNames : Type 0 where
@@ -34,6 +36,7 @@ pub record PlainAsked : Type 0 where
   pub settings : Settings
   pub coins : List (List ℕ)
   pub max_fee : Option ℕ
+  pub way : Way
   pub show_request : Bool
   pub json : Bool
   pub progress : Bool
@@ -45,6 +48,7 @@ plain_asked a = record {
   settings = a.settings;
   coins = map string_bytes a.coins.items;
   max_fee = a.max_fee;
+  way = a.way;
   show_request = a.show_request;
   json = a.json;
   progress = a.progress;
@@ -111,19 +115,21 @@ asked_by drawn words given = do
   payments ← some_paid words given
   settings ← settings_given drawn words given
   fee ← max_fee words given
+  way ← way_of given settings.method
   Ok (record {
     names = names;
     payments = payments;
     settings = settings;
     coins = flat_map (coin_given words) given;
     max_fee = fee;
+    way = way;
     show_request = has given flags.ShowRequest;
     json = has given flags.Json;
     progress = has given flags.Progress;
   })
 
 -- The whole: the first fault of the words, then of what they say, in the order names of files, names that are alike,
--- payments, settings and greatest fee; or exactly what they ask for.
+-- payments, settings, greatest fee, and flags that don't go together; or exactly what they ask for.
 unfoldable pub asked_in : List ℕ → List (String Global) → Result PlainAsked WordFault
 asked_in drawn words = flags_in words >>= asked_by drawn words
 

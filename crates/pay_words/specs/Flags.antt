@@ -20,6 +20,7 @@ flag_word flags.MaxFee = codes "--max-fee"
 flag_word flags.Psbt = codes "--psbt"
 flag_word flags.Log = codes "--log"
 flag_word flags.Group = codes "--group"
+flag_word flags.Consolidate = codes "--consolidate"
 flag_word flags.ZeroConf = codes "--zero-conf"
 flag_word flags.Unsafe = codes "--unsafe"
 flag_word flags.AllowLowRate = codes "--allow-low-rate"
@@ -34,6 +35,7 @@ is_same a b = bytes_eq (flag_word a) (flag_word b)
 -- the word behind it is its value
 abbrev pub takes_value : Flag → Bool
 takes_value flags.Group = false
+takes_value flags.Consolidate = false
 takes_value flags.ZeroConf = false
 takes_value flags.Unsafe = false
 takes_value flags.AllowLowRate = false

@@ -3,5 +3,6 @@ pub mod Given
 pub mod Payments
 pub mod Settings
 pub mod Values
+pub mod Ways
 pub mod Asked
 pub mod Sentences

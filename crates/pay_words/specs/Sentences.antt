@@ -36,6 +36,8 @@ word_sentence (faults.LowRate place) = codes "Nodes do not relay a payment below
 word_sentence (faults.Method place) = codes "The method is not known: auto, changeless, weight, draw and manual are."
 word_sentence (faults.Number place) = codes "This is no whole number, or it is too great: write it in digits alone."
 word_sentence (faults.Seed place) = codes "The seed is not 64 hex digits: openssl rand -hex 32 prints such."
+word_sentence (faults.NotChangeless place) = codes "--consolidate goes with --method changeless alone: give that beside it."
+word_sentence (faults.ListedCoin place) = codes "No coin may be listed beside --consolidate: leave --coin out, or that flag."
 word_sentence faults.Memory = codes "The machine has too little memory: try again with less beside it."
 
 -- the place of the word that it is about
@@ -54,6 +56,8 @@ word_place (faults.LowRate place) = Some place
 word_place (faults.Method place) = Some place
 word_place (faults.Number place) = Some place
 word_place (faults.Seed place) = Some place
+word_place (faults.NotChangeless place) = Some place
+word_place (faults.ListedCoin place) = Some place
 word_place faults.Memory = None
 
 -- the flag that it is about

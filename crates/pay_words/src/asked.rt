@@ -18,6 +18,7 @@ use crate::given::{Given, flags_in, place_of};
 use crate::payments::{coins_given, payments_given};
 use crate::settings::{max_fee, settings_given};
 use crate::values::{has, text_of, word_at};
+use crate::way::{Way, way_of};
 use fund_base::Memory;
 use request_making::{Payment, Settings, request_text};
 use std::alloc::Global;
@@ -48,6 +49,8 @@ pub struct Asked {
     pub coins: Vec<String>,
     /// The greatest fee that is taken, in satoshi, if it is given.
     pub max_fee: Option<u64>,
+    /// By which command the payment is made.
+    pub way: Way,
     /// Whether the request file is shown.
     pub show_request: bool,
     /// Whether what is shown is JSON.
@@ -226,6 +229,7 @@ fn asked_by(
     let payments = some_paid(alloc, words, given)?;
     let settings = settings_given(words, given, drawn)?;
     let max_fee = max_fee(words, given)?;
+    let way = way_of(given, settings.method)?;
     let coins = coins_given(alloc, words, given)?;
     Ok(Asked {
         names,
@@ -233,6 +237,7 @@ fn asked_by(
         settings,
         coins,
         max_fee,
+        way,
         show_request: has(given, Flag::ShowRequest),
         json: has(given, Flag::Json),
         progress: has(given, Flag::Progress),

@@ -10,7 +10,8 @@ use std::alloc::{AllocError, AllocFailed};
 
 /// Why the words of `pay` ask for no payment. A place counts the words behind `pay` from 0. The first three are told in
 /// the order of the words. Then come the others: of the name of each file, wallet, blocks, PSBT and log; of names that are
-/// alike; of the recipients in order, the fee rate, the later rate, the method, the tries, the seed, and the greatest fee.
+/// alike; of the recipients in order, the fee rate, the later rate, the method, the tries, the seed, and the greatest fee; and
+/// last of flags that don't go together.
 #[derive(Clone, Copy)]
 pub enum WordFault {
     /// The word at this place is no flag.
@@ -42,6 +43,10 @@ pub enum WordFault {
     Number(usize),
     /// The word at this place isn't 64 hex digits.
     Seed(usize),
+    /// The flag `--consolidate` at this place stands without the method `changeless`.
+    NotChangeless(usize),
+    /// The coin at this place is listed beside `--consolidate`.
+    ListedCoin(usize),
     /// There was not enough memory.
     Memory,
 }

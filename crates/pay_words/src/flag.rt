@@ -3,7 +3,7 @@
 ghost use Rattle.std.specs.Prelude.{◌≡◌, bytes_eq, find};
 ghost use Rattle.pay_words.specs.Flags.{flag_of, flag_word, is_same, may_repeat, takes_value};
 
-/// A flag. All but the last seven take a value: the word behind them.
+/// A flag. All but the last eight take a value: the word behind them.
 #[derive(Clone, Copy)]
 pub enum Flag {
     /// The name of the wallet file.
@@ -34,6 +34,8 @@ pub enum Flag {
     Log,
     /// The coins of one script are spent together.
     Group,
+    /// Of all choices without change the one that wastes least is taken, with coins that aren't needed.
+    Consolidate,
     /// The wallet's own pending outputs may be spent.
     ZeroConf,
     /// Pending outputs that a stranger may take back may be spent.
@@ -49,7 +51,7 @@ pub enum Flag {
 }
 
 /// All flags.
-const FLAGS: [Flag; 20] = [
+const FLAGS: [Flag; 21] = [
     Flag::Wallet,
     Flag::Blocks,
     Flag::To,
@@ -64,6 +66,7 @@ const FLAGS: [Flag; 20] = [
     Flag::Psbt,
     Flag::Log,
     Flag::Group,
+    Flag::Consolidate,
     Flag::ZeroConf,
     Flag::Unsafe,
     Flag::AllowLowRate,
@@ -92,6 +95,7 @@ pub fn flag_word(flag: Flag) -> &'static str
         Flag::Psbt => "--psbt",
         Flag::Log => "--log",
         Flag::Group => "--group",
+        Flag::Consolidate => "--consolidate",
         Flag::ZeroConf => "--zero-conf",
         Flag::Unsafe => "--unsafe",
         Flag::AllowLowRate => "--allow-low-rate",
@@ -114,6 +118,7 @@ pub fn takes_value(flag: Flag) -> bool
 {
     match flag {
         Flag::Group
+        | Flag::Consolidate
         | Flag::ZeroConf
         | Flag::Unsafe
         | Flag::AllowLowRate

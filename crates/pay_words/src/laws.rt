@@ -1,6 +1,6 @@
 //! What the words of flags and the names of files come to.
 
-ghost use Rattle.std.specs.Prelude.{◌≡◌, ◌<◌, List, Ok, Some, String, true, ℕ};
+ghost use Rattle.std.specs.Prelude.{◌≡◌, ◌<◌, List, [], Ok, Some, String, true, ℕ};
 ghost use Rattle.std.specs.declared.alloc.Global.{Global};
 ghost use Rattle.pay_words.specs.Asked.{AreApart, PlainAsked, asked_in};
 ghost use Rattle.pay_words.specs.Flags.{flag_of, flag_word};
@@ -9,6 +9,8 @@ ghost use Rattle.pay_words.specs.Values.{has};
 ghost use Rattle.pay_words.specs.declared.flag.Flag.{Flag};
 ghost use Rattle.pay_words.specs.declared.flag.Flag.TheVariants as flags;
 ghost use Rattle.pay_words.specs.declared.given.Given.{Given};
+ghost use Rattle.pay_words.specs.declared.way.Way.TheVariants as ways;
+ghost use Rattle.request_text.specs.declared.request.Method.TheVariants as methods;
 
 /// The law of flags: each flag is known by its word, and by no other. A call does nothing.
 pub fn flags_have_one_word()
@@ -19,6 +21,12 @@ pub fn flags_have_one_word()
 /// The law of names: the files that words name are apart, none of them without a name. A call does nothing.
 pub fn names_are_apart()
     ensures { (drawn : List ℕ) (words : List (String Global)) (asked : PlainAsked) → asked_in drawn words ≡ Ok asked → AreApart asked.names }
+{}
+
+/// The law of consolidating: words that are read as asking for it give the method `changeless` and list no coin. So the wide search
+/// takes each such request. A call does nothing.
+pub fn consolidating_chooses_all()
+    ensures { (drawn : List ℕ) (words : List (String Global)) (asked : PlainAsked) → asked_in drawn words ≡ Ok asked → asked.way ≡ ways.Wide → (asked.settings.method ≡ methods.Changeless) × (asked.coins ≡ []) }
 {}
 
 /// The law of low rates: words that are read as asking for a rate below 1 satoshi per virtual byte give the flag

@@ -11,9 +11,13 @@ mod payments;
 mod sentence;
 mod settings;
 mod values;
+mod way;
 
 pub use asked::{Asked, Names, read_pay};
 pub use fault::WordFault;
 pub use flag::{Flag, flag_word};
-pub use laws::{flags_have_one_word, low_rates_are_allowed, names_are_apart};
+pub use laws::{
+    consolidating_chooses_all, flags_have_one_word, low_rates_are_allowed, names_are_apart,
+};
 pub use sentence::{flag_about, word_place, word_sentence};
+pub use way::Way;

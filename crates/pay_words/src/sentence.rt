@@ -64,6 +64,10 @@ pub fn word_sentence(fault: &WordFault) -> &'static str
         WordFault::Number(_) =>
             "This is no whole number, or it is too great: write it in digits alone.",
         WordFault::Seed(_) => "The seed is not 64 hex digits: openssl rand -hex 32 prints such.",
+        WordFault::NotChangeless(_) =>
+            "--consolidate goes with --method changeless alone: give that beside it.",
+        WordFault::ListedCoin(_) =>
+            "No coin may be listed beside --consolidate: leave --coin out, or that flag.",
         WordFault::Memory => "The machine has too little memory: try again with less beside it.",
     }
 }
@@ -83,7 +87,9 @@ pub fn word_place(fault: &WordFault) -> Option<usize>
         | WordFault::LowRate(place)
         | WordFault::Method(place)
         | WordFault::Number(place)
-        | WordFault::Seed(place) => Some(place),
+        | WordFault::Seed(place)
+        | WordFault::NotChangeless(place)
+        | WordFault::ListedCoin(place) => Some(place),
         WordFault::NoValue(_)
         | WordFault::Missing(_)
         | WordFault::EmptyName(_)

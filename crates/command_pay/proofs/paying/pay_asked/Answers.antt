@@ -3,14 +3,12 @@ use Rattle.std.specs.Prelude.{IfOk, Result}
 use Rattle.std.proofs.Math.Nat.{lt_of_not-le}
 use Rattle.fund_base.specs.declared.memory.Memory.{Memory}
 use Rattle.fund_report.specs.PlainFunded.{PlainFunded}
-use Rattle.fund_report.specs.ReportText.{IsReportText}
-use Rattle.fund_report.specs.declared.report.Report.TheVariants as kinds
 use Rattle.command_end.specs.declared.status.Status.{Status}
 use Rattle.command_end.specs.declared.status.Status.TheVariants as statuses
 use Rattle.command_pay.specs.Pays.{HasLogAtMost, Pays, PutStops, greatest_fee}
-use Rattle.command_pay.specs.Run.{IsPayment, IsRun}
+use Rattle.command_pay.specs.Run.{IsPayment, IsReportBy, IsRun}
 use Rattle.command_pay.specs.declared.outcome.Ending.{Ending}
-use Rattle.command_pay.specs.declared.run.Run.{Run}
+use Rattle.held_run.specs.declared.run.Run.{Run}
 use Rattle.command_pay.specs.declared.written.PutFault.{PutFault}
 use Rattle.command_pay.proofs.PaymentLaws.{is_payment, report_of_run}
 use Rattle.command_pay.proofs.paying.pay_asked.Goals as goal
@@ -21,7 +19,7 @@ payment_in-requires g c =
     let done : c.in-Ok.run'.status ≡ statuses.Done = c.is_done.ensures.0 c.if-not-is_done.false in
     let run : IsRun g.H.Shelf.tells c.args.asked.now (g.H.Shelf.view c.args.files) (g.H.Shelf.view c.run_asked-ended.result.1) statuses.Done c.in-Ok.run'.said.items c.in-Ok.run'.log.items = subst (λ (s : Status). IsRun g.H.Shelf.tells c.args.asked.now (g.H.Shelf.view c.args.files) (g.H.Shelf.view c.run_asked-ended.result.1) s c.in-Ok.run'.said.items c.in-Ok.run'.log.items) done ran in
     let found = report_of_run g.H.Shelf.tells c.args.asked.now (g.H.Shelf.view c.args.files) (g.H.Shelf.view c.run_asked-ended.result.1) c.in-Ok.run'.said.items c.in-Ok.run'.log.items run in
-    (found.0, subst (λ (t : List ℕ). IsReportText t (kinds.Funded found.0)) (sym c.deref.ensures.value) found.1)
+    (found.0, subst (λ (t : List ℕ). IsReportBy c.args.asked.now.way t found.0) (sym c.deref.ensures.value) found.1)
 
 pub returns-then-not-accepts_fee-clause-pays : goal.returns-then-not-accepts_fee-clause-pays
 returns-then-not-accepts_fee-clause-pays g c =

@@ -1,73 +1,16 @@
-use Rattle.std.proofs.Common.{◌≡◌, ◌∙◌, ℕ, List, [], Option, map, ap, refl, sym, subst, string_bytes}
-use Rattle.std.specs.Prelude.{◌≢◌}
-use Rattle.fund_shelf.specs.Causes.{ShelfView, SinkView}
-use Rattle.fund_shelf.specs.SureSink.{view_of as sink_view}
-use Rattle.fund_outside.specs.Kept.{KeeperView}
-use Rattle.fund_outside.specs.SureKeeper.{view_of as keeper_view}
-use Rattle.command_end.specs.declared.status.Status.TheVariants as statuses
-use Rattle.fund_top.specs.Outside.{outside}
-use Rattle.fund_top.specs.Words.{Command, command_of, names_stand}
-use Rattle.command_pay.specs.Held.{IsBeside, held_view}
+use Rattle.fund_top.specs.Words.{names_stand}
 use Rattle.pay_words.specs.declared.asked.Asked.{Asked}
-use Rattle.command_pay.specs.Run.{held_names, sources_of}
-use Rattle.command_pay.specs.Written.{KeepsFiles}
-use Rattle.command_pay.proofs.PaymentLaws.{other_count, other_file}
-use Rattle.command_pay.proofs.RunLaws.{Promises, is_run, keeps_others, none_unwritten, run_told}
+use Rattle.command_pay.specs.Run.{command_for, held_names, sources_of}
+use Rattle.command_pay.proofs.RunLaws.{run_for, writes_by}
 use Rattle.command_pay.proofs.run.run_asked.Goals as goal
 
 pub returns-clause-run : goal.returns-clause-run
 returns-clause-run g c =
     let asked : Asked = c.args.asked.now in
-    let s = c.new-shelf.result in
-    let shelf : ShelfView = held_view (g.H.Shelf.view s.shelf) s.request.items s.log.items (map string_bytes s.asked.items) in
-    let s' = c.run-status.new.shelf in
-    let shelf' : ShelfView = held_view (g.H.Shelf.view s'.shelf) s'.request.items s'.log.items (map string_bytes s'.asked.items) in
-    let sink : SinkView = sink_view c.new-out.result in
-    let sink' : SinkView = sink_view c.run-status.new.out in
-    let keeper : KeeperView = keeper_view c.new-keeper.result in
-    let keeper' : KeeperView = keeper_view c.run-status.new.keeper in
-    let o : Option Command = command_of c.in-Ok.due.words.items in
-    let e = c.run-status.ensures in
-    let promises : Promises (outside g.H.Shelf.tells (Unit {0}) (Unit {0}) shelf shelf' sink sink' keeper keeper') o c.run-status.result =
-    record { usage = e.usage; ends = e.ends; honest = e.honest; stays = e.stays; reads = e.reads; refused = e.refused; complete = e.complete } in
-    let apart : c.run-status.result ≢ statuses.WriteFault = none_unwritten g.H.Shelf.tells asked (names_stand (sources_of asked) held_names) o shelf shelf' sink sink' keeper keeper' c.run-status.result c.in-Ok.ensures.words e.usage.usage.1 refl refl refl refl e.ends.write_fault in
-    let after : ShelfView = g.H.Shelf.view c.into_files.result in
-    let left : IsBeside after shelf' = record {
-      request = s'.request.items;
-      log = s'.log.items;
-      names = map string_bytes s'.asked.items;
-      is = ap (λ (v : ShelfView). held_view v s'.request.items s'.log.items (map string_bytes s'.asked.items)) (sym c.into_files.ensures);
-    } in
-    run_told g.H.Shelf.tells asked (g.H.Shelf.view c.args.files) after c.run-status.result c.written.result.now c.log.result.now c.run_of-ended.result c.run_of-ended.ensures.status c.run_of-ended.ensures.said c.run_of-ended.ensures.log
-    (is_run g.H.Shelf.tells asked (g.H.Shelf.view c.args.files) after c.in-Ok.due.request.items c.written.result.now c.log.result.now o shelf shelf' sink sink' keeper keeper' c.run-status.result promises
-    c.in-Ok.ensures.words c.new-shelf.ensures c.new-out.ensures c.new-keeper.ensures.view c.in-Ok.ensures.asks c.in-Ok.ensures.bytes c.written.ensures c.log.ensures apart refl refl left)
+    run_for g.H.Shelf.tells asked c.in-Ok.due.request.items (g.H.Shelf.view c.args.files) (g.H.Shelf.view c.run_held.result.1) c.run_held.result.0 c.in-Ok.ensures.asks c.in-Ok.ensures.bytes
+    (c.run_held.ensures.run (names_stand (sources_of asked) held_names) (command_for asked) c.in-Ok.ensures.words (writes_by g.H.Shelf.tells asked.way (sources_of asked)))
 
 pub returns-clause-files : goal.returns-clause-files
 returns-clause-files g c =
     let asked : Asked = c.args.asked.now in
-    let s = c.new-shelf.result in
-    let shelf : ShelfView = held_view (g.H.Shelf.view s.shelf) s.request.items s.log.items (map string_bytes s.asked.items) in
-    let s' = c.run-status.new.shelf in
-    let shelf' : ShelfView = held_view (g.H.Shelf.view s'.shelf) s'.request.items s'.log.items (map string_bytes s'.asked.items) in
-    let sink : SinkView = sink_view c.new-out.result in
-    let sink' : SinkView = sink_view c.run-status.new.out in
-    let keeper : KeeperView = keeper_view c.new-keeper.result in
-    let keeper' : KeeperView = keeper_view c.run-status.new.keeper in
-    let o : Option Command = command_of c.in-Ok.due.words.items in
-    let files : ShelfView = g.H.Shelf.view c.args.files in
-    let given_back : g.H.Shelf.view c.into_files.result ≡ g.H.Shelf.view s'.shelf = c.into_files.ensures in
-    let e = c.run-status.ensures in
-    let apart : c.run-status.result ≢ statuses.WriteFault = none_unwritten g.H.Shelf.tells asked (names_stand (sources_of asked) held_names) o shelf shelf' sink sink' keeper keeper' c.run-status.result c.in-Ok.ensures.words e.usage.usage.1 refl refl refl refl e.ends.write_fault in
-    let stays : KeepsFiles g.H.Shelf.tells files (g.H.Shelf.view s'.shelf) = record {
-      files = λ told name other.
-          sym (other_file (g.H.Shelf.view s'.shelf).files s'.request.items s'.log.items name other)
-          ∙ keeps_others g.H.Shelf.tells asked (names_stand (sources_of asked) held_names) o shelf.files shelf'.files c.in-Ok.ensures.words (λ none. ap (λ (v : ShelfView). v.files) (e.usage.untouched (e.usage.usage.1 none))) e.stays.others told name other.1
-          ∙ ap (λ (v : ShelfView). v.files name) c.new-shelf.ensures
-          ∙ other_file files.files c.in-Ok.due.request.items [] name other;
-      writes = λ name other.
-          sym (other_count (g.H.Shelf.view s'.shelf).writes name other)
-          ∙ ap (λ (f : List ℕ → ℕ). f name) (e.honest.all_written apart)
-          ∙ ap (λ (v : ShelfView). v.writes name) c.new-shelf.ensures
-          ∙ other_count files.writes name other;
-    } in
-    subst (λ (v : ShelfView). KeepsFiles g.H.Shelf.tells files v) (sym given_back) stays
+    c.run_held.ensures.files (names_stand (sources_of asked) held_names) (command_for asked) c.in-Ok.ensures.words (writes_by g.H.Shelf.tells asked.way (sources_of asked))

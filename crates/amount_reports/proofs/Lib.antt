@@ -1,0 +1,5 @@
+pub mod Rows
+pub mod Shown
+pub mod SharedLaws
+pub mod SweptLaws
+pub mod WrittenLaws

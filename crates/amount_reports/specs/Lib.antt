@@ -1,0 +1,4 @@
+pub mod Read
+pub mod Reading
+pub mod SweptText
+pub mod SharedText

@@ -1,0 +1,4 @@
+mod MoneyLaws
+mod PaymentLaws
+mod ReportLaws
+pub mod RunLaws
