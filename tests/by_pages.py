@@ -1,6 +1,7 @@
 """What the scripts that know the pages alone say of a run that tests/mutate.py made: tests/input_faults.py of the files,
 tests/replacements.py of what keeps a payment from being made, tests/answers.py of listings and payments, tests/verdicts.py with
-tests/text_places.py and tests/psbt_faults.py of reports, tests/desk.py of desks; and whether the first job of a desk is funded as
+tests/text_places.py and tests/psbt_faults.py of reports, tests/desk.py of desks, tests/further.py of `wide`, `share` and `sweep`,
+tests/settlings.py of `settle`; and whether the first job of a desk is funded as
 `fund` funds it. None where they agree, or have nothing to say."""
 
 import collections
@@ -8,8 +9,10 @@ import json
 import re
 
 import desk
+import further
 import input_faults
 import psbt_faults
+import settlings
 import text_places
 from answers import Chain, judge, shown_point
 from cases import FUND, THREE, with_members
@@ -43,6 +46,9 @@ def refusal_of(end):
             return f"fault input request {fault}\n"
         fault = input_faults.fault_of(asked, json.loads(given), known, blocks)
         return None if fault is None else f"fault input {fault}\n"
+    if end.words[0] in further.COMMANDS:
+        fault = input_faults.fault_of(input_faults.read_request, end.given[end.words[3]])
+        return None if fault is None else f"fault input request {fault}\n"
     return None
 
 
@@ -54,9 +60,41 @@ def wrong_refusal(end, beside):
         due = refusal_of(end)
     except KeyError:
         return None
+    if due is None and end.words[0] in further.COMMANDS and end.printed.startswith(b"fault input plan "):
+        return None
     beside["refusals" if due else "files in order"] += 1
     is_so = end.printed.decode() == due if due else not end.printed.startswith(b"fault input ")
     return None if is_so else f"{due} is due"
+
+
+def wrong_beside_funding(end, beside):
+    """Of a `wide`, a `share` or a `sweep` whose files are in order: whether it ended as is due, with the report and the log."""
+    is_judged = end.status in (0, 10, 11) or end.printed.startswith(b"fault input plan ") or end.printed == b"fault limit groups\n"
+    if not is_judged:
+        return None
+    log = end.files[end.words[4]].decode() if end.status in (0, 11) and len(end.words) == 5 else None
+    try:
+        kind = further.judge(end.words[0], {name: end.given[at] for name, at in zip(THREE, end.words[1:4])}, end.status,
+                             end.printed.decode(), log)
+        beside[f"{end.words[0]}: {kind}"] += 1
+    except AssertionError as wrong:
+        return f"by tests/further.py {wrong}"
+    except BEYOND:
+        beside[f"{end.words[0]} not judged"] += 1
+    return None
+
+
+def wrong_settling(end, beside):
+    """Of a `settle`: whether it ended as is due."""
+    names = ("wallet.json", "request.json", "report", "tx")
+    files = {name: end.given[at] for name, at in zip(names, end.words[1:5]) if at in end.given}
+    try:
+        beside[f"settle: {settlings.judge(files, end.status, end.printed.decode())}"] += 1
+    except AssertionError as wrong:
+        return f"by tests/settlings.py {wrong}"
+    except BEYOND:
+        beside["settle not judged"] += 1
+    return None
 
 
 def wrong_listing(end, beside):

@@ -6,12 +6,14 @@ import pathlib
 import re
 
 from kept_jobs import read_jobs
+from stored_rows import commands_of
 from stored_rows import files_of as stored_files
 
 TOP = pathlib.Path(__file__).resolve().parent.parent
 EXAMPLE = TOP / "crates" / "fund_cli" / "data"
 THREE = ("wallet.json", "blocks.dat", "request.json")
 FUND = ["fund", *THREE, "LOG"]
+FURTHER = {"wide": THREE, "share": THREE, "sweep": THREE, "settle": ("wallet.json", "request.json", "report", "tx")}
 SCRIPTS = (
     b"open A request.json\nturn A 1\nturn A 3\nturn A 100000\ncommit A\nopen B request.json\nturn B 100000\ncommit B\n",
     b"open A request.json\nopen B request.json\nturn A 50\nturn B 50\nturn A 100000\nturn B 100000\ncommit B\ncommit A\nclose A\n",
@@ -24,6 +26,7 @@ class Cases:
     def __init__(self, folder):
         self.payments = stored_payments()
         self.reports, self.jobs, self.desks = [], [], []
+        self.further = {verb: [step.files for step in commands_of(verb)] for verb in FURTHER}
         if folder is not None:
             for name in ("fund", "bump"):
                 self.payments += [files_of(case, THREE) for case in sorted((folder / name).iterdir())]
@@ -32,6 +35,9 @@ class Cases:
             for case in sorted((folder / "desk").iterdir()):
                 names = [path.name for path in case.iterdir() if path.name not in ("status", "stdout")]
                 self.desks.append(files_of(case, names))
+            for verb, names in FURTHER.items():
+                if (folder / verb).exists():
+                    self.further[verb] += [files_of(case, names) for case in sorted((folder / verb).iterdir())]
 
     def bumps(self):
         """Those whose request replaces a payment."""

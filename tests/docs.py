@@ -160,12 +160,14 @@ def check_kit():
 
 def check_names():
     """Names of code that a page gives stand somewhere in the sources."""
-    known = set()
+    known = set(KIT)
     for folder in ("crates", "bench", "tests", "tools", "edits"):
         for path in (TOP / folder).rglob("*"):
+            if "out" in path.relative_to(TOP).parts:
+                continue
             if path.suffix in (".rt", ".antt", ".py", ".sh", ".edit", ".json"):
                 known.update(re.findall(r"\w+", path.read_text()))
-            known.update(re.findall(r"\w+", path.name) if "out" not in path.parts else [])
+            known.update(re.findall(r"\w+", path.name))
     known.update(re.findall(r"\w+", (TOP / "crates.txt").read_text()))
     for page in PAGES:
         for number, line in parts_of(page) if page.name != "PROVED.md" else []:
@@ -173,7 +175,7 @@ def check_names():
                 line = line.rsplit("|", 2)[0]  # without the source, which names other projects' code
             for name in re.findall(r"`([A-Za-z_][\w:]*)`", line):
                 for part in name.split("::"):
-                    if "_" in part and not part.isupper() and part not in known | KIT:
+                    if "_" in part and not part.isupper() and part not in known:
                         faults.append(f"{page.name}:{number}: `{name}` stands nowhere in the sources")
 
 

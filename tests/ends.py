@@ -5,10 +5,11 @@ import collections
 import json
 import os
 
-from by_pages import wrong_desk, wrong_first_job, wrong_listing, wrong_payment, wrong_refusal, wrong_verdict
+from by_pages import (wrong_beside_funding, wrong_desk, wrong_first_job, wrong_listing, wrong_payment, wrong_refusal, wrong_settling,
+                      wrong_verdict)
 from cases import FUND, THREE, with_members
 from kept_jobs import MOST_TRIES, digest_of, gone_on, not_saved, read_saved, refusal_of
-from printed import FORMS, LOG, OPEN_LOG, is_command
+from printed import FORMS, LOG, OPEN_LOG, WIDE_LOG, is_command
 from replies import wrong_replies
 from resumes import wrong_end
 from running import OLD_LOG
@@ -17,9 +18,12 @@ from text_places import sections_before_fault
 TRIES_A_SECOND = 1_000_000
 MOST_STEPS = 60
 LIMITS = {b"wallet": 16_777_216, b"blocks": 1_073_741_824, b"request": 1_048_576, b"script": 16_777_216, b"report": 67_108_864,
-          b"log": 67_108_864}
+          b"log": 67_108_864, b"tx": 1_048_576}
 AT = {"coins": (b"wallet", b"blocks"), "fund": (b"wallet", b"blocks", b"request"), "resume": (b"wallet", b"blocks", b"request"),
-      "check": (b"wallet", b"blocks", b"request", b"report", b"log"), "desk": (b"wallet", b"blocks", b"script")}
+      "check": (b"wallet", b"blocks", b"request", b"report", b"log"), "desk": (b"wallet", b"blocks", b"script"),
+      "settle": (b"wallet", b"request", b"report", b"tx")}
+AT.update({verb: AT["fund"] for verb in ("wide", "share", "sweep")})
+LOGS = {"fund": LOG, "resume": LOG, "share": LOG, "wide": WIDE_LOG}
 CHAIN = (b"fault input wallet ", b"fault input blocks ", b"fault input book ", b"fault limit wallet\n", b"fault limit blocks\n",
          b"fault limit coins\n")
 
@@ -27,7 +31,7 @@ CHAIN = (b"fault input wallet ", b"fault input blocks ", b"fault input book ", b
 def tries_of(end):
     """How many tries the run may make."""
     try:
-        if end.words[0] in ("fund", "resume"):
+        if end.words[0] in LOGS:
             return json.loads(end.given[end.words[3]]).get("tries", 100_000)
         if end.words[0] == "desk":
             turns = [line.split(b" ") for line in end.given[end.words[3]].splitlines() if line.startswith(b"turn ")]
@@ -110,12 +114,12 @@ class Judge:
 
     def wrong_left(self, end):
         """By the files that are left."""
-        if end.words[0] not in ("fund", "resume") or end.status not in (0, 11):
+        if end.words[0] not in LOGS or end.status not in (0, 11):
             return None if end.files == end.given else "a file changed"
         log = end.words[4]
         if {**end.files, log: b""} != {**end.given, log: b""}:
             return "another file than LOG changed"
-        return None if LOG.fullmatch(end.files[log]) else "LOG is no whole log"
+        return None if LOGS[end.words[0]].fullmatch(end.files[log]) else "LOG is no whole log"
 
     def wrong_job(self, end):
         """By the jobs that are kept."""
@@ -171,7 +175,11 @@ class Judge:
         """What is wrong by what other scripts and other commands say of the same files, or None."""
         if end.status == 2 or end.words[0] == "work":
             return None
+        if end.words[0] == "settle":
+            return wrong_settling(end, self.beside)
         fault = wrong_refusal(end, self.beside)
+        if fault is None and end.words[0] in ("wide", "share", "sweep"):
+            fault = wrong_beside_funding(end, self.beside)
         if fault is not None:
             return fault
         if end.words[0] == "coins" and end.status == 0:

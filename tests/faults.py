@@ -5,7 +5,8 @@ usage: tests/faults.py [--program PATH] [--kinds KIND..] [--commands NAME..] [--
 
 The calls are those of KINDS, by tests/failing.c: allocations, those on files, and those on the job file; `rename` counts unlink
 too. The commands are those of `commands`: listings, payments, the check of a report, a payment that is kept as a job, the going on
-with a job of two coins, refusals, a desk of two jobs, and a made-up wallet.
+with a job of two coins, refusals, a desk of two jobs, a made-up wallet, and one payment each of `wide`, `share` and `sweep`, with
+a refused one, and one of `settle`.
 
 Which ends are right, by docs/FORMATS.md:
 
@@ -35,9 +36,9 @@ import sys
 import tempfile
 import typing
 
-from cases import EXAMPLE, FUND, SCRIPTS, THREE, TOP, with_members
+from cases import EXAMPLE, FUND, FURTHER, SCRIPTS, THREE, TOP, with_members
 from kept_jobs import BESIDE, NAME, read_jobs, write_jobs
-from stored_rows import files_of
+from stored_rows import commands_of, files_of
 
 PROGRAM = TOP / "crates" / "fund_cli" / "out" / "fund_cli"
 OLD_LOG = b"what stood in the log before\n"
@@ -141,6 +142,11 @@ def stored(name):
     return {part: STORED[f"{name}.{part}"] for part in THREE}
 
 
+def case_of(command, name):
+    """The files of a stored case of this name, of a command beside funding."""
+    return next(step.files for step in commands_of(command) if step.columns[0] == f"{name}: ")
+
+
 def example(**members):
     return with_members({part: (EXAMPLE / part).read_bytes() for part in THREE}, **members)
 
@@ -175,6 +181,11 @@ def commands(bench):
         "resume, refused": Command(RESUME, two, {"job-1": (jobs[1][0][:-1], jobs[1][1])}),
         "desk": Command(["desk", *THREE[:2], "script"], {**whole, "script": SCRIPTS[1]}),
         "work": Command(["work", "1", "5"], {}),
+        "wide": Command(["wide", *FUND[1:]], case_of("wide", "worked")),
+        "share": Command(["share", *FUND[1:]], case_of("share", "worked-three")),
+        "share, refused": Command(["share", *FUND[1:]], case_of("share", "worked-dust")),
+        "sweep": Command(["sweep", *THREE], case_of("sweep", "worked")),
+        "settle": Command(["settle", *FURTHER["settle"]], case_of("settle", "worked-71")),
     }
 
 

@@ -3,13 +3,14 @@
 
 usage: tests/mutate.py [--seed N] [--runs N] [--cases FOLDER] [--program PATH] [--found FOLDER] [--only KIND..] [--seconds S]
 
-What is mutated, one to three times a run: the files of `coins`, `fund`, `check` and `desk`, the report and LOG of `check`, the
-script of `desk`, the words of any command, and what `resume` and `fund .. JOB` find in the job file: its saved text, its parts,
+What is mutated, one to three times a run: the files of `coins`, `fund`, `check`, `desk`, `wide`, `share`, `sweep` and `settle`, the
+report and LOG of `check`, report and transaction of `settle`, the script of `desk`, the words of any command, and what `resume` and `fund .. JOB` find in the job file: its saved text, its parts,
 its tables, and its bytes with those of its log. One run in ten is of a job, and `bump` are runs of requests that replace a payment:
 those of tests/bumps.py too. They begin with the stored requests of
 `files` in crates/rows_cases and the example, and with what the program makes of them; with --cases FOLDER also with those of the
-folders fund, bump, check, resume and desk in it, each of which has a folder for each case, with wallet.json, blocks.dat,
-request.json and, by its command, report and log, script with the files that it names, or N.saved and N.part-M of kept jobs.
+folders fund, bump, check, resume and desk in it, and wide, share, sweep and settle where they are there. Each of these has a folder
+for each case, with wallet.json, blocks.dat, request.json and, by its command, report and log, report and tx, script with the files that
+it names, or N.saved and N.part-M of kept jobs.
 
 Each end is held to this (tests/ends.py):
 
@@ -17,12 +18,14 @@ Each end is held to this (tests/ends.py):
 - `fault usage` comes exactly where the words are no command; `fault read` where that file isn't there; a limit of bytes exactly
   where a file is longer
 - nothing is on the standard error; a run takes no more than a second, or what --seconds says, and one more for each million tries
-- no file changed but LOG, on status 0 and 11 of `fund` and `resume`, and then it is a whole log
+- no file changed but LOG, on status 0 and 11 of `fund`, `resume`, `wide` and `share`, and then it is a whole log
 - no job changed but the named one on status 10, and that as its report says; the others are as they were. A job file that SQLite
   finds unsound, or that has other tables, is refused where it is needed
 - a job is refused for its saved text, its tries and its parts exactly as tests/kept_jobs.py tells, and for its sections and its
   position exactly as tests/resumes.py tells
 - `fund` and `resume` come to what tests/runs.py finds try by try, to the last byte of report and LOG: long walks apart
+- `wide`, `share` and `sweep` come to what tests/further.py finds, to the last byte of report and LOG, and each section of LOG is accepted:
+  long walks apart. `settle` comes to what tests/settlings.py finds
 - `resume` says exhausted, drawn or none only where `fund` of the same files, with tries enough, says so in the same report but
   for its tries; and `check` accepts it with LOG but for its tries. It accepts all that `fund` says
 - a job that `fund` kept comes, step by step, to what one `fund` with all these tries comes to, byte for byte
@@ -46,17 +49,20 @@ import tempfile
 
 import bumps
 import mutations
-from cases import FUND, THREE, TOP, Cases
+from cases import FUND, FURTHER, THREE, TOP, Cases, with_members
 from ends import Judge
 from kept_jobs import BESIDE, NAME
 from running import Place
 
 PROGRAM = TOP / "crates" / "fund_cli" / "out" / "fund_cli"
-KINDS = {"fund": 30, "bump": 6, "coins": 6, "keep": 2, "check": 24, "desk": 14, "words": 4, "work": 4, "resume": 8, "job file": 2}
+KINDS = {"fund": 30, "bump": 6, "coins": 6, "keep": 2, "check": 24, "desk": 14, "words": 4, "work": 4, "resume": 8, "job file": 2, "wide": 6, "share": 8,
+         "sweep": 6, "settle": 10}
 WORDS = {"coins": ["coins", *THREE[:2]], "fund": FUND, "keep": [*FUND, "job-1"], "resume": ["resume", *FUND[1:], "job-1"],
-         "check": ["check", *THREE, "report", "log"], "desk": ["desk", *THREE[:2], "script"]}
+         "check": ["check", *THREE, "report", "log"], "desk": ["desk", *THREE[:2], "script"],
+         "wide": ["wide", *FUND[1:]], "share": ["share", *FUND[1:]], "sweep": ["sweep", *THREE], "settle": ["settle", *FURTHER["settle"]]}
 OTHER = (b"of another job", {0: b"its part", 7: b"another"})
-PADDED = {"wallet.json": 16_777_216, "request.json": 1_048_576, "script": 16_777_216}
+HEADS = ("accepted", "funded", "none", "unfinished", "tip", "work", "shared", "swept", "settled")
+PADDED = {"wallet.json": 16_777_216, "request.json": 1_048_576, "script": 16_777_216, "tx": 1_048_576}
 STATEMENTS = ("CREATE TABLE more (a)", "CREATE INDEX more ON part (bytes)", "CREATE VIEW more AS SELECT 1", "DROP TABLE part",
               "DROP TABLE job", "ALTER TABLE job ADD COLUMN more BLOB", "ALTER TABLE job RENAME TO jobs",
               "PRAGMA journal_mode=DELETE", "PRAGMA user_version=7", "PRAGMA application_id=7", "VACUUM",
@@ -92,6 +98,8 @@ class Mutants:
             return mutations.mutate_log(rng, data)
         if name == "script":
             return mutations.mutate_script(rng, data)
+        if name == "tx":
+            return mutations.mutate_tx(rng, data)
         kind = 1.0 if name == "blocks.dat" else rng.random()
         if kind < 0.6:
             return mutations.mutate_gently(rng, name, data)
@@ -146,6 +154,30 @@ class Mutants:
         words = ["work", str(number), str(count)]
         return (mutations.mutate_words(rng, words) if rng.random() < 0.2 else words), {}
 
+    def wide(self):
+        return self.beside_funding("wide", method="changeless")
+
+    def share(self):
+        return self.beside_funding("share", method="weight")
+
+    def sweep(self):
+        return self.beside_funding("sweep")
+
+    def beside_funding(self, verb, **members):
+        """Files of the command, or of a payment that is asked for so; mostly mutated."""
+        rng = self.rng
+        files = rng.choice(self.cases.further[verb])
+        if rng.random() < 0.4:
+            files = with_members(rng.choice(self.cases.payments), **members) or files
+        if rng.random() < 0.2:
+            files = with_members(files, tries=rng.choice((1, 2, 3, 5, 9, 30))) or files
+        return WORDS[verb], self.changed(files, THREE[:1] * 2 + THREE[1:] + THREE[2:]) if rng.random() < 0.8 else files
+
+    def settle(self):
+        files = self.rng.choice(self.cases.further["settle"])
+        names = ("wallet.json", "request.json") + ("report",) * 3 + ("tx",) * 3
+        return WORDS["settle"], self.changed(files, names) if self.rng.random() < 0.8 else files
+
     def resume(self):
         rng, (files, job) = self.rng, self.rng.choice(self.cases.jobs)
         others = [other for other_files, other in self.cases.jobs if other_files == files]
@@ -191,7 +223,7 @@ def head_of(printed):
     """The words with which a text begins, but for numbers, names and coins."""
     words = printed.split(b"\n", 1)[0].decode(errors="replace").split(" ")
     if words[0] != "fault":
-        return words[0] if words[0] in ("accepted", "funded", "none", "unfinished", "tip", "work") else "replies"
+        return words[0] if words[0] in HEADS else "replies"
     return " ".join([word for word in words if word.isalpha()][:5]) if words[1] != "read" else "fault read"
 
 

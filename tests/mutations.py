@@ -261,6 +261,17 @@ def mutate_script(rng, text):
     return b" ".join(words) if kind == 4 else b"\n".join(words) + b"\n" * rng.randrange(2)
 
 
+def mutate_tx(rng, text):
+    """The hex of a transaction of which bytes or letters are others."""
+    try:
+        data = bytes.fromhex(text.decode())
+    except ValueError:
+        return mutate_bytes(rng, text)
+    if rng.random() < 0.2:
+        return mutate_bytes(rng, text)
+    return mutate_bytes(rng, data).hex().encode() + b"\n" * rng.randrange(2)
+
+
 def mutate_words(rng, words):
     """Words of a command of which one is another, went or came."""
     words, kind = list(words), rng.randrange(6)
@@ -274,7 +285,7 @@ def mutate_words(rng, words):
     elif kind == 3:
         words[place] = rng.choice(("", "0", "7", "00", "07", "-1", "+1", "1e1", "10000", "10001", "job-1", "a_b", "x" * 32, "y" * 33))
     elif kind == 4:
-        words[0] = rng.choice(("coins", "fund", "resume", "check", "desk", "work", "Fund", "help"))
+        words[0] = rng.choice(("coins", "fund", "resume", "check", "desk", "work", "wide", "share", "sweep", "settle", "Fund", "help"))
     else:
         words.append(rng.choice(("job-1", "", "1", "-", "a b", "\u00e4")))
     return words

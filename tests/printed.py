@@ -36,6 +36,10 @@ PSBT = (
     f"(?:Truncated|LongCompact|RepeatKey|Field|Version|WrongParent|Trailing|Mixed|Lacking|RequiredLock) {N}|Magic|NoUnsigned"
     f"|Unsigned {TX}|NotBare|NotBase64"
 )
+SETTLE = (
+    f"Report {N}|NotFunded|Psbt (?:{PSBT})|(?:NoValue|Foreign|Unsigned) {N}|Differs (?:Version|Locktime|Count|(?:Input|Output) {N})"
+    f"|Heavier {N} {N} {N}|TooHeavy {N}|BelowRate -?{N} {N}"
+)
 LETTERS = f"(?:(?:UnknownToken|ReasonFalse|TooLong|BetterMet) {N}|Open|AnswerNotAdmissible)"
 CHECK = f"(?:Report|LogForm|Section) {N}|Psbt (?:{PSBT})|Coin {COIN}|Pays|Log {N} {LETTERS}|Answer"
 SAVED = f"NoJob|SavedForm {N}|JobElse {HASH} {HASH}|SavedFalse (?:(?:Part|Section) {N}|Parts {HASH} {HASH}|IllFormed|Log {N} {LETTERS})"
@@ -43,6 +47,13 @@ SAVED = f"NoJob|SavedForm {N}|JobElse {HASH} {HASH}|SavedFalse (?:(?:Part|Sectio
 COUNTS = rf"weight {N}\nvsize {N}\nfee {N}\nwaste -?{N}\nchange (?:none|{N})\n"
 PLACE = rf"row [0-7]\nstage (?:{STAGES})\ntries {N}\n"
 FUNDED = rf"funded (?:{MARKS})\n{PLACE}(?:in {COIN} {N}\n)+{COUNTS}psbt [A-Za-z0-9+/]+=*\n"
+WIDE = rf"funded (?:exhausted|partial)\nrow [1-7]\nstage wide\ntries {N}\n(?:in {COIN} {N}\n)+{COUNTS}psbt [A-Za-z0-9+/]+=*\n"
+WIDE_UNFINISHED = rf"unfinished\ntries {N}\nrow [1-7]\nstage wide\n"
+FIGURES = rf"weight {N}\nvsize {N}\nfee {N}\n"
+SHARED = rf"shared\nrow [12]\ntries {N}\n(?:in {COIN} {N}\n)+(?:pay {N} {N}\n)+{FIGURES}change (?:none|{N})\npsbt [A-Za-z0-9+/]+=*\n"
+SHARE_UNFINISHED = rf"unfinished\ntries {N}\nrow [12]\nstage lean-small\n"
+SWEPT = rf"swept {N}\n(?:in {COIN} {N}\n)+{FIGURES}psbt [A-Za-z0-9+/]+=*\n"
+SETTLED = rf"settled {HASH}\n{FIGURES}spare {N}\n"
 UNFINISHED = rf"unfinished\ntries {N}\nrow [0-7]\nstage (?:{SEARCHES})\n"
 NONE = rf"none\ntries {N}\n"
 STATE = f"confirmed {N}|conflicted {HASH}|abandoned|replaced {HASH}|pending"
@@ -66,6 +77,7 @@ def limited(words):
 
 PAYMENT_LIMITS = "wallet|blocks|coins|request|groups"
 KEEP = r"fault keep\n"
+ASKED = f"{CHAIN}|request (?:{REQUEST})|plan Total {N}"
 PAYMENT = {0: FUNDED, 3: refused(FILES), 9: limited(PAYMENT_LIMITS), 10: UNFINISHED, 11: NONE}
 READ = r"fault read [^\n]+\n"
 FORMS = {
@@ -80,6 +92,23 @@ FORMS = {
         12: rf"fault check (?:{CHECK})\n",
     },
     "desk": {3: refused(CHAIN), 4: READ, 9: limited("wallet|blocks|coins|script|request")},
+    "wide": {0: WIDE, 3: refused(f"{ASKED}|plan NotWide"), 4: READ, 9: limited(PAYMENT_LIMITS), 10: WIDE_UNFINISHED, 11: NONE},
+    "share": {
+        0: SHARED,
+        3: refused(f"{ASKED}|plan NotShare|plan ShareDust {N}"),
+        4: READ,
+        9: limited(PAYMENT_LIMITS),
+        10: SHARE_UNFINISHED,
+        11: NONE,
+    },
+    "sweep": {0: SWEPT, 3: refused(f"{ASKED}|plan NotSweep|plan TooHeavy {N}"), 4: READ, 9: limited(PAYMENT_LIMITS), 11: r"none\ntries 0\n"},
+    "settle": {
+        0: SETTLED,
+        3: refused(f"wallet (?:{WALLET})|request (?:{REQUEST})|tx (?:Hex|{TX})"),
+        4: READ,
+        9: limited("wallet|request|report|tx"),
+        13: rf"fault settle (?:{SETTLE})\n",
+    },
     "work": {
         0: rf"{SUMMED}funded (?:{MARKS})\n{PLACE}{COUNTS}{DIGEST}",
         3: rf"fault input wallet Repeat earlier {N}\n",
@@ -103,6 +132,7 @@ REPLIES = {
 LOG = re.compile(
     rf"fund-log 1\n(?:section {N} (?:{SEARCHES}) {HASH}\ntokens [!-~]+\nanswer (?:none|{N}(?: {N})*)\n)*end\n".encode()
 )
+WIDE_LOG = re.compile(rf"wide-log 1\n(?:section {N} {HASH}\ntokens [IOSHVNTB]+\nanswer (?:none|{N}(?: {N})*)\n)*end\n".encode())
 OPEN_LOG = re.compile(
     rf"fund-log 1\n(?:section {N} (?:{SEARCHES}) {HASH}\ntokens [!-~]+\nanswer (?:none|{N}(?: {N})*)\n)*"
     rf"section {N} (?:{SEARCHES}) {HASH}\ntokens [!-~]*".encode()
@@ -132,9 +162,10 @@ def is_command(words):
     verb, rest = (words[0], words[1:]) if words else ("", [])
     if verb == "work":
         return len(rest) == 2 and is_number(rest[0], 0, 2**63 - 1) and is_number(rest[1], 1, 10_000)
-    names = {"coins": (2,), "desk": (3,), "check": (5,), "fund": (4, 5), "resume": (5,)}.get(verb, ())
+    names = {"coins": (2,), "desk": (3,), "check": (5,), "fund": (4, 5), "resume": (5,), "wide": (4,), "share": (4,), "sweep": (3,),
+             "settle": (4,)}.get(verb, ())
     if len(rest) not in names or not all(rest):
         return False
-    if verb not in ("fund", "resume"):
+    if verb not in ("fund", "resume", "wide", "share"):
         return True
     return rest[3] not in rest[:3] and (len(rest) == 4 or JOB.fullmatch(rest[4]) is not None)

@@ -18,6 +18,9 @@ class TooLong(Exception):
 class Walk:
     """A search's walk: the chosen places, the next one, the best so far, and the letters."""
 
+    # what is written where no place is left
+    last = "S"
+
     def __init__(self, problem):
         self.problem, self.items = problem, problem.items
         self.chosen, self.next, self.best, self.letters = [], 0, None, ""
@@ -89,7 +92,7 @@ class Walk:
             self.next = place
             if place < len(self.items):
                 return
-            self.letters += "S"
+            self.letters += self.last
             if not self.chosen:
                 self.end()
                 return

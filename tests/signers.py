@@ -1,14 +1,17 @@
 #!/usr/bin/python3
 """Signs what the program writes with Electrum, and verifies it with python-bitcoinlib; outside the gate.
 
-    tests/signers.py PROGRAM [COUNT] [SEED] [METHOD ..]
+    [NINELACE=NINELACE] tests/signers.py PROGRAM [COUNT] [SEED] [METHOD ..]
 
-PROGRAM is a built fund_cli. It wants Debian's python3-electrum and python3-bitcoinlib. COUNT requests (100) of the METHODs
+PROGRAM is a built fund_cli, and NINELACE a built ninelace. It wants Debian's python3-electrum and python3-bitcoinlib. COUNT requests (100) of the METHODs
 (all five) are made from the SEED (1), over wallets of P2WPKH, P2PKH, P2SH-P2WPKH, and 2 of 3 keys in P2WSH and P2SH.
 (Electrum 4.3 can't sign for P2TR.) Each payment is read by Electrum, signed and finished; each of its signatures is
 verified; its weight is compared with the declared one, and its fee with what the rate asks for its own size. Its mark, its
-change, its coins and its log have to fit the request.
+change, its coins and its log have to fit the request. `settle` has to take it, with the weight that it has less than declared;
+and with one byte of an output, one sequence or one input changed it has to name what differs. `ninelace settle` has to take it
+in hex, and as Electrum's finished PSBT in base64 and as bytes.
 """
+import base64
 import collections
 import hashlib
 import json
@@ -19,7 +22,7 @@ import subprocess
 import sys
 import tempfile
 
-from bitcoin.core import CTransaction
+from bitcoin.core import CMutableTransaction, CTransaction
 from bitcoin.core.key import CPubKey
 from bitcoin.core.script import CScript, SIGVERSION_WITNESS_V0, SignatureHash
 from electrum import bitcoin, ecc
@@ -122,6 +125,8 @@ class Case:
             return run.stdout.split("\n")[0]
         if run.returncode != 0:
             raise AssertionError(f"status {run.returncode}: {run.stdout}")
+        with open(os.path.join(folder, "report.txt"), "w", encoding="utf-8") as file:
+            file.write(run.stdout)
         with open(names[3], encoding="utf-8") as file:
             return [line.split(" ") for line in run.stdout.splitlines()], file.read().splitlines()
 
@@ -145,7 +150,7 @@ class Case:
 
 
 def sign(case, text):
-    """What Electrum makes of a PSBT: the finished transaction."""
+    """What Electrum makes of a PSBT: the finished transaction, and the finished PSBT."""
     payment = tx_from_any(text)
     pairs = {}
     for txin in payment.inputs():
@@ -161,7 +166,7 @@ def sign(case, text):
     payment.sign(pairs)
     payment.finalize_psbt()
     assert payment.is_complete(), "Electrum didn't finish it"
-    return bytes.fromhex(payment.serialize_to_network())
+    return bytes.fromhex(payment.serialize_to_network()), payment.serialize_as_bytes(force_psbt=True)
 
 
 def verify(case, data):
@@ -194,6 +199,46 @@ def weight_of(tx, data):
     return 3 * bare + len(data)
 
 
+def settled(words, folder, data):
+    """The status and the lines with which a program judges the file of a signed transaction."""
+    with open(os.path.join(folder, "signed"), "wb") as file:
+        file.write(data)
+    run = subprocess.run(words, cwd=folder, capture_output=True, text=True)
+    return run.returncode, run.stdout.splitlines()
+
+
+def others(tx, random_source):
+    """The same transaction with one thing changed, and how `settle` names that."""
+    for part in ("output", "sequence", "input"):
+        other = CMutableTransaction.from_tx(tx)
+        index = random_source.randrange(len(other.vout) if part == "output" else len(other.vin))
+        if part == "output":
+            script = bytearray(other.vout[index].scriptPubKey)
+            script[random_source.randrange(len(script))] ^= 1
+            other.vout[index].scriptPubKey = CScript(bytes(script))
+        elif part == "sequence":
+            other.vin[index].nSequence ^= 1
+        else:
+            other.vin[index].prevout.n ^= 1
+        yield f"fault settle Differs {'Output' if part == 'output' else 'Input'} {index}", other.serialize()
+
+
+def judge_settled(program, folder, tx, data, psbt, spare):
+    """Whether `settle` takes a signed payment and no other, and `ninelace settle` too in each form."""
+    words = [program, "settle", "wallet.json", "request.json", "report.txt", "signed"]
+    status, lines = settled(words, folder, data.hex().encode())
+    assert status == 0 and lines[-1] == f"spare {spare}", f"settle: {status} {lines}"
+    for line, other in others(tx, random.Random(data)):
+        assert settled(words, folder, other.hex().encode()) == (13, [line]), f"settle of another payment: {line}"
+    shown = os.environ.get("NINELACE")
+    if shown is None:
+        return
+    words = [os.path.abspath(shown), "settle", "--wallet", "wallet.json", "--request", "request.json", "--report", "report.txt", "signed"]
+    tables = [settled(words, folder, file) for file in (data.hex().encode(), base64.b64encode(psbt), psbt)]
+    assert tables[0][0] == 0 and tables[0][1][-1] == f"spare   {spare} WU", f"ninelace settle: {tables[0]}"
+    assert tables[1] == tables[0] and tables[2] == tables[0], f"ninelace settle of the PSBT: {tables[1:]}"
+
+
 def try_one(case, program, folder):
     """Funds, signs and verifies; the mark, and how much less than declared it weighs."""
     found = case.fund(program, folder)
@@ -202,7 +247,7 @@ def try_one(case, program, folder):
     report, log = found
     mark = case.judge(report, log)
     lines = {line[0]: line[-1] for line in report}
-    data = sign(case, lines["psbt"])
+    data, psbt = sign(case, lines["psbt"])
     tx = verify(case, data)
     declared, weight = int(lines["weight"]), weight_of(tx, data)
     spent = sum(case.coins[(txin.prevout.hash[::-1].hex(), txin.prevout.n)][1] for txin in tx.vin)
@@ -217,6 +262,7 @@ def try_one(case, program, folder):
     assert paid == due, "the recipients and the change"
     assert weight <= declared, f"it weighs {weight}, and {declared} were declared"
     assert 1000 * fee >= case.rate * -(-weight // 4), "the fee is below the rate"
+    judge_settled(program, folder, tx, data, psbt, declared - weight)
     return mark, declared - weight
 
 

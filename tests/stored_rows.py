@@ -56,7 +56,7 @@ def commands_of(part):
             name, text, *count = columns
             before = files.get(name, b"") if verb == "more" else b""
             files[name] = before + bytes_of(text) * int(count[0] if count else 1)
-        elif verb in ("do", "sum", "surely", "whole", "pay"):
+        elif verb in ("do", "sum", "surely", "whole", "pay", "settled"):
             yield Step(verb, columns, dict(files), puts)
 
 

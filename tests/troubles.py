@@ -28,10 +28,14 @@ LINES = {
     "not_pending_sentence": "input bump NotPending ",
     "state_sentence": "input bump NotPending ",
     "plan_sentence": "input plan ",
+    "unsuited_sentence": "input plan ",
     "psbt_sentence": "input psbt ",
     "tx_sentence": "input wallet Tx LIST INDEX ",
+    "signed_sentence": "input tx ",
     "address_sentence": "input request Address INDEX ",
     "check_sentence": "check ",
+    "settle_sentence": "settle ",
+    "differing_sentence": "settle Differs ",
     "kept_sentence": "saved ",
     "wallet_kind_sentence": "input wallet Kind ",
     "request_kind_sentence": "input request Kind ",
@@ -41,7 +45,8 @@ LINES = {
 OTHERS = {
     "Usage": "usage", "Read": "read NAME", "Write": "write NAME", "Keep": "keep", "Memory": "memory",
     "WalletLimit": "limit wallet", "BlocksLimit": "limit blocks", "RequestLimit": "limit request",
-    "CoinsLimit": "limit coins", "ScriptLimit": "limit script", "PsbtLimit": "limit psbt", "ReportLimit": "limit report", "LogLimit": "limit log", "RepeatCoin": "input book RepeatCoin COIN",
+    "CoinsLimit": "limit coins", "ScriptLimit": "limit script", "PsbtLimit": "limit psbt", "TxLimit": "limit tx", "NotHex": "input tx Hex",
+    "ReportLimit": "limit report", "LogLimit": "limit log", "RepeatCoin": "input book RepeatCoin COIN",
     "plan_sentence TooMany": "limit groups",
     "kept_sentence Form": "saved SavedForm", "kept_sentence Spent": "limit tries",
     "kept_sentence LongLog": "limit log", "kept_sentence Part": "saved SavedFalse Part",
@@ -65,7 +70,7 @@ SAME = {"Method": "fault input request Kind method", "Seed": "fault input reques
 # of a field its place in the line, as the pages write it
 FIELDS = {"place": "PLACE", "output": "OUTPUT", "height": "HEIGHT", "name": "NAME", "index": "INDEX", "list": "LIST",
           "fault": "FAULT", "coin": "COIN", "sum": "SUM", "number": "NUMBER", "kept": "KEPT", "found": "FOUND", "now": "NOW", "txid": "TXID", "n": "COUNT", "fee": "FEE", "vsize": "VSIZE",
-          "version": "VERSION", "input": "INPUT", "kind": "TYPE"}
+          "version": "VERSION", "input": "INPUT", "kind": "TYPE", "weight": "WEIGHT", "declared": "DECLARED", "needed": "NEEDED"}
 CASE = re.compile(r'^(\w+) \(?\w+\.(\w+)((?: \w+)*)\)? = codes "([^"]*)"$')
 NONE = re.compile(r'^(\w+) None = codes "([^"]*)"$')
 KIND = re.compile(r'^ +if bytes_eq name \(codes "(\w+)"\) then codes "([^"]*)" else$')

@@ -3,11 +3,13 @@
 use command_complete::complete;
 use command_end::Sources;
 use command_pay::{Ending, pay};
+use command_sweeping::{Ending as SweepEnding, sweep_asked};
 use fund_outside::{Keeper, SureKeeper};
 use fund_shelf::{Shelf, Sink, SureShelf, SureSink};
 use fund_top::{run, run_in_memory};
 use pay_words::{Asked, WordFault};
 use std::alloc::Global;
+use sweep_words::read_sweep;
 
 /// Does a command; its status as a number.
 pub(crate) fn ended<H: Shelf, O: Sink, K: Keeper>(
@@ -46,6 +48,21 @@ pub(crate) fn paid<H: Shelf + Drop, N: Shelf>(
     new_files: &mut N,
 ) -> (Result<(Asked, Ending), WordFault>, H) {
     pay(alloc, words.as_slice(), [0; 32], files, new_files)
+}
+
+/// Pays all coins to whom the words name over these files, with new files at another shelf; and the files.
+pub(crate) fn swept<H: Shelf + Drop, N: Shelf>(
+    alloc: Global,
+    words: &Vec<String>,
+    files: H,
+    new_files: &mut N,
+) -> (Result<(Asked, SweepEnding), WordFault>, H) {
+    let asked = match read_sweep(alloc, words.as_slice(), [0; 32]) {
+        Ok(asked) => asked,
+        Err(fault) => return (Err(fault), files),
+    };
+    let (ending, files) = sweep_asked(alloc, &asked, files, new_files);
+    (Ok((asked, ending)), files)
 }
 
 /// Makes a file.

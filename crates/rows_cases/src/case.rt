@@ -1,9 +1,11 @@
 //! The files and jobs of a case, and what is done with them.
 
-use crate::calls::{ended, ended_surely, keep, made_whole, make, paid};
+use crate::calls::{ended, ended_surely, keep, made_whole, make, paid, swept};
 use crate::columns::with_pieces;
-use crate::people::show_paid;
+use crate::people::{show_paid, show_swept};
+use crate::settled::settled;
 use crate::shown::{show, show_column, show_count, show_number};
+use crate::turning::Turning;
 use command_end::Sources;
 use fund_base::Memory;
 use fund_outside::{Keeper, MemKeeper};
@@ -171,6 +173,23 @@ impl Case {
         show_sum(rt, sink.written())
     }
 
+    /// Does a command while a file changes between its readings, and prints how it ended.
+    pub(crate) fn turn(&mut self, rt: &HostRuntime, columns: &[&str]) -> Result<(), Memory> {
+        let [name, turns, command @ ..] = columns else {
+            return Ok(());
+        };
+        let alloc = rt.alloc();
+        let words = words_behind(alloc, command)?;
+        let files = mem::replace(&mut self.shelf, shelf_of(alloc, "", "")?);
+        let mut shelf = Turning::new(alloc, files, name, turns)?;
+        let mut sink = self.sink(alloc)?;
+        let code = ended(alloc, &words, &mut shelf, &mut sink, &mut self.keeper);
+        self.shelf = shelf.into_shelf();
+        show_status(rt, column(command, 0), code)?;
+        show(rt, sink.written());
+        Ok(())
+    }
+
     /// Makes the PSBT of a file whole, and prints how it ended.
     pub(crate) fn whole(&mut self, rt: &HostRuntime, columns: &[&str]) -> Result<(), Memory> {
         let alloc = rt.alloc();
@@ -186,6 +205,11 @@ impl Case {
         Ok(())
     }
 
+    /// Looks whether a signed transaction settles a payment, and prints what is shown of it.
+    pub(crate) fn settled(&mut self, rt: &HostRuntime, columns: &[&str]) -> Result<(), Memory> {
+        settled(rt, columns, &mut self.shelf)
+    }
+
     /// Pays what words ask for, and prints how it ended.
     pub(crate) fn pay(&mut self, rt: &HostRuntime, columns: &[&str]) -> Result<(), Memory> {
         let alloc = rt.alloc();
@@ -195,6 +219,17 @@ impl Case {
         let (ended, files) = paid(alloc, &words, files, &mut self.new_files);
         self.shelf = files;
         show_paid(rt, ended)
+    }
+
+    /// Pays all coins to whom words name, and prints how it ended.
+    pub(crate) fn sweep(&mut self, rt: &HostRuntime, columns: &[&str]) -> Result<(), Memory> {
+        let alloc = rt.alloc();
+        let words = words_behind(alloc, columns)?;
+        self.new_files = shelf_of(alloc, "", column(columns, 0))?;
+        let files = mem::replace(&mut self.shelf, shelf_of(alloc, "", "")?);
+        let (ended, files) = swept(alloc, &words, files, &mut self.new_files);
+        self.shelf = files;
+        show_swept(rt, ended)
     }
 
     /// Prints a new file of the last payment.

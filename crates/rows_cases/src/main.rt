@@ -8,11 +8,15 @@
 //! - `do LABEL WORD ..` does the command of these words. It prints the label, which is a text, the status and what was printed.
 //!   `sum` does that too, and prints how many lines it was, and its SHA-256. `surely` does it without files and jobs, over an output
 //!   that never fails; a file that is missing is an empty one there.
+//! - `turn NAME NAMES LABEL WORD ..` does as `do`, and at its first reading the file NAME is what the first file of NAMES is, at its
+//!   second what the second is, and so on; it stays the last. NAMES have blanks between them, and no call fails.
 //! - `whole LABEL PSBT WALLET BLOCKS` makes the PSBT of a file whole, and prints as `do`.
+//! - `settled LABEL WALLET REQUEST REPORT TX` looks whether a signed transaction settles a payment. It prints the label, the status, and
+//!   the table of the payment or what is said in its place.
 //! - `log NAME` prints a file.
 //! - `save JOB NUMBER SAVED TEXT COUNT` keeps a part of a job with the saved text. `job JOB` prints what is kept of it.
 //! - `pay WRITES WORD ..` pays what the words ask for, and prints how that ended. Writes of new files of these numbers fail.
-//!   `new NAME` prints one of these.
+//!   `new NAME` prints one of these. `sweep WRITES WORD ..` pays all coins to whom the words name, and prints that as a table.
 //! - `asked LABEL WORD ..` prints the request of the words of a payment, or what is wrong with them. `fee FEE WORD ..` prints the
 //!   greatest fee that is taken with these words, and whether this fee is; `table REPORT WORD ..` the payment of a report, which is
 //!   a text, beside what they ask for.
@@ -27,7 +31,9 @@ mod calls;
 mod case;
 mod columns;
 mod people;
+mod settled;
 mod shown;
+mod turning;
 mod works;
 
 use case::{Case, surely};
@@ -68,8 +74,11 @@ fn other_row(
 ) -> Result<(), Memory> {
     match verb {
         "sum" => return case.sum(rt, columns),
+        "turn" => return case.turn(rt, columns),
         "whole" => return case.whole(rt, columns),
         "pay" => return case.pay(rt, columns),
+        "settled" => return case.settled(rt, columns),
+        "sweep" => return case.sweep(rt, columns),
         "save" => return case.save(rt.alloc(), columns),
         "new" => case.new_file(rt, columns),
         "job" => case.job(rt, columns),

@@ -4,11 +4,16 @@ use crate::shown::{show, show_column, show_count, show_line, show_number};
 use command_pay::{
     Ending, NewFile, fee_ceiling, high_fee_text, is_fee_taken, table_text, unwritten_text,
 };
+use command_sweeping::{Ending as SweepEnding, sweep_table};
 use fault_lines::line_sentence;
 use fund_base::Memory;
 use fund_report::{FundedReport, Report, read_report, write_report};
-use pay_words::{Asked, WordFault, flag_about, flag_word, read_pay, word_place, word_sentence};
+use pay_words::{
+    Asked, Way, WordFault, flag_about, flag_word, read_pay, word_place, word_sentence,
+};
 use row_columns::{column, number_in, unescaped, words_behind};
+use std::alloc::Global;
+use wide_report::read_wide_report;
 
 /// Prints the report of a payment, and its log.
 fn show_payment(rt: &HostRuntime, report: FundedReport, log: &[u8]) -> Result<(), Memory> {
@@ -60,6 +65,36 @@ pub(crate) fn show_paid(
         }
         Err(fault) => {
             show_line(rt, word_sentence(&fault));
+            Ok(())
+        }
+    }
+}
+
+/// Prints how a payment of all coins ended that these words ask for.
+fn show_sweep(rt: &HostRuntime, asked: &Asked, ending: SweepEnding) -> Result<(), Memory> {
+    match ending {
+        SweepEnding::Swept(report) => {
+            show(rt, b"swept\n");
+            let table = sweep_table(rt.alloc(), &asked.payments, &report)?;
+            show(rt, table.as_bytes());
+        }
+        SweepEnding::NotSwept(status, said) => show_unpaid(rt, status.code(), &said),
+        SweepEnding::FeeAboveMaximum(fee, most) => show_high(rt, fee, most),
+        SweepEnding::Unwritten => show(rt, b"psbt not written\n"),
+        SweepEnding::Memory => return Err(Memory),
+    }
+    Ok(())
+}
+
+/// Prints how a payment of all coins ended, or what is wrong with its words.
+pub(crate) fn show_swept(
+    rt: &HostRuntime,
+    ended: Result<(Asked, SweepEnding), WordFault>,
+) -> Result<(), Memory> {
+    match ended {
+        Ok((asked, ending)) => show_sweep(rt, &asked, ending),
+        Err(fault) => {
+            show_fault(rt, &fault);
             Ok(())
         }
     }
@@ -117,17 +152,31 @@ pub(crate) fn fee(rt: &HostRuntime, columns: &[&str]) -> Result<(), Memory> {
     Ok(())
 }
 
+/// The payment of a report by `fund`.
+fn funded_in(alloc: Global, report: &[u8]) -> Option<FundedReport> {
+    match read_report(alloc, report) {
+        Ok(Report::Funded(report)) => Some(report),
+        _ => None,
+    }
+}
+
+/// The payment of a report by the command of this way.
+fn payment_in(alloc: Global, way: Way, report: &[u8]) -> Option<FundedReport> {
+    match way {
+        Way::Fund => funded_in(alloc, report),
+        Way::Wide => match read_wide_report(alloc, report) {
+            Ok(report) => Some(report),
+            Err(_) => None,
+        },
+    }
+}
+
 /// Prints the payment of a report as a table.
 fn show_table(rt: &HostRuntime, asked: &Asked, report: &str) -> Result<(), Memory> {
     let bytes = unescaped(rt.alloc(), report.as_bytes())?;
-    match read_report(rt.alloc(), &bytes) {
-        Ok(Report::Funded(report)) => {
-            show_line(
-                rt,
-                table_text(rt.alloc(), &asked.payments, &report)?.as_str(),
-            );
-        }
-        _ => show(rt, b"no payment\n"),
+    match payment_in(rt.alloc(), asked.way, &bytes) {
+        Some(report) => show_line(rt, table_text(rt.alloc(), asked, &report)?.as_str()),
+        None => show(rt, b"no payment\n"),
     }
     Ok(())
 }
