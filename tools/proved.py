@@ -4,7 +4,8 @@
     python3 tools/proved.py              writes docs/PROVED.md
     python3 tools/proved.py --check      fails if docs/PROVED.md isn't what the sources make
     python3 tools/proved.py where NAME   the file of a definition, the fields of `run` that reach it, and each clause that does,
-                                         nearest first; CRATE::NAME where several crates have one of that name
+                                         nearest first; CRATE::NAME where several crates have one of that name. Where no field
+                                         does, the laws that say the same of definitions that a field reaches
     python3 tools/proved.py unreached    the definitions that no clause of a public call reaches
 
 It reads crates.txt for the crates and their order, src/ for the calls and specs/ for the definitions. A crate that is
@@ -20,6 +21,7 @@ from pathlib import Path
 
 TOP = Path(__file__).resolve().parent.parent
 PAGE = TOP / "docs" / "PROVED.md"
+DEFINITIONS = TOP / "docs" / "DEFINITIONS.md"
 WIDTH = 116
 TOP_CALL = "fund_top run: "
 LONGEST = 700  # letters of a clause that are shown; a longer one is cut
@@ -700,36 +702,123 @@ def ways(key, users):
     return below
 
 
+def in_tables(keys):
+    """Of these definitions those that a row of docs/DEFINITIONS.md names, beside a link to their file."""
+    rows = [line for line in DEFINITIONS.read_text().splitlines() if line.startswith("|")]
+    return [key for key in keys if any(f"`{key[2]}`" in row and f"({'../' + path_of(key)})" in row for row in rows)]
+
+
+def path_of(key):
+    return f"crates/{key[0]}/specs/{key[1].replace('.', '/')}.antt"
+
+
+def fields_of(below, direct):
+    """The fields of `run` that reach a definition, by those that are built on it."""
+    tops = [place.replace("`", "").partition(TOP_CALL) for one in below for place in direct.get(one, [])]
+    return list(dict.fromkeys(rest for _, call, rest in tops if call))
+
+
+BINDER = re.compile(r"\([^():]+ : [^()]*\)")  # names and their type
+
+
+def split_by(mark, text):
+    """The parts of a text between marks that stand in no bracket."""
+    parts, depth = [""], 0
+    for letter in text:
+        depth += {"(": 1, "[": 1, "{": 1, ")": -1, "]": -1, "}": -1}.get(letter, 0)
+        if letter == mark and depth == 0:
+            parts.append("")
+        else:
+            parts[-1] += letter
+    return parts
+
+
+def unwrapped(text):
+    """A text without the brackets around the whole of it."""
+    text = text.strip()
+    return text[1:-1] if text.startswith("(") and after_block(text, 0, code=False) == len(text) else text
+
+
+def said_with(key, clause, imports, known):
+    """Whether a clause concludes of a definition, and the others of which it says so: those of the other side of what it
+    concludes, else all of what it concludes, else those of its conditions."""
+    *conditions, conclusion = split_by("→", BINDER.sub("", clause.text))
+    sides = split_by("↔", unwrapped(conclusion))
+    there = [side for side in sides if key in named_in(side, "", "", imports, known)]
+    beside = [side for side in sides if len(sides) == 2 and side not in there]
+    for text in (" ".join(beside), conclusion, " ".join(conditions)):
+        others = [one for one in named_in(text, "", "", imports, known) if one != key]
+        if others:
+            return bool(there), others
+    return bool(there), []
+
+
+def laws_by_definition(crates, known):
+    """For each definition the laws that name it, each with its clause and its file's imports."""
+    laws = {}
+    for crate in crates:
+        for entry in crate.laws:
+            for clause, keys in names_of(entry, known):
+                for key in keys:
+                    laws.setdefault(key, []).append((f"{crate.name} {entry.title}", clause, entry.call.imports))
+    return laws
+
+
+def by_laws(key, laws, known, users, direct):
+    """Lines that lead from a definition to `run` by laws that name it: the law, another definition in it, and the fields that
+    reach that. Where a law concludes of the definition, only such laws count."""
+    lines = {True: [], False: []}
+    for title, clause, imports in laws.get(key, []):
+        concluded, others = said_with(key, clause, imports, known)
+        for one in others:
+            fields = fields_of(ways(one, users), direct)
+            if fields:
+                lines[concluded].append(f"by the law {title}: {one[2]}: {', '.join(fields)}")
+    return list(dict.fromkeys(lines[True] or lines[False]))
+
+
 def where(name):
     crates = crates_in_order()
     known, direct, _ = reach(crates)
-    users = above(known)
+    users, laws = above(known), laws_by_definition(crates, known)
     crate, _, name = name.rpartition("::")
     keys = [key for key in known if key[2] == name and crate in ("", key[0])]
     if not keys:
         sys.exit(f"{name}: no definition of specs/ has this name")
     if len(keys) > 1:
+        first = in_tables(keys)
+        keys = first + [key for key in keys if key not in first]
         print(f"{len(keys)} definitions: {', '.join(f'{key[0]}::{name}' for key in keys)}")
+        if first:
+            print(f"in docs/DEFINITIONS.md: {', '.join(f'{key[0]}::{name}' for key in first)}")
     for key in keys:
-        print(f"{name}: crates/{key[0]}/specs/{key[1].replace('.', '/')}.antt")
+        print(f"{name}: {path_of(key)}")
         below = ways(key, users)
         if not any(one in direct for one in below):
             print("  no clause of a public call reaches it")
-        tops = [place.replace("`", "").partition(TOP_CALL) for one in below for place in direct.get(one, [])]
-        fields = list(dict.fromkeys(rest for _, call, rest in tops if call))
+        fields = fields_of(below, direct)
         if fields:
             print(f"  {TOP_CALL}{', '.join(fields)}")
-        for one in below:
-            if one not in direct:
-                continue
-            way, at = [], one
-            while at != key:
-                way.append(at[2])
-                at = below[at]
-            if way:
-                print(f"  through {' on '.join(way)} ({one[0]} {one[1]})")
-            for place in dict.fromkeys(direct[one]):
-                print(f"    {place.replace('`', '')}")
+        else:
+            lines = (by_laws(one, laws, known, users, direct) for one in below)
+            for line in next(filter(None, lines), []):
+                print(f"  {line}")
+        print_clauses(key, below, direct)
+
+
+def print_clauses(key, below, direct):
+    """Prints the clauses that reach a definition, nearest first, with the way of each."""
+    for one in below:
+        if one not in direct:
+            continue
+        way, at = [], one
+        while at != key:
+            way.append(at[2])
+            at = below[at]
+        if way:
+            print(f"  through {' on '.join(way)} ({one[0]} {one[1]})")
+        for place in dict.fromkeys(direct[one]):
+            print(f"    {place.replace('`', '')}")
 
 
 def unreached():
