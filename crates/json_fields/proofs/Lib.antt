@@ -10,4 +10,5 @@ pub mod NumberLaws
 pub mod ObjectLaws
 pub mod Parsed
 pub mod Tables
+pub mod Trees
 pub mod ValueFacts

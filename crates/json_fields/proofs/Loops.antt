@@ -5,10 +5,14 @@ use Rattle.std.proofs.lemmas.List.Elements.{All-nil, All-push}
 use Rattle.std.specs.Prelude.{All}
 use Rattle.fund_base.specs.Parsing.{◌>>=◌}
 use Rattle.serde_json.specs.Data.{Data, Items, no_items, item}
-use Rattle.serde_json.specs.View.{view, items_view}
-use Rattle.serde_json.specs.declared.value.Value.{Value}
+use Rattle.std.specs.declared.alloc.Global.{Global}
+use Rattle.json.specs.declared.value.Value as declared
 use Rattle.json_fields.specs.Fields.{each_from}
 use Rattle.json_fields.specs.Memory.{StoresFirst}
+use Rattle.json_fields.specs.Tree.{view, items_view}
+
+abbrev Value : Type 0
+Value = declared.Value Global
 
 -- what is left to read from place i on
 abbrev pub rest_of : List Value → ℕ → Items

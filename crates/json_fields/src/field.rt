@@ -1,15 +1,16 @@
-//! Values of one kind: numbers, flags, texts, hashes, coins and lists. None of them takes memory.
+//! Values of one kind: numbers, flags, texts, hashes and coins. None of them takes memory.
 
 ghost use Rattle.std.specs.Prelude.{◌≡◌, ◌≢◌, ◌≤◌, IfOk, IfSome, Err};
-ghost use Rattle.serde_json.specs.View.{view, items_view};
-ghost use Rattle.json_fields.specs.Fields.{number_at, flag_at, text_at, entries_at, hash_in, hash_at, point_in, coin_in, coin_at, IsHash, IsPoint};
+ghost use Rattle.json_fields.specs.Tree.{view};
+ghost use Rattle.json_fields.specs.Fields.{number_at, flag_at, text_at, hash_in, hash_at, point_in, coin_in, coin_at, IsHash, IsPoint};
 ghost use Rattle.json_fields.specs.Memory.{Exactly};
 ghost use Rattle.json_fields.specs.declared.fault.FieldFault.TheVariants.{Memory};
 
 use crate::fault::FieldFault;
+use crate::tree::{bool_in, str_in, u64_in};
 use fund_base::{OutPoint, Txid, are_bytes, read_decimal};
 use hex::FromHex;
-use serde_json::Value;
+use json::Value;
 
 /// The whole number of at most `most`.
 #[tactic(auto, unfolding(crate::specs::Fields::number_at))]
@@ -18,7 +19,7 @@ pub fn number_of(value: &Value, name: &'static str, most: u64) -> Result<u64, Fi
     ensures never { result ≢ Err Memory }
     ensures most { IfOk result (λ n. n ≤ most) }
 {
-    match value.as_u64() {
+    match u64_in(value) {
         Some(n) if n <= most => Ok(n),
         _ => Err(FieldFault::kind(name)),
     }
@@ -29,30 +30,19 @@ pub fn flag_of(value: &Value, name: &'static str) -> Result<bool, FieldFault>
     ensures exact { result ≡ flag_at name.now (view value.now) }
     ensures never { result ≢ Err Memory }
 {
-    match value.as_bool() {
+    match bool_in(value) {
         Some(flag) => Ok(flag),
         None => Err(FieldFault::kind(name)),
     }
 }
 
 /// The text of a string.
-pub fn text_of<'a>(value: &'a Value, name: &'static str) -> Result<&'a str, FieldFault>
+pub fn text_of<'t>(value: &Value<'t>, name: &'static str) -> Result<&'t str, FieldFault>
     ensures exact { Exactly (λ t. t.now) result (text_at name.now (view value.now)) }
     ensures never { result ≢ Err Memory }
 {
-    match value.as_str() {
+    match str_in(value) {
         Some(text) => Ok(text),
-        None => Err(FieldFault::kind(name)),
-    }
-}
-
-/// The entries of a list.
-pub fn entries_of<'a>(value: &'a Value, name: &'static str) -> Result<&'a [Value], FieldFault>
-    ensures exact { Exactly (λ v. items_view v.now) result (entries_at name.now (view value.now)) }
-    ensures never { result ≢ Err Memory }
-{
-    match value.as_array() {
-        Some(entries) => Ok(entries.as_slice()),
         None => Err(FieldFault::kind(name)),
     }
 }

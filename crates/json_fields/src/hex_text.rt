@@ -7,14 +7,14 @@ ghost use Rattle.std.specs.Result.{result_ok};
 ghost use Rattle.fund_base.specs.Cursor.{IsBytes};
 ghost use Rattle.fund_base.specs.Parsing.{YieldsAll};
 ghost use Rattle.hex.specs.Hex.{decode_of};
-ghost use Rattle.serde_json.specs.View.{view};
+ghost use Rattle.json_fields.specs.Tree.{view};
 ghost use Rattle.json_fields.specs.Fields.{hex_at};
 ghost use Rattle.json_fields.specs.declared.fault.FieldFault.TheVariants.{Memory as NoMemory};
 
 use crate::fault::FieldFault;
 use crate::field::text_of;
 use fund_base::{Memory, are_bytes};
-use serde_json::Value;
+use json::Value;
 use std::alloc::Global;
 use std::marker::Model;
 
@@ -84,7 +84,7 @@ impl<'a> HexText<'a> {
 
 /// The string that spells bytes in hex: an even number of digits, in either case.
 #[tactic(auto, unfolding(crate::specs::Fields::hex_at))]
-pub fn hex_text_of<'a>(value: &'a Value, name: &'static str) -> Result<HexText<'a>, FieldFault>
+pub fn hex_text_of<'t>(value: &Value<'t>, name: &'static str) -> Result<HexText<'t>, FieldFault>
     ensures exact { result ≡ hex_at name.now (view value.now) }
     ensures never { result ≢ Err NoMemory }
 {

@@ -7,13 +7,16 @@ mod fault;
 mod field;
 mod hex_text;
 mod laws;
+mod number;
 mod object;
+mod tree;
 
 pub use fault::{FieldFault, MemberName, Name};
-pub use field::{coin_of, entries_of, flag_of, hash_of, number_of, text_of, txid_of};
+pub use field::{coin_of, flag_of, hash_of, number_of, text_of, txid_of};
 pub use hex_text::{HexText, hex_of, hex_text_of};
 pub use laws::{
     reads_coins, reads_hashes, reads_hex, reads_last_values, reads_lists, reads_numbers,
     reads_objects,
 };
-pub use object::{member_of, object_of, parse};
+pub use object::{member_of, object_of};
+pub use tree::{items_in, member_in, parse, str_in};

@@ -1,38 +1,24 @@
-//! The value that a file is, its objects and their members.
+//! Objects and their members.
 
-ghost use Rattle.std.specs.Prelude.{◌≡◌, ◌≢◌, ℕ, List, Err, find, not, bytes_eq, is_none, option_map, string_bytes};
+ghost use Rattle.std.specs.Prelude.{◌≡◌, ◌≢◌, ℕ, List, Err, filter, find, not, bytes_eq, is_none, option_map};
 ghost use Rattle.std.specs.Borrow.{Bor};
-ghost use Rattle.std.specs.BTreeMap.{IsOrdered, keys};
 ghost use Rattle.std.specs.List.{list_any};
 ghost use Rattle.std.specs.Option.{option_copied};
-ghost use Rattle.std.specs.String.{string_cmp};
+ghost use Rattle.json.specs.Strict.{keys};
+ghost use Rattle.json.specs.Value as trees;
+ghost use Rattle.serde_json.specs.Data.{no_members};
 ghost use Rattle.serde_json.specs.Find.{get};
-ghost use Rattle.serde_json.specs.View.{view, members_view};
 ghost use Rattle.fund_base.specs.Parsing.{YieldsAll};
-ghost use Rattle.json_fields.specs.Fields.{texts, value_of, unknown_in, least, first_missing, object_at, member_at};
+ghost use Rattle.json_fields.specs.Fields.{texts, is_among, unknown_in, lesser, least, first_missing, object_at, member_at};
 ghost use Rattle.json_fields.specs.Memory.{Exactly, StoresName};
+ghost use Rattle.json_fields.specs.Tree.{lesser_than, members_data, view};
 ghost use Rattle.json_fields.specs.declared.fault.FieldFault.TheVariants.{Memory};
 
 use crate::fault::FieldFault;
-use serde_json::{Map, Value};
+use crate::tree::{member_in, members_in};
+use json::Value;
 use std::alloc::Global;
-
-/// The value that the bytes are. [`FieldFault::NotJson`] exactly where `serde_json` doesn't take them.
-#[tactic(auto, unfolding(crate::specs::Fields::value_of))]
-pub fn parse(alloc: Global, bytes: &[u8]) -> Result<Value, FieldFault>
-    ensures { YieldsAll Memory (λ v. view v) result (value_of bytes.now) }
-{
-    match Value::from_slice(alloc, bytes) {
-        Ok(value) => Ok(value),
-        Err(e) => {
-            if e.is_memory() {
-                Err(FieldFault::Memory)
-            } else {
-                Err(FieldFault::NotJson)
-            }
-        }
-    }
-}
+use std::cmp::Ordering;
 
 /// Whether the name is one of these.
 fn is_among(names: &[&str], name: &str) -> bool
@@ -41,26 +27,51 @@ fn is_among(names: &[&str], name: &str) -> bool
     names.iter().any(|other| name == *other)
 }
 
-/// The first member, in the order of the map, whose name isn't known.
-fn unknown_key<'a>(known: &[&str], members: &'a Map<String, Value>) -> Option<&'a String>
-    ensures first { option_copied result ≡ find (λ k. not (list_any (λ (n : Bor (List ℕ)). bytes_eq (string_bytes k) n.now) known.now)) (keys members.now) }
-    ensures ordered { IsOrdered string_cmp members.now }
+/// Of two names the lesser by bytes.
+fn lesser<'t>(name: &'t str, other: &'t str) -> &'t str
+    ensures { result.now ≡ lesser name.now other.now }
 {
-    members.keys().find(|name| !is_among(known, name.as_str()))
+    match name.cmp(other) {
+        Ordering::Greater => other,
+        _ => name,
+    }
+}
+
+/// Of a name and the least before it, the lesser by bytes.
+fn lesser_than<'t>(least: Option<&'t str>, name: &'t str) -> &'t str
+    ensures { result.now ≡ lesser_than (option_map (λ (n : Bor (List ℕ)). n.now) least.entry) name.now }
+{
+    match least {
+        Some(other) => lesser(other, name),
+        None => name,
+    }
 }
 
 /// The least name by bytes that isn't known.
-fn least_unknown<'a>(known: &[&str], members: &'a Map<String, Value>) -> Option<&'a String>
-    ensures { option_map string_bytes (option_copied result) ≡ least (unknown_in (texts known.now) (members_view members.now.entries)) }
+fn least_among<'t>(known: &[&str], members: &[(&'t str, Value<'t>)]) -> Option<&'t str>
+    ensures { option_map (λ (n : Bor (List ℕ)). n.now) result ≡ least (filter (λ name. not (is_among (texts known.now) name)) (keys (trees.members_view members.now))) }
 {
-    unknown_key(known, members)
+    let mut least = None;
+    for member in members {
+        if !is_among(known, member.0) {
+            least = Some(lesser_than(least, member.0));
+        }
+    }
+    least
+}
+
+/// The same, of the object whose members these are.
+fn least_unknown<'t>(known: &[&str], members: &[(&'t str, Value<'t>)]) -> Option<&'t str>
+    ensures { option_map (λ (n : Bor (List ℕ)). n.now) result ≡ least (unknown_in (texts known.now) (members_data (trees.members_view members.now) no_members)) }
+{
+    least_among(known, members)
 }
 
 /// Whether there is no member of this name.
 fn lacks(value: &Value, name: &str) -> bool
     ensures { result ≡ is_none (get name.now (view value.now)) }
 {
-    value.get(name).is_none()
+    member_in(value, name).is_none()
 }
 
 /// The first of the required names that the object lacks.
@@ -92,11 +103,11 @@ pub fn object_of(
     // Memory is taken for the name of an unknown member alone.
     ensures short { result ≡ Err Memory → StoresName (object_at whole.now (texts known.now) (texts required.now) (view value.now)) }
 {
-    let Some(members) = value.as_object() else {
+    let Some(members) = members_in(value) else {
         return Err(FieldFault::kind(whole));
     };
     if let Some(name) = least_unknown(known, members) {
-        return Err(FieldFault::member(alloc, name.as_str()));
+        return Err(FieldFault::member(alloc, name));
     }
     match first_missing(required, value) {
         Some(name) => Err(FieldFault::missing(name)),
@@ -106,11 +117,14 @@ pub fn object_of(
 
 /// The member of this name, or [`FieldFault::Missing`].
 #[tactic(auto, unfolding(crate::specs::Fields::member_at))]
-pub fn member_of<'a>(value: &'a Value, name: &'static str) -> Result<&'a Value, FieldFault>
+pub fn member_of<'v, 't>(
+    value: &'v Value<'t>,
+    name: &'static str,
+) -> Result<&'v Value<'t>, FieldFault>
     ensures exact { Exactly (λ v. view v.now) result (member_at name.now (view value.now)) }
     ensures never { result ≢ Err Memory }
 {
-    match value.get(name) {
+    match member_in(value, name) {
         Some(member) => Ok(member),
         None => Err(FieldFault::missing(name)),
     }

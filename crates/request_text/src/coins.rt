@@ -3,7 +3,7 @@
 ghost use Rattle.std.specs.Prelude.{◌≡◌, ◌≢◌, ◌≤◌, [], All, AllPairs, Err, IfErr, IfOk, IsOk, None, Ok, OnOk, codes, length};
 ghost use Rattle.indexmap.specs.IndexSet.{IsEmpty, spare};
 ghost use Rattle.serde_json.specs.Find.{get};
-ghost use Rattle.serde_json.specs.View.{view, items_view};
+ghost use Rattle.json_fields.specs.Tree.{view, items_view};
 ghost use Rattle.json_fields.specs.Fields.{IsPoint, coin_at, each_from, refuse};
 ghost use Rattle.fund_base.specs.Parsing.{YieldsAll};
 ghost use Rattle.json_fields.specs.Memory.{StoresFirst, StoresList, StoresOptional};
@@ -16,8 +16,8 @@ use crate::bounds::index_of;
 use crate::fault::Refusal;
 use fund_base::{Memory, OutPoint};
 use indexmap::IndexSet;
-use json_fields::{FieldFault, coin_of, entries_of};
-use serde_json::Value;
+use json::Value;
+use json_fields::{FieldFault, coin_of, items_in, member_in};
 use std::alloc::Global;
 
 /// The coins that these entries are.
@@ -71,7 +71,10 @@ fn coins_of(alloc: Global, value: &Value) -> Result<Vec<OutPoint>, Refusal>
     ensures distinct { IfOk result (λ v. AllPairs (λ a b. a ≢ b) v.items) }
     ensures cause { IfErr result HasCause }
 {
-    let coins = coins_from(alloc, entries_of(value, "coins")?)?;
+    let Some(entries) = items_in(value) else {
+        return Err(Refusal::from(FieldFault::kind("coins")));
+    };
+    let coins = coins_from(alloc, entries)?;
     let mut seen = IndexSet::with_capacity(alloc, coins.len())?;
     check_distinct(&mut seen, &coins)?;
     Ok(coins)
@@ -85,7 +88,7 @@ pub fn coins_or_none(alloc: Global, whole: &Value) -> Result<Vec<OutPoint>, Refu
     ensures distinct { IfOk result (λ v. AllPairs (λ a b. a ≢ b) v.items) }
     ensures cause { IfErr result HasCause }
 {
-    match whole.get("coins") {
+    match member_in(whole, "coins") {
         Some(value) => coins_of(alloc, value),
         None => Ok(Vec::new(alloc)),
     }

@@ -2,7 +2,7 @@
 
 ghost use Rattle.std.specs.Prelude.{◌≡◌, ◌≢◌, ◌≤◌, ◌==◌, ◌||◌, IfErr, IfOk, IfSome, IsSome, Ok, Err, is_some, nat_lt, replicate, codes, true, if◌then◌else◌};
 ghost use Rattle.serde_json.specs.Find.{get};
-ghost use Rattle.serde_json.specs.View.{view};
+ghost use Rattle.json_fields.specs.Tree.{view};
 ghost use Rattle.json_fields.specs.Fields.{IsHash, flag_at, number_at};
 ghost use Rattle.json_fields.specs.declared.fault.FieldFault.TheVariants.{Memory as NoMemory};
 ghost use Rattle.request_text.specs.RequestText.{bump_at, field, method_at, method_in, or_else, rate_at, seed_at, take_at, take_in, tries_at, version_at};
@@ -15,8 +15,8 @@ use crate::request::Method;
 use fee_rates::MAX_RATE;
 use fund_base::{MOST_TRIES, Txid, are_bytes};
 use hex::FromHex;
-use json_fields::{FieldFault, Name, flag_of, number_of, text_of, txid_of};
-use serde_json::Value;
+use json::Value;
+use json_fields::{FieldFault, Name, flag_of, member_in, number_of, text_of, txid_of};
 
 /// The rate, of at most 100,000,000.
 #[tactic(auto, unfolding(crate::specs::RequestText::rate_at))]
@@ -41,7 +41,7 @@ pub fn rate_or(whole: &Value, name: &'static str, default: u64) -> Result<u64, R
     ensures most { IfOk result (λ n. n ≤ MAX_RATE) }
     ensures cause { IfErr result HasCause }
 {
-    match whole.get(name) {
+    match member_in(whole, name) {
         Some(value) => rate_of(value, name),
         None => Ok(default),
     }
@@ -54,7 +54,7 @@ pub fn number_or(whole: &Value, name: &'static str, most: u64, default: u64) -> 
     ensures never { result ≢ Err (FieldRefusal NoMemory) }
     ensures most { IfOk result (λ n. n ≤ most) }
 {
-    match whole.get(name) {
+    match member_in(whole, name) {
         Some(value) => Ok(number_of(value, name, most)?),
         None => Ok(default),
     }
@@ -65,7 +65,7 @@ pub fn flag_or(whole: &Value, name: &'static str, default: bool) -> Result<bool,
     ensures exact { result ≡ or_else default (λ m. field (flag_at name.now m)) name.now (view whole.now) }
     ensures never { result ≢ Err (FieldRefusal NoMemory) }
 {
-    match whole.get(name) {
+    match member_in(whole, name) {
         Some(value) => Ok(flag_of(value, name)?),
         None => Ok(default),
     }
@@ -107,7 +107,7 @@ pub fn method_or_auto(whole: &Value) -> Result<Method, Refusal>
     ensures exact { result ≡ or_else Method.Auto (λ m. field (method_at m)) (codes "method") (view whole.now) }
     ensures never { result ≢ Err (FieldRefusal NoMemory) }
 {
-    match whole.get("method") {
+    match member_in(whole, "method") {
         Some(value) => method_of(value),
         None => Ok(Method::Auto),
     }
@@ -130,7 +130,7 @@ pub fn seed_or_zeros(whole: &Value) -> Result<[u8; 32], Refusal>
     ensures never { result ≢ Err (FieldRefusal NoMemory) }
     ensures is { IfOk result IsHash }
 {
-    let seed = match whole.get("seed") {
+    let seed = match member_in(whole, "seed") {
         Some(value) => seed_of(value)?,
         None => [0; 32],
     };
@@ -169,7 +169,7 @@ pub fn tries_or(whole: &Value, default: u64) -> Result<u64, Refusal>
     ensures range { IfOk result (λ n. (1 ≤ n) × (n ≤ 10_000_000)) }
     ensures cause { IfErr result HasCause }
 {
-    match whole.get("tries") {
+    match member_in(whole, "tries") {
         Some(value) => tries_of(value),
         None => Ok(default),
     }
@@ -204,7 +204,7 @@ pub fn take_or_true(whole: &Value) -> Result<bool, Refusal>
     ensures exact { result ≡ or_else true (λ m. field (take_at m)) (codes "when_unfinished") (view whole.now) }
     ensures never { result ≢ Err (FieldRefusal NoMemory) }
 {
-    match whole.get("when_unfinished") {
+    match member_in(whole, "when_unfinished") {
         Some(value) => take_of(value),
         None => Ok(true),
     }
@@ -217,7 +217,7 @@ pub fn bump_or_none(whole: &Value) -> Result<Option<Txid>, Refusal>
     ensures is { IfOk result (λ b. IfSome b IsHash) }
     ensures there { IfOk result (λ b. IsSome b → is_some (get (codes "bump") (view whole.now)) ≡ true) }
 {
-    match whole.get("bump") {
+    match member_in(whole, "bump") {
         Some(value) => Ok(Some(txid_of(value, "bump")?)),
         None => Ok(None),
     }
@@ -242,7 +242,7 @@ pub fn version_or_zero(whole: &Value) -> Result<u32, Refusal>
     ensures never { result ≢ Err (FieldRefusal NoMemory) }
     ensures is { IfOk result IsVersion }
 {
-    match whole.get("psbt") {
+    match member_in(whole, "psbt") {
         Some(value) => version_of(value),
         None => Ok(0),
     }

@@ -3,7 +3,7 @@
 ghost use Rattle.std.specs.Prelude.{◌≡◌, Err, IfOk, IfErr, is_some, codes, true};
 ghost use Rattle.serde_json.specs.Data.{Data};
 ghost use Rattle.serde_json.specs.Find.{get};
-ghost use Rattle.serde_json.specs.View.{view};
+ghost use Rattle.json_fields.specs.Tree.{view};
 ghost use Rattle.fund_base.specs.Parsing.{YieldsAll};
 ghost use Rattle.json_fields.specs.Fields.{object_at, parsed, texts};
 ghost use Rattle.json_fields.specs.Memory.{StoresName};
@@ -21,8 +21,8 @@ use crate::member::method_in;
 use crate::recipients::recipients_of;
 use crate::request::{Method, Request};
 use crate::settings::{policy_of, rates_of, search_of, terms_of};
-use json_fields::{FieldFault, member_of, object_of, parse};
-use serde_json::Value;
+use json::{Scratch, Value};
+use json_fields::{FieldFault, member_in, member_of, object_of, parse, str_in};
 use std::alloc::Global;
 
 /// Whether the method draws at random, so that a seed has to be given.
@@ -37,8 +37,8 @@ fn draws(method: Method) -> bool
 fn needs_seed(value: &Value) -> bool
     ensures { result ≡ needs_seed (view value.now) }
 {
-    match value.get("method") {
-        Some(method) => match method.as_str() {
+    match member_in(value, "method") {
+        Some(method) => match str_in(method) {
             Some(word) => match method_in(word) {
                 Some(method) => draws(method),
                 None => false,
@@ -66,7 +66,7 @@ fn whole_among(alloc: Global, value: &Value, known: &[&str]) -> Result<(), Field
 fn has(value: &Value, name: &str) -> bool
     ensures { result ≡ is_some (get name.now (view value.now)) }
 {
-    value.get(name).is_some()
+    member_in(value, name).is_some()
 }
 
 /// That the value is an object with known members and the required ones.
@@ -144,7 +144,8 @@ fn request_from(alloc: Global, bytes: &[u8]) -> Result<Request, Refusal>
     ensures seed { IfOk result (λ r. (d : Data) → parsed bytes.now ≡ Some d → draws r.method ≡ true → is_some (get (codes "seed") d) ≡ true) }
     ensures cause { IfErr result HasCause }
 {
-    let value = parse(alloc, bytes)?;
+    let mut scratch = Scratch::new(alloc);
+    let value = parse(alloc, bytes, &mut scratch)?;
     request_in(alloc, &value)
 }
 

@@ -2,7 +2,7 @@
 
 ghost use Rattle.std.specs.Prelude.{◌≡◌, ◌≢◌, ◌≤◌, ◌<◌, ◌==◌, ◌||◌, [], All, IfOk, IfErr, IsOk, IsTrue, ◌↔◌, Ok, Err, codes, length, nat_lt, if◌then◌else◌};
 ghost use Rattle.serde_json.specs.Find.{get};
-ghost use Rattle.serde_json.specs.View.{view, items_view};
+ghost use Rattle.json_fields.specs.Tree.{view, items_view};
 ghost use Rattle.json_fields.specs.Fields.{each_from};
 ghost use Rattle.json_fields.specs.Memory.{StoresFirst, StoresList};
 ghost use Rattle.json_fields.specs.declared.fault.FieldFault.TheVariants.{Memory as NoMemory};
@@ -19,11 +19,11 @@ use crate::fault::Refusal;
 use crate::request::Recipient;
 use fee_rates::dust;
 use fund_base::{MAX_MONEY, Script, are_bytes};
+use json::Value;
 use json_fields::{
-    FieldFault, HexText, entries_of, hex_text_of, member_of, number_of, object_of, text_of,
+    FieldFault, HexText, hex_text_of, items_in, member_in, member_of, number_of, object_of, text_of,
 };
 use segwit_addr::{AddrFault, decode};
-use serde_json::Value;
 use std::alloc::Global;
 
 /// The greatest length of a script, in bytes.
@@ -34,7 +34,7 @@ fn one_of(entry: &Value) -> Result<(), FieldFault>
     ensures exact { result ≡ one_of (get (codes "address") (view entry.now)) (get (codes "script") (view entry.now)) }
     ensures never { result ≢ Err NoMemory }
 {
-    match (entry.get("address"), entry.get("script")) {
+    match (member_in(entry, "address"), member_in(entry, "script")) {
         (Some(_), None) | (None, Some(_)) => Ok(()),
         _ => Err(FieldFault::kind("recipients")),
     }
@@ -159,7 +159,7 @@ fn next_recipient(alloc: Global, before: &[Recipient], entry: &Value) -> Result<
         &["amount"],
     )?;
     let index = index_of(before.len());
-    match entry.get("address") {
+    match member_in(entry, "address") {
         Some(address) => to_address(alloc, index, address, entry),
         None => to_script(alloc, index, entry),
     }
@@ -218,7 +218,10 @@ pub fn recipients_of(alloc: Global, value: &Value) -> Result<Vec<Recipient>, Ref
     ensures money { IfOk result (λ v. paid_to v.items ≤ 2_100_000_000_000_000) }
     ensures cause { IfErr result HasCause }
 {
-    let recipients = recipients_from(alloc, entries_of(value, "recipients")?)?;
+    let Some(entries) = items_in(value) else {
+        return Err(Refusal::from(FieldFault::kind("recipients")));
+    };
+    let recipients = recipients_from(alloc, entries)?;
     check_recipients(&recipients)?;
     Ok(recipients)
 }

@@ -2,7 +2,7 @@
 
 ghost use Rattle.std.specs.Prelude.{◌≡◌, ◌≢◌, ◌<◌, ◌≤◌, ◌^◌, IfErr, IfOk, IfSome, IsSome, Ok, Err, codes, is_some, true};
 ghost use Rattle.serde_json.specs.Find.{get};
-ghost use Rattle.serde_json.specs.View.{view};
+ghost use Rattle.json_fields.specs.Tree.{view};
 ghost use Rattle.json_fields.specs.Fields.{IsHash};
 ghost use Rattle.json_fields.specs.declared.fault.FieldFault.TheVariants.{Memory as NoMemory};
 ghost use Rattle.request_text.specs.Parts.{AreRates, policy_at, rates_at, search_at, terms_at};
@@ -18,8 +18,8 @@ use crate::member::{
 };
 use crate::request::Method;
 use fund_base::{MAX_MONEY, Txid};
+use json::Value;
 use json_fields::member_of;
-use serde_json::Value;
 
 /// The rates, and the change that is aimed at.
 #[derive(Clone, Copy)]

@@ -7,7 +7,7 @@ ghost use Rattle.fund_base.specs.Parsing.{YieldsAll};
 ghost use Rattle.json_fields.specs.Fields.{object_at, each_from, hash_at, coin_at};
 ghost use Rattle.json_fields.specs.Memory.{StoresName, StoresFirst};
 ghost use Rattle.json_fields.specs.declared.fault.FieldFault.TheVariants.{Memory};
-ghost use Rattle.serde_json.specs.View.{view, items_view};
+ghost use Rattle.json_fields.specs.Tree.{view, items_view};
 ghost use Rattle.tx_codec.specs.Reading.{BeginsInputs};
 ghost use Rattle.wallet_text.specs.Stores.{StoresScript, StoresChange, StoresEarlier, StoresPending};
 ghost use Rattle.wallet_text.specs.Reported.{Gives};
@@ -18,10 +18,10 @@ use crate::fault::Refusal;
 use crate::seen::Seen;
 use crate::wallet::{Earlier, Watch};
 use fund_base::{MAX_WEIGHT, OutPoint, Script, Txid};
+use json::Value;
 use json_fields::{
     FieldFault, HexText, coin_of, hex_of, hex_text_of, member_of, number_of, object_of, txid_of,
 };
-use serde_json::Value;
 use std::alloc::Global;
 use tx_codec::{Tx, TxFault, read_whole_tx};
 
@@ -40,11 +40,11 @@ pub fn told_index(index: usize) -> u32
 
 /// The script and the weight of an entry. Memory is taken for the name of an unknown member alone.
 #[tactic(auto, unfolding(crate::specs::WalletText::watch_at))]
-fn watch_of<'a>(
+fn watch_of<'t>(
     alloc: Global,
-    value: &'a Value,
+    value: &Value<'t>,
     whole: &'static str,
-) -> Result<(HexText<'a>, u64), FieldFault>
+) -> Result<(HexText<'t>, u64), FieldFault>
     ensures gives { YieldsAll Memory (λ e. record { script = e.0; weight = e.1 }) result (watch_at whole.now (view value.now)) }
     ensures short { result ≡ Err Memory → StoresName (object_at whole.now watch_names watch_names (view value.now)) }
 {
@@ -144,6 +144,28 @@ pub fn change_of(alloc: Global, count: usize, value: &Value) -> Result<Watch, Re
     })
 }
 
+/// The transaction, whose lists have no room to spare.
+fn without_spare(tx: Tx) -> Tx
+    ensures { result ≡ tx }
+{
+    let Tx {
+        version,
+        mut inputs,
+        mut outputs,
+        locktime,
+        segwit,
+    } = tx;
+    inputs.shrink_to_fit();
+    outputs.shrink_to_fit();
+    Tx {
+        version,
+        inputs,
+        outputs,
+        locktime,
+        segwit,
+    }
+}
+
 /// The transaction that the bytes are, at this index of a list.
 #[tactic(auto, unfolding(crate::specs::WalletText::tx_in))]
 fn tx_in(alloc: Global, list: &'static str, index: usize, bytes: &[u8]) -> Result<Tx, Refusal>
@@ -152,7 +174,7 @@ fn tx_in(alloc: Global, list: &'static str, index: usize, bytes: &[u8]) -> Resul
     ensures short { result ≡ Err (Field Memory) → IsOkAnd (number_at w32 (record { rest = bytes.now; place = 0 })) (λ version. BeginsInputs version.1) }
 {
     match read_whole_tx(alloc, bytes) {
-        Ok(tx) => Ok(tx),
+        Ok(tx) => Ok(without_spare(tx)),
         Err(TxFault::Memory) => Err(Refusal::Field(FieldFault::Memory)),
         Err(fault) => Err(Refusal::tx(list, told_index(index), fault)),
     }

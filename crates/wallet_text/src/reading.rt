@@ -6,7 +6,7 @@ ghost use Rattle.json_fields.specs.Fields.{IsHash, object_at, hash_at, coin_at, 
 ghost use Rattle.json_fields.specs.Memory.{Exactly, StoresName, StoresList, StoresOptional};
 ghost use Rattle.json_fields.specs.declared.fault.FieldFault.TheVariants.{Memory};
 ghost use Rattle.serde_json.specs.Find.{get};
-ghost use Rattle.serde_json.specs.View.{view};
+ghost use Rattle.json_fields.specs.Tree.{view};
 ghost use Rattle.wallet_text.specs.Parts.{head_at, listed_at, parts_at, watched_at};
 ghost use Rattle.wallet_text.specs.Stores.{StoresScript, StoresEarlier, StoresPending, StoresWatched, StoresWallet};
 ghost use Rattle.wallet_text.specs.Reported.{Gives, HasReason, Reads};
@@ -21,8 +21,10 @@ use crate::fault::{Refusal, WalletFault};
 use crate::lists::judge_lists;
 use crate::wallet::{Earlier, Wallet, Watch};
 use fund_base::{OutPoint, Txid};
-use json_fields::{FieldFault, entries_of, hash_of, member_of, number_of, object_of, parse};
-use serde_json::Value;
+use json::{Scratch, Value};
+use json_fields::{
+    FieldFault, hash_of, items_in, member_in, member_of, number_of, object_of, parse,
+};
 use std::alloc::Global;
 use tx_codec::Tx;
 
@@ -34,7 +36,10 @@ fn scripts_of(alloc: Global, value: &Value) -> Result<Vec<Watch>, Refusal>
     ensures gives { Gives (λ v. v.items) result (scripts_at (view value.now)) }
     ensures short { result ≡ Err (Field Memory) → StoresList (codes "scripts") StoresScript (view value.now) }
 {
-    scripts_from(alloc, entries_of(value, "scripts")?)
+    match items_in(value) {
+        Some(entries) => scripts_from(alloc, entries),
+        None => Err(Refusal::from(FieldFault::kind("scripts"))),
+    }
 }
 
 #[tactic(auto, unfolding(crate::specs::WalletText::earlier_list_at))]
@@ -42,9 +47,12 @@ fn earlier_of(alloc: Global, most: u32, value: &Value) -> Result<Vec<Earlier>, R
     ensures gives { Gives (λ v. v.items) result (optional [] (earlier_list_at most) (get (codes "earlier") (view value.now))) }
     ensures short { result ≡ Err (Field Memory) → StoresOptional (StoresList (codes "earlier") (StoresEarlier most)) (get (codes "earlier") (view value.now)) }
 {
-    match value.get("earlier") {
-        Some(list) => earlier_from(alloc, most, entries_of(list, "earlier")?),
-        None => Ok(Vec::new(alloc)),
+    let Some(list) = member_in(value, "earlier") else {
+        return Ok(Vec::new(alloc));
+    };
+    match items_in(list) {
+        Some(entries) => earlier_from(alloc, most, entries),
+        None => Err(Refusal::from(FieldFault::kind("earlier"))),
     }
 }
 
@@ -53,9 +61,12 @@ fn pending_of(alloc: Global, value: &Value) -> Result<Vec<Tx>, Refusal>
     ensures gives { Gives (λ v. v.items) result (optional [] pending_list_at (get (codes "pending") (view value.now))) }
     ensures short { result ≡ Err (Field Memory) → StoresOptional (StoresList (codes "pending") StoresPending) (get (codes "pending") (view value.now)) }
 {
-    match value.get("pending") {
-        Some(list) => pending_from(alloc, entries_of(list, "pending")?),
-        None => Ok(Vec::new(alloc)),
+    let Some(list) = member_in(value, "pending") else {
+        return Ok(Vec::new(alloc));
+    };
+    match items_in(list) {
+        Some(entries) => pending_from(alloc, entries),
+        None => Err(Refusal::from(FieldFault::kind("pending"))),
     }
 }
 
@@ -64,9 +75,12 @@ fn abandoned_of(alloc: Global, value: &Value) -> Result<Vec<Txid>, FieldFault>
     ensures gives { YieldsAll Memory (λ v. v.items) result (optional [] abandoned_list_at (get (codes "abandoned") (view value.now))) }
     ensures short { result ≡ Err Memory → StoresOptional (StoresList (codes "abandoned") (λ e. IsOk (hash_at (codes "abandoned") e))) (get (codes "abandoned") (view value.now)) }
 {
-    match value.get("abandoned") {
-        Some(list) => abandoned_from(alloc, entries_of(list, "abandoned")?),
-        None => Ok(Vec::new(alloc)),
+    let Some(list) = member_in(value, "abandoned") else {
+        return Ok(Vec::new(alloc));
+    };
+    match items_in(list) {
+        Some(entries) => abandoned_from(alloc, entries),
+        None => Err(FieldFault::kind("abandoned")),
     }
 }
 
@@ -75,9 +89,12 @@ fn locked_of(alloc: Global, value: &Value) -> Result<Vec<OutPoint>, FieldFault>
     ensures gives { YieldsAll Memory (λ v. v.items) result (optional [] locked_list_at (get (codes "locked") (view value.now))) }
     ensures short { result ≡ Err Memory → StoresOptional (StoresList (codes "locked") (λ e. IsOk (coin_at (codes "locked") e))) (get (codes "locked") (view value.now)) }
 {
-    match value.get("locked") {
-        Some(list) => locked_from(alloc, entries_of(list, "locked")?),
-        None => Ok(Vec::new(alloc)),
+    let Some(list) = member_in(value, "locked") else {
+        return Ok(Vec::new(alloc));
+    };
+    match items_in(list) {
+        Some(entries) => locked_from(alloc, entries),
+        None => Err(FieldFault::kind("locked")),
     }
 }
 
@@ -184,7 +201,8 @@ fn wallet_of(alloc: Global, value: &Value) -> Result<Wallet, Refusal>
 fn read(alloc: Global, bytes: &[u8]) -> Result<Wallet, Refusal>
     ensures { Gives (λ w. w) result (wallet_of bytes.now) }
 {
-    let value = parse(alloc, bytes)?;
+    let mut scratch = Scratch::new(alloc);
+    let value = parse(alloc, bytes, &mut scratch)?;
     wallet_of(alloc, &value)
 }
 

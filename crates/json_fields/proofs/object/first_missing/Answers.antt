@@ -1,4 +1,4 @@
-use Rattle.serde_json.specs.View.{view}
+use Rattle.json_fields.specs.Tree.{view}
 use Rattle.json_fields.proofs.Names.{found_missing}
 use Rattle.json_fields.proofs.object.first_missing.Goals as goal
 

@@ -2,7 +2,7 @@ use Rattle.std.proofs.Common.{◌≡◌, true, codes, is_some, Some, Result, sub
 use Rattle.std.proofs.lemmas.Result.{IfOk-weaker}
 use Rattle.serde_json.specs.Data.{Data}
 use Rattle.serde_json.specs.Find.{get}
-use Rattle.serde_json.specs.View.{view}
+use Rattle.json_fields.specs.Tree.{view}
 use Rattle.json_fields.specs.Fields.{parsed}
 use Rattle.request_text.specs.PlainRequest.{PlainRequest, draws}
 use Rattle.request_text.specs.Reported.{Gives}

@@ -1,5 +1,5 @@
 use Rattle.std.proofs.Common.{refl, inr}
-use Rattle.serde_json.specs.View.{view}
+use Rattle.json_fields.specs.Tree.{view}
 use Rattle.request_text.proofs.Alone.{alone}
 use Rattle.request_text.proofs.Seeds.{seed_given}
 use Rattle.request_text.proofs.Stored.{recipients_stored}

@@ -1,5 +1,5 @@
 use Rattle.std.proofs.Common.{◌≡◌, true, false, sym, ◌∙◌}
-use Rattle.serde_json.specs.View.{view}
+use Rattle.json_fields.specs.Tree.{view}
 use Rattle.request_text.specs.RequestText.{needs_seed, required_in}
 use Rattle.request_text.proofs.reading.whole_among.Goals as goal
 

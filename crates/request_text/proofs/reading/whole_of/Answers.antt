@@ -1,6 +1,6 @@
 use Rattle.std.proofs.Common.{◌≡◌, true, false, codes, is_some, sym, ◌∙◌}
 use Rattle.serde_json.specs.Find.{get}
-use Rattle.serde_json.specs.View.{view}
+use Rattle.json_fields.specs.Tree.{view}
 use Rattle.request_text.specs.RequestText.{known_in}
 use Rattle.request_text.proofs.reading.whole_of.Goals as goal
 

@@ -1,4 +1,4 @@
-use Rattle.serde_json.specs.View.{view}
+use Rattle.json_fields.specs.Tree.{view}
 use Rattle.wallet_text.proofs.Stored.{earlier_entry_stored}
 use Rattle.wallet_text.proofs.entries.next_earlier.Goals as goal
 

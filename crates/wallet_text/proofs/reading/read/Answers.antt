@@ -1,5 +1,5 @@
 use Rattle.std.proofs.Common.{Result, subst, sym}
-use Rattle.serde_json.specs.View.{view}
+use Rattle.json_fields.specs.Tree.{view}
 use Rattle.wallet_text.specs.PlainWallet.{PlainWallet}
 use Rattle.wallet_text.specs.Reported.{Gives}
 use Rattle.wallet_text.specs.declared.fault.Refusal.{Refusal}

@@ -1,6 +1,6 @@
 use Rattle.std.proofs.Common.{◌≡◌, ◌∙◌, length}
 use Rattle.std.proofs.lemmas.Result.{err_from_is_err_and}
-use Rattle.serde_json.specs.View.{view}
+use Rattle.json_fields.specs.Tree.{view}
 use Rattle.wallet_text.proofs.Stored.{change_stored}
 use Rattle.wallet_text.proofs.reading.watched_of.Goals as goal
 
