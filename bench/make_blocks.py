@@ -59,15 +59,16 @@ def coinbase(rng, height):
     ])
 
 
-def spend(rng):
-    """A payment with scripts of the size of a signature and a key; 190 to about 600 bytes."""
+def spend(rng, inputs=None, outputs=None):
+    """A payment with scripts of the size of a signature and a key; 190 to about 600 bytes. Its inputs and outputs are as many as
+    is said, or else up to three."""
     parts = [struct.pack("<I", 2)]
-    inputs = rng.choice((1, 1, 1, 2, 2, 3))
+    inputs = inputs or rng.choice((1, 1, 1, 2, 2, 3))
     parts.append(compact_size(inputs))
     for _ in range(inputs):
         script = b"\x48" + rng.randbytes(72) + b"\x21" + rng.randbytes(33)
         parts += [rng.randbytes(32), struct.pack("<I", rng.randrange(8)), string(script), b"\xfd\xff\xff\xff"]
-    outputs = rng.choice((1, 2, 2, 2, 3))
+    outputs = outputs or rng.choice((1, 2, 2, 2, 3))
     parts.append(compact_size(outputs))
     parts += [output(rng) for _ in range(outputs)]
     parts.append(bytes(4))

@@ -2,11 +2,13 @@
 """Writes a wallet file, a block file and a request for a payment from many coins, made from a seed alone.
 
 usage: make_fund.py WALLET BLOCKS REQUEST [--seed N] [--coins N] [--bytes N] [--listed N] [--method METHOD] [--tries N]
+                    [--pairs]
 
 Half of the --coins coins are outputs of earlier transactions of the wallet, 20 each, and half of them are outputs of
 payments in the blocks. The blocks are filled up with other payments until the file has at least --bytes bytes. The
 request pays a third of what --listed coins are worth; its ladder has six rows. With the method `manual` it lists these
-coins, and with another it lists none, and asks for --tries tries. The same words give the same bytes.
+coins, and with another it lists none, and asks for --tries tries. With --pairs the other payments have two inputs and two outputs
+each, and else one to three. The same words give the same bytes.
 """
 
 import argparse
@@ -30,8 +32,8 @@ def payment(rng, scripts):
     return text, double_sha256(text)[::-1].hex(), values
 
 
-def write_blocks(rng, name, payments, wanted):
-    """Blocks of payments and of others; how many blocks and transactions there are."""
+def write_blocks(rng, name, payments, wanted, many=None):
+    """Blocks of payments and of others, which have so many inputs and outputs; how many blocks and transactions there are."""
     previous, height, count, written = bytes(32), 0, 0, 0
     share = -(-len(payments) // max(1, -(-wanted // BLOCK_BYTES)))
     with open(name, "wb") as file:
@@ -41,7 +43,7 @@ def write_blocks(rng, name, payments, wanted):
             payments = payments[share:]
             size = 88 + sum(map(len, txs))
             while size < min(BLOCK_BYTES, wanted - written):
-                txs.append(spend(rng))
+                txs.append(spend(rng, many, many))
                 size += len(txs[-1])
             root = merkle_root([double_sha256(tx) for tx in txs])
             header = struct.pack("<I", 4) + previous + root + struct.pack("<III", 1_231_006_505 + 600 * height, 0x207FFFFF, 0)
@@ -63,6 +65,7 @@ def main():
     words.add_argument("--listed", type=int, default=100)
     words.add_argument("--method", default="manual")
     words.add_argument("--tries", type=int, default=100_000)
+    words.add_argument("--pairs", action="store_true")
     words = words.parse_args()
     rng = random.Random(words.seed)
 
@@ -78,7 +81,7 @@ def main():
     with open(words.wallet, "w") as file:
         json.dump(wallet, file)
 
-    blocks, count = write_blocks(rng, words.blocks, [text for text, _, _ in later], words.bytes)
+    blocks, count = write_blocks(rng, words.blocks, [text for text, _, _ in later], words.bytes, 2 if words.pairs else None)
 
     coins = [(f"{txid}:{place}", value) for _, txid, values in made for place, value in enumerate(values)]
     listed = rng.sample(coins, words.listed)

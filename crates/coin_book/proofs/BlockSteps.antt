@@ -19,7 +19,8 @@ use Rattle.coin_book.specs.Faults.{fault_behind, fault_of, full_at, points}
 use Rattle.coin_book.specs.History.{Confirmed, History, confirmed_at, confirmed_before, confirmed_in, with_block}
 use Rattle.coin_book.specs.Invariant.{HoldsChain, HoldsCoins, IsLedger, history_of, points_in, weigher}
 use Rattle.coin_book.specs.Watched.{PlainWatched, WatchedHistory, kept_height, kept_spends}
-use Rattle.coin_book.specs.Merging.{all_in, shares, spends_in, staying, stays}
+use Rattle.coin_book.specs.Merging.{shares, staying, stays}
+use Rattle.coin_book.specs.Places.{spends_in}
 use Rattle.coin_book.specs.declared.coin.Spend.{Spend}
 use Rattle.coin_book.specs.declared.fault.BookFault.{BookFault}
 use Rattle.coin_book.specs.declared.fault.BookFault.TheVariants.{Full}
@@ -27,7 +28,6 @@ use Rattle.coin_book.specs.declared.held.Held.{Held}
 use Rattle.coin_book.specs.declared.ledger.Ledger.{Ledger}
 use Rattle.coin_book.proofs.ChainSteps.{points_push}
 use Rattle.coin_book.proofs.FaultSteps.{fault_first, fault_rest, held_count, no_room_for, room_for, sound_confirmed}
-use Rattle.coin_book.proofs.ListSteps.{all_is_one}
 use Rattle.coin_book.proofs.MapSteps.{fault_more}
 use Rattle.coin_book.proofs.MergeSteps.{coins_behind, heights_behind, lookup_both}
 use Rattle.coin_book.proofs.PendingSteps.{both_hold}
@@ -37,10 +37,10 @@ use Rattle.coin_book.proofs.WatchSteps.{height_at, height_held, no_height, no_sp
 -- ---- two ledgers put together
 
 pub chain_joined : (w : PlainWatched) (weigh : List ℕ → Option ℕ) (before behind : List Confirmed) (base more new : Ledger) → HoldsChain w weigh [] before base → HoldsChain w weigh before behind more → fault_behind (points_in weigh before) (points_in weigh behind) ≡ None
-    → IsDistinct bytes_eq (keys_of more.heights.entries) → IsDistinct same_outpoint (keys_of more.spends.entries)
+    → IsDistinct bytes_eq (keys_of more.heights.entries)
     → new.coins.entries ≡ insert_all same_outpoint base.coins.entries more.coins.entries → new.heights.entries ≡ insert_all bytes_eq base.heights.entries more.heights.entries
-    → ((o : OutPoint) → spends_in new.spends.entries o ≡ spends_in base.spends.entries o ++ all_in more.spends.entries o) → HoldsChain w weigh [] (before ++ behind) new
-chain_joined w weigh before behind base more new under h fresh once each coins heights spends =
+    → ((o : OutPoint) → spends_in new.spends o ≡ spends_in base.spends o ++ spends_in more.spends o) → HoldsChain w weigh [] (before ++ behind) new
+chain_joined w weigh before behind base more new under h fresh once coins heights spends =
     let known : (t : List ℕ) → kept_height w before t ≡ lookup (bytes_eq t) base.heights.entries = λ t. height_held w weigh before base t under in
     let apart : (t : List ℕ) → is_some (lookup (bytes_eq t) base.heights.entries) ≡ true → lookup (bytes_eq t) more.heights.entries ≡ None = λ t there. h.apart t (ap (λ (o : Option ℕ). is_some o) (known t) ∙ there) in
     let tall = heights ∙ heights_behind base.heights.entries more.heights.entries once apart in
@@ -50,10 +50,9 @@ chain_joined w weigh before behind base more new under h fresh once each coins h
           (both_hold (flat_map (made_by weigh) before) (flat_map (made_by weigh) behind) base.coins.entries more.coins.entries new.coins.entries under.coins h.coins put);
       spends = λ o.
           h.spends o
-          ∙ ap (λ (l : List Spend). l ++ spends_in more.spends.entries o) (spends_held w weigh before base o under)
-          ∙ ap (λ (l : List Spend). spends_in base.spends.entries o ++ l) (sym (all_is_one more.spends.entries o each))
+          ∙ ap (λ (l : List Spend). l ++ spends_in more.spends o) (spends_held w weigh before base o under)
           ∙ sym (spends o)
-          ∙ ap (λ (l : List Spend). l ++ spends_in new.spends.entries o) (sym (no_spends w o));
+          ∙ ap (λ (l : List Spend). l ++ spends_in new.spends o) (sym (no_spends w o));
       heights = λ t.
           h.heights t
           ∙ ap (λ (o : Option ℕ). option_or o (lookup (bytes_eq t) more.heights.entries)) (known t)
@@ -65,7 +64,7 @@ chain_joined w weigh before behind base more new under h fresh once each coins h
 
 -- a ledger that tells the same
 pub chain_same : (w : PlainWatched) (weigh : List ℕ → Option ℕ) (before : List Confirmed) (base new : Ledger) → HoldsChain w weigh [] before base → new.coins.entries ≡ base.coins.entries → new.heights.entries ≡ base.heights.entries
-    → ((o : OutPoint) → spends_in new.spends.entries o ≡ spends_in base.spends.entries o) → HoldsChain w weigh [] before new
+    → ((o : OutPoint) → spends_in new.spends o ≡ spends_in base.spends o) → HoldsChain w weigh [] before new
 chain_same w weigh before base new h coins heights spends = record {
   coins = subst (λ (es : List (OutPoint × Held)). HoldsCoins (flat_map (made_by weigh) before) es) (sym coins) h.coins;
   spends = λ o. h.spends o ∙ ap (λ (l : List Spend). kept_spends w [] o ++ l) (sym (spends o));
@@ -183,16 +182,15 @@ block_sound h b w ws l more ps txids count left n within =
 pub record Joins (l more new : Ledger) : Type 0 where
   pub coins : new.coins.entries ≡ insert_all same_outpoint l.coins.entries more.coins.entries
   pub heights : new.heights.entries ≡ insert_all bytes_eq l.heights.entries more.heights.entries
-  pub spends : (o : OutPoint) → spends_in new.spends.entries o ≡ spends_in l.spends.entries o ++ all_in more.spends.entries o
+  pub spends : (o : OutPoint) → spends_in new.spends o ≡ spends_in l.spends o ++ spends_in more.spends o
   pub heights_apart : IsDistinct bytes_eq (keys_of more.heights.entries)
-  pub spends_apart : IsDistinct same_outpoint (keys_of more.spends.entries)
 
 pub block_kept : (h g : History) (b : ChainBlock) (w : PlainWatched) (ws : List (Vec ℕ Global × ℕ)) (l more new : Ledger) (ps rest : List (OutPoint × Held)) (txids : List (List ℕ)) (count left total : ℕ) → IsNext h b w ws l more ps txids count left → Joins l more new
     → nat_le (length l.coins.entries + length more.coins.entries + left) 100_000 ≡ true → rest ≡ cond (nat_lt left (length ps)) (staying new.heights.entries ps) ps → total ≡ count + length b.txs → with_block h b ≡ g → IsLedger g w ws new rest txids total
 block_kept h g b w ws l more new ps rest txids count left total n j within settle sum same =
     let weights = n.kept.weights_are in
     let chain = chain_joined w (weight_for h.scripts) h.confirmed (confirmed_in b) l more new n.kept.chain (subst (λ (f : List ℕ → Option ℕ). HoldsChain w f h.confirmed (confirmed_in b) more) weights n.holds)
-    (sym (λ i. fault_behind (points_in (weights i) h.confirmed) (points_in (weights i) (confirmed_in b))) ∙ n.none) j.heights_apart j.spends_apart j.coins j.heights j.spends in
+    (sym (λ i. fault_behind (points_in (weights i) h.confirmed) (points_in (weights i) (confirmed_in b))) ∙ n.none) j.heights_apart j.coins j.heights j.spends in
     let a = n.kept.count_is in
     let m = length-map b.txs (confirmed_at b.height) in
     let c = length-append h.confirmed (confirmed_in b) in
@@ -209,7 +207,7 @@ block_kept h g b w ws l more new ps rest txids count left total n j within settl
 
 -- a ledger that tells the same serves as well
 pub block_back : (h : History) (w : PlainWatched) (ws : List (Vec ℕ Global × ℕ)) (l new : Ledger) (ps : List (OutPoint × Held)) (txids : List (List ℕ)) (count : ℕ) → IsLedger h w ws l ps txids count
-    → new.coins.entries ≡ l.coins.entries → new.heights.entries ≡ l.heights.entries → ((o : OutPoint) → spends_in new.spends.entries o ≡ spends_in l.spends.entries o) → IsLedger h w ws new ps txids count
+    → new.coins.entries ≡ l.coins.entries → new.heights.entries ≡ l.heights.entries → ((o : OutPoint) → spends_in new.spends o ≡ spends_in l.spends o) → IsLedger h w ws new ps txids count
 block_back h w ws l new ps txids count k coins heights spends = record {
   weights_are = k.weights_are;
   chain = chain_same w (weight_for h.scripts) h.confirmed l new k.chain coins heights spends;

@@ -16,7 +16,8 @@ use Rattle.coin_book.specs.History.{Confirmed}
 use Rattle.coin_book.specs.Invariant.{HoldsChain, HoldsCoins, held_made, is_known, made_at, points_in}
 use Rattle.coin_book.specs.Spends.{has_input, has_spender, height_of, spend_at, spends_below, spends_of}
 use Rattle.coin_book.specs.Watched.{PlainWatched, kept_height, kept_spends, watches, watches_txid}
-use Rattle.coin_book.specs.Merging.{entry_of, held_point, is_new, is_spender, spends_in}
+use Rattle.coin_book.specs.Merging.{entry_of, held_point, is_new, is_spender}
+use Rattle.coin_book.specs.Places.{spends_in}
 use Rattle.coin_book.specs.declared.coin.Spend.{Spend}
 use Rattle.coin_book.specs.declared.fault.BookFault.{BookFault}
 use Rattle.coin_book.proofs.MapSteps.{fault_among, fault_more}
@@ -204,26 +205,26 @@ or_right false b e = e
 pub record Grown (w : PlainWatched) (spend : Spend) (c : Confirmed) (base old new : Ledger) : Type 0 where
   pub heights : (t : List ℕ)
       → lookup (bytes_eq t) new.heights.entries ≡ cond (not (watches_txid w spend.txid) || is_known base old spend.txid) (lookup (bytes_eq t) old.heights.entries) (cond (bytes_eq spend.txid t) (Some spend.height) (lookup (bytes_eq t) old.heights.entries))
-  pub spends : (o : OutPoint) → spends_in new.spends.entries o ≡ spends_in old.spends.entries o ++ cond (has_input o c.tx.inputs && is_new w base.spends.entries old.spends.entries spend.txid o) (spend ∷ []) []
+  pub spends : (o : OutPoint) → spends_in new.spends o ≡ spends_in old.spends o ++ cond (has_input o c.tx.inputs && is_new w base.spends old.spends spend.txid o) (spend ∷ []) []
 
 -- the spends of the transaction are put after those that are kept
 spends_more : (w : PlainWatched) (weigh : List ℕ → Option ℕ) (before behind : List Confirmed) (base old : Ledger) (c : Confirmed) (spend : Spend) (o : OutPoint) → HoldsChain w weigh [] before base → HoldsChain w weigh before behind old
     → spend ≡ told (length (before ++ behind)) c
-    → kept_spends w ((before ++ behind) ++ c ∷ []) o ≡ kept_spends w before o ++ (spends_in old.spends.entries o ++ cond (has_input o c.tx.inputs && is_new w base.spends.entries old.spends.entries spend.txid o) (spend ∷ []) [])
+    → kept_spends w ((before ++ behind) ++ c ∷ []) o ≡ kept_spends w before o ++ (spends_in old.spends o ++ cond (has_input o c.tx.inputs && is_new w base.spends old.spends spend.txid o) (spend ∷ []) [])
 unfolding is_spender
 spends_more w weigh before behind base old c spend o under h is =
     let chain = before ++ behind in
     let mine = has_input o c.tx.inputs in
     let front = kept_spends w before o in
-    let own = spends_in old.spends.entries o in
+    let own = spends_in old.spends o in
     let one = told (length chain) c in
     let put : Bool → List Spend = λ b. cond (mine && (watches w o && not b)) (one ∷ []) [] in
     kept_push w chain c o
     ∙ ap (λ (l : List Spend). l ++ put (is_spender l (txid_of c.tx))) (h.spends o)
     ∙ ap (λ (b : Bool). (front ++ own) ++ put b)
     (list_any-append (λ (s : Spend). bytes_eq s.txid (txid_of c.tx)) front own ∙ ap (λ (l : List Spend). is_spender l (txid_of c.tx) || is_spender own (txid_of c.tx)) (spends_held w weigh before base o under))
-    ∙ (λ k. (front ++ own) ++ cond (mine && is_new w base.spends.entries old.spends.entries (sym is k).txid o) (sym is k ∷ []) [])
-    ∙ append_assoc front own (cond (mine && is_new w base.spends.entries old.spends.entries spend.txid o) (spend ∷ []) [])
+    ∙ (λ k. (front ++ own) ++ cond (mine && is_new w base.spends old.spends (sym is k).txid o) (sym is k ∷ []) [])
+    ∙ append_assoc front own (cond (mine && is_new w base.spends old.spends spend.txid o) (spend ∷ []) [])
 
 pub chain_more : (w : PlainWatched) (weigh : List ℕ → Option ℕ) (before behind : List Confirmed) (base old new : Ledger) (c : Confirmed) (held : List Held) (spend : Spend)
     → HoldsChain w weigh [] before base → HoldsChain w weigh before behind old → spend ≡ record { txid = txid_of c.tx; height = c.height; place = length (before ++ behind) }
@@ -279,10 +280,10 @@ held_points w weigh before behind base old c held under h is = λ k. fault_behin
 -- ---- chains
 
 -- a ledger of nothing after others
-pub none_behind : (w : PlainWatched) (weigh : List ℕ → Option ℕ) (before : List Confirmed) (l : Ledger) → l.coins.entries ≡ [] → l.spends.entries ≡ [] → l.heights.entries ≡ [] → HoldsChain w weigh before [] l
+pub none_behind : (w : PlainWatched) (weigh : List ℕ → Option ℕ) (before : List Confirmed) (l : Ledger) → l.coins.entries ≡ [] → ((o : OutPoint) → spends_in l.spends o ≡ []) → l.heights.entries ≡ [] → HoldsChain w weigh before [] l
 none_behind w weigh before l coins spends heights = record {
   coins = record { made_is = ap (map made_at) coins; keys_are = ap (λ (es : List (OutPoint × Held)). keys_of es) coins };
-  spends = λ o. ap (λ (l : List Confirmed). kept_spends w l o) (append-nil before) ∙ sym (append-nil (kept_spends w before o)) ∙ (λ k. kept_spends w before o ++ spends_in (sym spends k) o);
+  spends = λ o. ap (λ (l : List Confirmed). kept_spends w l o) (append-nil before) ∙ sym (append-nil (kept_spends w before o)) ∙ ap (λ (s : List Spend). kept_spends w before o ++ s) (sym (spends o));
   heights = λ t. ap (λ (l : List Confirmed). kept_height w l t) (append-nil before) ∙ sym (no_more (kept_height w before t)) ∙ (λ k. option_or (kept_height w before t) (lookup (bytes_eq t) (sym heights k)));
   apart = λ t there. ap (lookup (bytes_eq t)) heights;
 }

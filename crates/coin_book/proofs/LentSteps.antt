@@ -19,9 +19,9 @@ use Rattle.coin_book.specs.Coins.{IsFirstPlace, Made, NoneBelow, coin_at, coin_o
 use Rattle.coin_book.specs.Faults.{fault_behind, points}
 use Rattle.coin_book.specs.History.{Confirmed}
 use Rattle.coin_book.specs.Invariant.{HoldsChain, is_known}
-use Rattle.coin_book.specs.Merging.{spends_in}
 use Rattle.coin_book.specs.Spends.{has_input}
 use Rattle.coin_book.specs.Watched.{PlainWatched, watches, watches_txid}
+use Rattle.coin_book.specs.Places.{spends_in}
 use Rattle.coin_book.specs.declared.coin.Spend.{Spend}
 use Rattle.coin_book.specs.declared.ledger.Ledger.{Ledger}
 use Rattle.coin_book.proofs.ChainSteps.{chain_more}
@@ -169,7 +169,7 @@ passed_over w weigh before behind base old c spend under h is none unseen =
     chain_more w weigh before behind base old old c [] spend under h is (no_coins (made_by weigh c) none) (sym (append-nil old.coins.entries))
     (record {
       heights = λ t. ap (λ (b : Bool). cond (not b || is_known base old spend.txid) (lookup (bytes_eq t) old.heights.entries) (cond (bytes_eq spend.txid t) (Some spend.height) (lookup (bytes_eq t) old.heights.entries))) (sym named);
-      spends = λ o. no_spend (has_input o c.tx.inputs) (watches w o) _ (spends_in old.spends.entries o) (spend ∷ []) (unwatched w o c.tx.inputs spends);
+      spends = λ o. no_spend (has_input o c.tx.inputs) (watches w o) _ (spends_in old.spends o) (spend ∷ []) (unwatched w o c.tx.inputs spends);
     })
 
 pub no_fault : (weigh : List ℕ → Option ℕ) (c : Confirmed) (os : List OutPoint) → [] ≡ take 1 (points (made_by weigh c)) → fault_behind os (points (made_by weigh c)) ≡ None

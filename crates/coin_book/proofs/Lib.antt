@@ -13,6 +13,7 @@ pub mod MergeSteps
 pub mod NewSpends
 pub mod OutputSteps
 pub mod PendingSteps
+pub mod PlaceSteps
 pub mod RepeatSteps
 pub mod ShortSteps
 pub mod ShownCoins

@@ -1,9 +1,9 @@
 -- Entries of the maps, one put or added at a time.
-use Rattle.std.proofs.Common.{◌≡◌, ◌∙◌, ◌+◌, arith, length, take, Bool, true, false, cond, ◌||◌, List, [], ◌∷◌, ◌++◌, map, Option, Some, None, refl, sym, ap, Vec, Global, append_assoc, true≢false}
+use Rattle.std.proofs.Common.{◌≡◌, ◌∙◌, ◌+◌, arith, length, take, Bool, true, false, cond, ◌||◌, List, [], ◌∷◌, ◌++◌, map, Option, Some, None, refl, sym, ap, append_assoc, true≢false}
 use Rattle.std.specs.Prelude.{is_some, nat_lt}
 use Rattle.std.specs.List.{list_any}
 use Rattle.std.specs.Map.{keys_of, lookup}
-use Rattle.std.specs.Option.{option_map_or, option_or}
+use Rattle.std.specs.Option.{option_or}
 use Rattle.std.proofs.lemmas.List.{append-nil, length-append, length-map, map-append}
 use Rattle.std.proofs.Math.Seq.{take-append_seam}
 use Rattle.std.proofs.lemmas.List.Folds.{list_any-append}
@@ -14,17 +14,7 @@ use Rattle.coin_book.specs.Faults.{fault_behind}
 use Rattle.coin_book.specs.Merging.{StopsShort, entry_of, held_point}
 use Rattle.coin_book.specs.declared.fault.BookFault.{BookFault}
 use Rattle.coin_book.specs.declared.fault.BookFault.TheVariants.{Full, RepeatCoin}
-use Rattle.coin_book.specs.declared.coin.Spend.{Spend}
 use Rattle.coin_book.specs.declared.held.Held.{Held}
-
--- ---- lists of spends
-
-abbrev pub items_of : Option (Vec Spend Global) → List Spend
-items_of o = option_map_or (λ (v : Vec Spend Global). v.items) o []
-
-pub put : (b : Bool) (v : Vec Spend Global) (old : Option (Vec Spend Global)) → items_of (cond b (Some v) old) ≡ cond b v.items (items_of old)
-put true v old = refl
-put false v old = refl
 
 -- ---- the first fault
 
@@ -150,18 +140,3 @@ whole_more {X = X} front rest now x all is so_far = append_assoc front (x ∷ []
 -- a fault among the first outpoints is the first among all
 pub fault_among : (before xs ys : List OutPoint) (e : BookFault) → fault_behind before xs ≡ Some e → fault_behind before (xs ++ ys) ≡ Some e
 fault_among before xs ys e here = fault_more before xs ys ∙ ap (λ (r : Option BookFault). option_or r (fault_behind (before ++ xs) ys)) here
-
--- the first spends of an outpoint
-pub new_list : (b : Bool) (old list given : List Spend) → (b ≡ true → old ≡ []) → given ≡ list → cond b given old ≡ old ++ cond b list []
-new_list true old list given none is = is ∙ sym (ap (λ (l : List Spend). l ++ list) (none refl))
-new_list false old list given none is = sym (append-nil old)
-
--- a list that is written with more behind it
-pub more_list : (b : Bool) (old list given : List Spend) → (b ≡ true → given ≡ old ++ list) → cond b given old ≡ old ++ cond b list []
-more_list true old list given is = is refl
-more_list false old list given is = sym (append-nil old)
-
--- a list that is written again
-pub same_list : (b : Bool) (old given : List Spend) → (b ≡ true → given ≡ old) → cond b given old ≡ old
-same_list true old given is = is refl
-same_list false old given is = refl

@@ -12,9 +12,9 @@ use Rattle.tx_codec.specs.Txid.{txid_of}
 use Rattle.coin_book.specs.Asked.{Suffices}
 use Rattle.coin_book.specs.History.{Confirmed, History}
 use Rattle.coin_book.specs.Invariant.{HoldsChain}
-use Rattle.coin_book.specs.Merging.{spends_in}
 use Rattle.coin_book.specs.Spends.{height_of, spends_below, spends_of}
 use Rattle.coin_book.specs.Watched.{IsWatched, PlainWatched, WatchedHistory, everything, kept_height, kept_spends, watches, watches_txid}
+use Rattle.coin_book.specs.Places.{spends_in}
 use Rattle.coin_book.specs.declared.coin.Spend.{Spend}
 use Rattle.coin_book.specs.declared.ledger.Ledger.{Ledger}
 
@@ -75,8 +75,8 @@ no_spends w o = by (watches w o)
 pub height_held : (w : PlainWatched) (weigh : List ℕ → Option ℕ) (chain : List Confirmed) (l : Ledger) (t : List ℕ) → HoldsChain w weigh [] chain l → kept_height w chain t ≡ lookup (bytes_eq t) l.heights.entries
 height_held w weigh chain l t h = h.heights t ∙ ap (λ (o : Option ℕ). option_or o (lookup (bytes_eq t) l.heights.entries)) (no_height w t)
 
-pub spends_held : (w : PlainWatched) (weigh : List ℕ → Option ℕ) (chain : List Confirmed) (l : Ledger) (o : OutPoint) → HoldsChain w weigh [] chain l → kept_spends w chain o ≡ spends_in l.spends.entries o
-spends_held w weigh chain l o h = h.spends o ∙ ap (λ (s : List Spend). s ++ spends_in l.spends.entries o) (no_spends w o)
+pub spends_held : (w : PlainWatched) (weigh : List ℕ → Option ℕ) (chain : List Confirmed) (l : Ledger) (o : OutPoint) → HoldsChain w weigh [] chain l → kept_spends w chain o ≡ spends_in l.spends o
+spends_held w weigh chain l o h = h.spends o ∙ ap (λ (s : List Spend). s ++ spends_in l.spends o) (no_spends w o)
 
 -- ---- of a txid that is watched
 

@@ -12,7 +12,7 @@ use Rattle.wallet_text.specs.PlainWallet.{PlainWallet}
 use Rattle.coin_book.specs.Coins.{Made, made_by, made_in, pending_made, weight_for}
 use Rattle.coin_book.specs.Faults.{fault_of, points}
 use Rattle.coin_book.specs.History.{Confirmed, History, confirmed_before, confirmed_in}
-use Rattle.coin_book.specs.Merging.{spends_in}
+use Rattle.coin_book.specs.Places.{spends_in}
 use Rattle.coin_book.specs.Watched.{IsWatched, PlainWatched, kept_height, kept_spends}
 use Rattle.coin_book.specs.declared.coin.Coin.{Coin}
 use Rattle.coin_book.specs.declared.held.Held.{Held}
@@ -42,7 +42,7 @@ pub record HoldsCoins (made : List Made) (entries : List (OutPoint × Held)) : T
 -- What a ledger holds of the confirmed transactions that stand after others, where so much of them is kept.
 pub record HoldsChain (w : PlainWatched) (weigh : List ℕ → Option ℕ) (before behind : List Confirmed) (l : Ledger) : Type 0 where
   pub coins : HoldsCoins (flat_map (made_by weigh) behind) l.coins.entries
-  pub spends : (o : OutPoint) → kept_spends w (before ++ behind) o ≡ kept_spends w before o ++ spends_in l.spends.entries o
+  pub spends : (o : OutPoint) → kept_spends w (before ++ behind) o ≡ kept_spends w before o ++ spends_in l.spends o
   pub heights : (txid : List ℕ) → kept_height w (before ++ behind) txid ≡ option_or (kept_height w before txid) (lookup (bytes_eq txid) l.heights.entries)
   pub apart : (txid : List ℕ) → is_some (kept_height w before txid) ≡ true → lookup (bytes_eq txid) l.heights.entries ≡ None
 

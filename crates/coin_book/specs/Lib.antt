@@ -9,6 +9,7 @@ pub mod History
 pub mod Invariant
 pub mod Merging
 pub mod Outputs
+pub mod Places
 pub mod Repeats
 pub mod Short
 pub mod Spends

@@ -1,12 +1,11 @@
 -- What the steps of adding a transaction speak of.
-use Rattle.std.specs.Prelude.{ℕ, ◌≡◌, ◌≢◌, ◌+◌, ◌<◌, ◌&&◌, ◌||◌, not, Bool, List, [], filter, flat_map, length, take, Option, Some, None, is_none, Result, Ok, Err, Vec, bytes_eq, if◌then◌else◌}
+use Rattle.std.specs.Prelude.{ℕ, ◌≡◌, ◌≢◌, ◌+◌, ◌<◌, ◌&&◌, ◌||◌, not, Bool, List, [], filter, length, take, Option, Some, None, is_none, Result, Ok, Err, bytes_eq}
 use Rattle.std.specs.List.{list_any}
-use Rattle.std.specs.declared.alloc.Global.{Global}
 use Rattle.std.specs.Map.{keys_of, lookup}
-use Rattle.std.specs.Option.{option_map_or}
 use Rattle.fund_base.specs.Outpoints.{same_outpoint}
 use Rattle.fund_base.specs.declared.outpoint.OutPoint.{OutPoint}
 use Rattle.coin_book.specs.Faults.{fault_behind}
+use Rattle.coin_book.specs.Places.{spends_in}
 use Rattle.coin_book.specs.Watched.{PlainWatched, watches}
 use Rattle.coin_book.specs.declared.coin.Spend.{Spend}
 use Rattle.coin_book.specs.declared.fault.BookFault.{BookFault}
@@ -21,21 +20,13 @@ held_point held = held.coin.coin
 abbrev pub entry_of : Held → OutPoint × Held
 entry_of held = (held.coin.coin, held)
 
--- the spends that are kept of an outpoint
-abbrev pub spends_in : List (OutPoint × Vec Spend Global) → OutPoint → List Spend
-spends_in entries o = option_map_or (λ (v : Vec Spend Global). v.items) (lookup (same_outpoint o) entries) []
-
--- all spends of an outpoint in the entries under it
-abbrev pub all_in : List (OutPoint × Vec Spend Global) → OutPoint → List Spend
-all_in entries o = flat_map (λ (e : OutPoint × Vec Spend Global). if same_outpoint e.0 o then e.1.items else []) entries
-
 -- one of these spends is that of a transaction of this txid
 unfoldable pub is_spender : List Spend → List ℕ → Bool
 is_spender spends txid = list_any (λ (s : Spend). bytes_eq s.txid txid) spends
 
 -- A spend of the outpoint by a transaction of this txid is to be kept: the outpoint is watched, and none is kept of that
--- transaction, here or in the entries before these.
-abbrev pub is_new : PlainWatched → List (OutPoint × Vec Spend Global) → List (OutPoint × Vec Spend Global) → List ℕ → OutPoint → Bool
+-- transaction, among these or those before them.
+abbrev pub is_new : PlainWatched → List (OutPoint × List Spend) → List (OutPoint × List Spend) → List ℕ → OutPoint → Bool
 is_new w base own txid o = watches w o && not (is_spender (spends_in base o) txid || is_spender (spends_in own o) txid)
 
 -- a coin at this outpoint stays among those that wait, since its txid has no height among these

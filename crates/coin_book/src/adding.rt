@@ -9,8 +9,9 @@ ghost use Rattle.coin_book.specs.Coins.{made_by, made_in};
 ghost use Rattle.coin_book.specs.Faults.{points, fault_behind};
 ghost use Rattle.coin_book.specs.History.{Confirmed, confirmed_at};
 ghost use Rattle.coin_book.specs.Invariant.{HoldsChain, is_known, points_in, weigher};
+ghost use Rattle.coin_book.specs.Places.{spends_in};
 ghost use Rattle.coin_book.specs.Spends.{has_input};
-ghost use Rattle.coin_book.specs.Merging.{Meets, is_new, spends_in};
+ghost use Rattle.coin_book.specs.Merging.{Meets, is_new};
 ghost use Rattle.coin_book.specs.Short.{StopsAt};
 ghost use Rattle.coin_book.specs.Watched.{watches_txid};
 ghost use Rattle.coin_book.specs.declared.fault.BookFault.TheVariants.{Memory as NoMemory};
@@ -98,7 +99,7 @@ impl Ledger {
     ) -> Result<(), Memory>
         ensures coins { self.new.coins ≡ self.old.coins }
         ensures heights { (t : List ℕ) → OnOk result (lookup (bytes_eq t) self.new.heights.entries ≡ (if not (watches_txid watched.now spend.now.txid) || is_known base.now self.old spend.now.txid then lookup (bytes_eq t) self.old.heights.entries else if bytes_eq spend.now.txid t then Some spend.now.height else lookup (bytes_eq t) self.old.heights.entries)) }
-        ensures spends { (o : OutPoint) → OnOk result (spends_in self.new.spends.entries o ≡ spends_in self.old.spends.entries o ++ (if has_input o inputs.now && is_new watched.now base.now.spends.entries self.old.spends.entries spend.now.txid o then spend.now ∷ [] else [])) }
+        ensures spends { (o : OutPoint) → OnOk result (spends_in self.new.spends o ≡ spends_in self.old.spends o ++ (if has_input o inputs.now && is_new watched.now base.now.spends self.old.spends spend.now.txid o then spend.now ∷ [] else [])) }
     {
         add_watched_height(&mut self.heights, base, watched, spend)?;
         add_spends(

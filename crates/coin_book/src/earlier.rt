@@ -1,11 +1,13 @@
 //! What a wallet tells of coins before any block: its scripts, and its earlier transactions.
 
 ghost use Rattle.std.specs.Prelude.{◌≡◌, [], IfOk, OnOk, map};
+ghost use Rattle.fund_base.specs.declared.outpoint.OutPoint.{OutPoint};
 ghost use Rattle.coin_book.specs.Coins.{weight_for};
 ghost use Rattle.coin_book.specs.Faults.{fault_behind};
 ghost use Rattle.coin_book.specs.History.{confirmed_before};
 ghost use Rattle.coin_book.specs.Invariant.{HoldsChain, points_in, weigher};
 ghost use Rattle.coin_book.specs.Merging.{Meets};
+ghost use Rattle.coin_book.specs.Places.{spends_in};
 
 use crate::coin::Spend;
 use crate::fault::BookFault;
@@ -49,7 +51,7 @@ fn add_all(
     earlier: &[Earlier],
 ) -> Result<(), BookFault>
     requires coins { ledger.old.coins.entries ≡ [] }
-    requires spends { ledger.old.spends.entries ≡ [] }
+    requires spends { (o : OutPoint) → spends_in ledger.old.spends o ≡ [] }
     requires heights { ledger.old.heights.entries ≡ [] }
     ensures holds { OnOk result (HoldsChain watched.now (weigher weights.now.entries) [] (map confirmed_before earlier.now) ledger.new) }
     ensures exact { Meets result (fault_behind [] (points_in (weigher weights.now.entries) (map confirmed_before earlier.now))) }

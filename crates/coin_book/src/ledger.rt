@@ -5,22 +5,22 @@ ghost use Rattle.std.specs.List.{list_any};
 ghost use Rattle.std.specs.Map.{keys_of};
 ghost use Rattle.fund_base.specs.Outpoints.{same_outpoint};
 ghost use Rattle.fund_base.specs.declared.outpoint.OutPoint.{OutPoint};
+ghost use Rattle.coin_book.specs.Places.{spends_in};
 ghost use Rattle.coin_book.specs.Spends.{has_input};
 ghost use Rattle.coin_book.specs.Faults.{fault_behind};
-ghost use Rattle.coin_book.specs.Merging.{Meets, StopsShort, entry_of, held_point, is_new, is_spender, spends_in};
+ghost use Rattle.coin_book.specs.Merging.{Meets, StopsShort, entry_of, held_point, is_new, is_spender};
 ghost use Rattle.coin_book.specs.declared.coin.Spend.{Spend};
 ghost use Rattle.coin_book.specs.declared.fault.BookFault.TheVariants.{Full, Memory as NoMemory, RepeatCoin};
 
 use crate::coin::Spend;
 use crate::fault::BookFault;
 use crate::held::Held;
-use crate::merging::append_list;
+use crate::spends::Spends;
 use crate::watched::Watched;
 use fund_base::{Memory, OutPoint, Txid};
 use indexmap::IndexMap;
 use indexmap::map::Entry;
 use std::alloc::Global;
-use std::slice::from_ref;
 use tx_codec::TxIn;
 
 /// The most coins that a book has.
@@ -29,16 +29,13 @@ pub const MOST_COINS: usize = 100_000;
 /// The listed scripts, each with the weight that is declared for an input which spends it, in weight units.
 pub type Weights = IndexMap<Vec<u8>, u64>;
 
-/// The spends of each outpoint, in chain order.
-pub type SpendLists = IndexMap<OutPoint, Vec<Spend>>;
-
 /// The coins of confirmed transactions in order, and so much as is watched of what these spend and of the height of the
 /// first of each txid.
 pub struct Ledger {
     /// The coins by outpoint, in order of creation.
     pub coins: IndexMap<OutPoint, Held>,
     /// What spends an outpoint, in chain order.
-    pub spends: SpendLists,
+    pub spends: Spends,
     /// The height of the first transaction of a txid.
     pub heights: IndexMap<Txid, u32>,
 }
@@ -58,12 +55,12 @@ impl Ledger {
     /// A ledger of no transactions.
     pub fn new(alloc: Global) -> Ledger
         ensures coins { result.coins.entries ≡ [] }
-        ensures spends { result.spends.entries ≡ [] }
+        ensures spends { (o : OutPoint) → spends_in result.spends o ≡ [] }
         ensures heights { result.heights.entries ≡ [] }
     {
         Ledger {
             coins: IndexMap::new(alloc),
-            spends: IndexMap::new(alloc),
+            spends: Spends::new(alloc),
             heights: IndexMap::new(alloc),
         }
     }
@@ -71,7 +68,7 @@ impl Ledger {
     /// A ledger of no transactions, with room for so many coins, and so many outpoints that are spent and heights.
     pub fn with_room(alloc: Global, coins: usize, others: usize) -> Result<Ledger, Memory>
         ensures coins { IfOk result (λ l. l.coins.entries ≡ []) }
-        ensures spends { IfOk result (λ l. l.spends.entries ≡ []) }
+        ensures spends { (o : OutPoint) → IfOk result (λ l. spends_in l.spends o ≡ []) }
         ensures heights { IfOk result (λ l. l.heights.entries ≡ []) }
     {
         let mut ledger = Ledger::new(alloc);
@@ -82,7 +79,7 @@ impl Ledger {
     /// Makes room for so many coins more, and for so many outpoints that are spent and heights.
     fn make_room(&mut self, coins: usize, others: usize) -> Result<(), Memory>
         ensures coins { self.new.coins.entries ≡ self.old.coins.entries }
-        ensures spends { self.new.spends.entries ≡ self.old.spends.entries }
+        ensures spends { self.new.spends ≡ self.old.spends }
         ensures heights { self.new.heights.entries ≡ self.old.heights.entries }
     {
         self.coins.reserve(coins)?;
@@ -216,30 +213,17 @@ fn is_spender(spends: &[Spend], txid: &Txid) -> bool
     spends.iter().any(|spend| spend.txid == *txid)
 }
 
-/// Whether a spend of the outpoint by the transaction of this txid is kept. Where there are none it isn't looked for.
-fn has_spender(spends: &SpendLists, point: &OutPoint, txid: &Txid) -> bool
-    ensures { result ≡ is_spender (spends_in spends.now.entries point.now) txid.now }
+/// Whether a spend of the outpoint by the transaction of this txid is kept.
+fn has_spender(spends: &Spends, point: &OutPoint, txid: &Txid) -> bool
+    ensures { result ≡ is_spender (spends_in spends.now point.now) txid.now }
 {
-    if spends.is_empty() {
-        false
-    } else {
-        match spends.get(point) {
-            Some(list) => is_spender(list, txid),
-            None => false,
-        }
-    }
+    is_spender(spends.at(point), txid)
 }
 
 /// Whether a spend of the outpoint by the transaction of this txid is to be kept: the outpoint is watched, and none is
 /// kept of that transaction, here or in `base`.
-fn is_new(
-    watched: &Watched,
-    base: &SpendLists,
-    spends: &SpendLists,
-    point: &OutPoint,
-    txid: &Txid,
-) -> bool
-    ensures { result ≡ is_new watched.now base.now.entries spends.now.entries txid.now point.now }
+fn is_new(watched: &Watched, base: &Spends, spends: &Spends, point: &OutPoint, txid: &Txid) -> bool
+    ensures { result ≡ is_new watched.now base.now spends.now txid.now point.now }
 {
     watched.has(point) && !(has_spender(base, point, txid) || has_spender(spends, point, txid))
 }
@@ -247,32 +231,31 @@ fn is_new(
 /// Adds a spend of one outpoint where it is to be kept.
 fn add_spend(
     alloc: Global,
-    spends: &mut SpendLists,
-    base: &SpendLists,
+    spends: &mut Spends,
+    base: &Spends,
     watched: &Watched,
     point: &OutPoint,
     spend: &Spend,
 ) -> Result<(), Memory>
-    ensures { (o : OutPoint) → OnOk result (spends_in spends.new.entries o ≡ spends_in spends.old.entries o ++ (if same_outpoint point.now o && is_new watched.now base.now.entries spends.old.entries spend.now.txid o then spend.now ∷ [] else [])) }
+    ensures { (o : OutPoint) → OnOk result (spends_in spends.new o ≡ spends_in spends.old o ++ (if same_outpoint point.now o && is_new watched.now base.now spends.old spend.now.txid o then spend.now ∷ [] else [])) }
 {
     if !is_new(watched, base, spends, point, &spend.txid) {
         return Ok(());
     }
-    let one = from_ref(spend);
-    append_list(alloc, spends, point, one)?;
+    spends.put(alloc, point, spend)?;
     Ok(())
 }
 
 /// Adds the spend of each outpoint that some input spends, where it is to be kept: once, however many inputs spend it.
 pub fn add_spends(
     alloc: Global,
-    spends: &mut SpendLists,
-    base: &SpendLists,
+    spends: &mut Spends,
+    base: &Spends,
     watched: &Watched,
     inputs: &[TxIn],
     spend: &Spend,
 ) -> Result<(), Memory>
-    ensures { (o : OutPoint) → OnOk result (spends_in spends.new.entries o ≡ spends_in spends.old.entries o ++ (if has_input o inputs.now && is_new watched.now base.now.entries spends.old.entries spend.now.txid o then spend.now ∷ [] else [])) }
+    ensures { (o : OutPoint) → OnOk result (spends_in spends.new o ≡ spends_in spends.old o ++ (if has_input o inputs.now && is_new watched.now base.now spends.old spend.now.txid o then spend.now ∷ [] else [])) }
 {
     for input in inputs {
         add_spend(alloc, spends, base, watched, &input.prev, spend)?;

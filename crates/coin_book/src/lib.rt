@@ -17,6 +17,7 @@ mod making;
 mod merging;
 mod moving;
 mod showing;
+mod spends;
 mod waiting;
 mod wallet_book;
 mod watched;

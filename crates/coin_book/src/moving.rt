@@ -12,7 +12,12 @@ use indexmap::{IndexMap, IndexSet};
 fn any_known(txids: &IndexSet<Txid>, heights: &IndexMap<Txid, u32>) -> bool
     ensures { result ≡ shares txids.now.keys heights.now.entries }
 {
-    heights.keys().any(|txid| txids.contains(txid))
+    for txid in heights.keys() {
+        if txids.contains(txid) {
+            return true;
+        }
+    }
+    false
 }
 
 /// How many coins have a txid without a height.

@@ -299,10 +299,7 @@ impl Watching {
         requires { watches self.now.watched coin.now ≡ true }
         ensures { result.now ≡ spends_of self.now.history.confirmed coin.now }
     {
-        match self.ledger.spends.get(coin) {
-            Some(list) => list.as_slice(),
-            None => &[],
-        }
+        self.ledger.spends.at(coin)
     }
 
     /// The height of the first confirmed transaction of this txid, which is watched, in chain order. None exactly where
@@ -341,7 +338,12 @@ fn all_watched(watched: &Watched, coins: &IndexMap<OutPoint, Held>) -> bool
 fn inputs_watched(watched: &Watched, inputs: &[TxIn]) -> bool
     ensures { result ≡ list_all (λ (i : TxIn). watches watched.now i.prev) inputs.now }
 {
-    inputs.iter().all(|input| watched.has(&input.prev))
+    for input in inputs {
+        if !watched.has(&input.prev) {
+            return false;
+        }
+    }
+    true
 }
 
 /// Whether the txid of the transaction is watched, and each outpoint that it spends.

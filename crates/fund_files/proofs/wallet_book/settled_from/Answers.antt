@@ -17,3 +17,6 @@ pub returns-in-None-clause-settled : goal.returns-in-None-clause-settled
 returns-in-None-clause-settled g c = λ is.
     let kept = rw c.in-Part.is at (c.in_ok-booked.ensures.keeps (Some c.args.watched) c.in-Ok.ensures.keeps) in
     absurd (none_unwatched c.in-Part.book (kept ∙ is) (c.in-None.ensures.unwatched.0 refl))
+
+pub returns-in-None-clause-frame : goal.returns-in-None-clause-frame
+returns-in-None-clause-frame g c = frame_fine _ _ _ _ _ _ (ok_not _ _) (ok_not _ _) c.in_ok-booked.ensures.frame

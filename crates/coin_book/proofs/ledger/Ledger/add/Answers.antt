@@ -4,7 +4,8 @@ use Rattle.fund_base.specs.declared.outpoint.OutPoint.{OutPoint}
 use Rattle.coin_book.specs.Faults.{fault_behind, points}
 use Rattle.coin_book.specs.History.{confirmed_at}
 use Rattle.coin_book.specs.Invariant.{weigher}
-use Rattle.coin_book.specs.Merging.{is_new, spends_in}
+use Rattle.coin_book.specs.Places.{spends_in}
+use Rattle.coin_book.specs.Merging.{is_new}
 use Rattle.coin_book.specs.Spends.{has_input}
 use Rattle.tx_codec.specs.Transaction.{Transaction}
 use Rattle.tx_codec.specs.declared.tx.TxIn.{TxIn}
@@ -30,7 +31,7 @@ returns-clause-holds c = λ before behind under h at.
       heights = c.in_ok-add_spender.ensures.heights;
       spends = λ o.
           c.in_ok-add_spender.ensures.spends o
-          ∙ ap (λ (inputs : List TxIn). spends_in c.args.self.now.spends.entries o ++ cond (has_input o inputs && is_new c.args.watched.now c.args.base.now.spends.entries c.args.self.now.spends.entries c.args.spend.now.txid o) (c.args.spend.now ∷ []) [])
+          ∙ ap (λ (inputs : List TxIn). spends_in c.args.self.now.spends o ++ cond (has_input o inputs && is_new c.args.watched.now c.args.base.now.spends c.args.self.now.spends c.args.spend.now.txid o) (c.args.spend.now ∷ []) [])
           (c.deref.ensures.value ∙ ap (λ (t : Transaction). t.inputs) c.tx.view_is);
     })
 

@@ -63,7 +63,6 @@ invariant_of-self-2 c =
       heights = c.in_ok-append.ensures.heights;
       spends = c.in_ok-append.ensures.spends;
       heights_apart = c.in_ok-append.ensures.heights_apart;
-      spends_apart = c.in_ok-append.ensures.spends_apart;
     })
     (sym (λ j. nat_le (c.len.ensures.len j + c.len-2.ensures.len j + c.left_of-left.result) 100_000) ∙ c.in-Ok.ensures.fits) c.settle.ensures
     (count_shown c.args.self.now h c.self.inside.watched c.self.inside.count c.args.count b c.self.view_is k.count_is c.requires.count)
