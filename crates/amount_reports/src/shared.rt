@@ -1,7 +1,8 @@
 //! The report of a payment whose recipients bear the fee.
 
-ghost use Rattle.std.specs.Prelude.{◌≡◌, IfOk, MatchResult};
+ghost use Rattle.std.specs.Prelude.{◌≡◌, Err, IfOk, IsOk, MatchResult};
 ghost use Rattle.closing_log.specs.Gives.{Gives, Reads};
+ghost use Rattle.closing_log.specs.declared.fault.LineFault.TheVariants.{Memory as OutOfMemory};
 ghost use Rattle.closing_log.specs.Reading.{both_at};
 ghost use Rattle.fund_report.specs.Reading.{change_line, change_rest, no_change, paid_at, row_line, some_change, tries_line, wide_line};
 ghost use Rattle.amount_reports.specs.Read.{Agrees};
@@ -205,7 +206,8 @@ fn read_from_pays(
 
 /// All lines.
 fn read_lines(alloc: Global, bytes: &[u8]) -> Result<(SharedReport, &[u8]), LineFault<'_>>
-    ensures { Gives (λ x. (x.0, x.1.now)) result (shared_lines bytes.now) }
+    ensures gives { Gives (λ x. (x.0, x.1.now)) result (shared_lines bytes.now) }
+    ensures short { result ≡ Err OutOfMemory → IsOk (head_at bytes.now) }
 {
     let ((row, tries), rest) = read_head(bytes)?;
     let (coins, rest) = match read_ins(alloc, rest) {
@@ -236,7 +238,8 @@ fn read_lines(alloc: Global, bytes: &[u8]) -> Result<(SharedReport, &[u8]), Line
 /// The report of the bytes, read line by line.
 #[tactic(auto, unfolding(crate::specs::Reading::shared_at), using(crate::proofs::SharedLaws::fails_lines, crate::proofs::SharedLaws::fails_behind, crate::proofs::SharedLaws::fails_coins))]
 fn read_whole(alloc: Global, bytes: &[u8]) -> Result<SharedReport, AmountFault>
-    ensures { Agrees (λ r. r) result (shared_at bytes.now) }
+    ensures agrees { Agrees (λ r. r) result (shared_at bytes.now) }
+    ensures short { result ≡ Err faults.Memory → IsOk (head_at bytes.now) }
 {
     let (report, rest) = match read_lines(alloc, bytes) {
         Ok(read) => read,
@@ -259,6 +262,9 @@ pub fn read_shared(alloc: Global, bytes: &[u8]) -> Result<SharedReport, AmountFa
     // What is read is a report of which the bytes are a text, and such a text is read.
     ensures found { IfOk result (λ r. IsSharedText bytes.now r) }
     ensures only { (r : PlainShared) → IsSharedText bytes.now r → MatchResult result (λ read. read ≡ r) (λ e. e ≡ faults.Memory) }
+
+    // It runs out of memory only where the lines before the coins stand.
+    ensures short { result ≡ Err faults.Memory → IsOk (head_at bytes.now) }
 {
     read_whole(alloc, bytes)
 }

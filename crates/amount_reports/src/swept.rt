@@ -1,9 +1,10 @@
 //! The report of a payment of all coins.
 
-ghost use Rattle.std.specs.Prelude.{◌≡◌, IfOk, MatchResult};
+ghost use Rattle.std.specs.Prelude.{◌≡◌, codes, Err, IfOk, IsOk, MatchResult};
 ghost use Rattle.closing_log.specs.Gives.{Gives, Reads};
+ghost use Rattle.closing_log.specs.declared.fault.LineFault.TheVariants.{Memory as OutOfMemory};
 ghost use Rattle.closing_log.specs.Reading.{both_at};
-ghost use Rattle.amount_reports.specs.Reading.{ins_at, swept_at, swept_lines, swept_tail};
+ghost use Rattle.amount_reports.specs.Reading.{ins_at, named_line, swept_at, swept_lines, swept_tail};
 ghost use Rattle.amount_reports.specs.Read.{Agrees};
 ghost use Rattle.amount_reports.specs.SweptText.{IsSweptText, PlainSwept};
 ghost use Rattle.amount_reports.specs.declared.fault.AmountFault.TheVariants as faults;
@@ -66,7 +67,8 @@ fn read_from_coins(
 
 /// All lines.
 fn read_lines(alloc: Global, bytes: &[u8]) -> Result<(SweptReport, &[u8]), LineFault<'_>>
-    ensures { Gives (λ x. (x.0, x.1.now)) result (swept_lines bytes.now) }
+    ensures gives { Gives (λ x. (x.0, x.1.now)) result (swept_lines bytes.now) }
+    ensures short { result ≡ Err OutOfMemory → IsOk (named_line (codes "swept ") bytes.now) }
 {
     let (amount, rest) = read_named(bytes, b"swept ")?;
     let ((coins, ((weight, (vsize, fee)), psbt)), rest) = match read_from_coins(alloc, rest) {
@@ -88,7 +90,8 @@ fn read_lines(alloc: Global, bytes: &[u8]) -> Result<(SweptReport, &[u8]), LineF
 /// The report of the bytes, read line by line.
 #[tactic(auto, unfolding(crate::specs::Reading::swept_at), using(crate::proofs::SweptLaws::fails_lines, crate::proofs::SweptLaws::fails_behind, crate::proofs::SweptLaws::fails_coins))]
 fn read_whole(alloc: Global, bytes: &[u8]) -> Result<SweptReport, AmountFault>
-    ensures { Agrees (λ r. r) result (swept_at bytes.now) }
+    ensures agrees { Agrees (λ r. r) result (swept_at bytes.now) }
+    ensures short { result ≡ Err faults.Memory → IsOk (named_line (codes "swept ") bytes.now) }
 {
     let (report, rest) = match read_lines(alloc, bytes) {
         Ok(read) => read,
@@ -111,6 +114,9 @@ pub fn read_swept(alloc: Global, bytes: &[u8]) -> Result<SweptReport, AmountFaul
     // What is read is a report of which the bytes are a text, and such a text is read.
     ensures found { IfOk result (λ r. IsSweptText bytes.now r) }
     ensures only { (r : PlainSwept) → IsSweptText bytes.now r → MatchResult result (λ read. read ≡ r) (λ e. e ≡ faults.Memory) }
+
+    // It runs out of memory only where the first line stands.
+    ensures short { result ≡ Err faults.Memory → IsOk (named_line (codes "swept ") bytes.now) }
 {
     read_whole(alloc, bytes)
 }

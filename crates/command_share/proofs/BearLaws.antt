@@ -4,7 +4,7 @@ use Rattle.std.proofs.Common.{refl, sym, ap, subst, ◌∙◌, arith, inl, inr}
 use Rattle.std.proofs.lemmas.Bool.{cases_lt, cond-false, cond-true, le-ltb, lt-ltb}
 use Rattle.std.proofs.lemmas.List.{length-map}
 use Rattle.fee_rates.specs.Output.{dust_of}
-use Rattle.fee_sharing.specs.Shares.{AllReach, IsFirstShort, share_of}
+use Rattle.fee_sharing.specs.Shares.{AllReach, IsFirstShort, IsFirstShortAt, share_of}
 use Rattle.fee_sharing.specs.declared.fault.ShareFault.{ShareFault}
 use Rattle.fee_sharing.specs.declared.fault.ShareFault.TheVariants as faults
 use Rattle.fund_steps.specs.Amounts.{value_of}
@@ -16,6 +16,7 @@ use Rattle.command_amounts.specs.Coins.{coins_for}
 use Rattle.command_share.proofs.OutcomeLaws.{dust_due}
 use Rattle.command_share.specs.Bearing.{IsBearFault}
 use Rattle.command_share.specs.Inputs.{IsFoundIn}
+use Rattle.command_share.specs.Outcome.{ShareDust, shared}
 use Rattle.command_share.specs.Paying.{PlainPaying, dusts_of, short_from, short_in}
 use Rattle.command_share.specs.Results.{ComeTo}
 use Rattle.command_share.specs.Rows.{PlainRun}
@@ -105,8 +106,12 @@ first_short r borne place h =
     (λ k less now. h.before k less (subst (λ (n : ℕ). slice_index (amounts_of r) k < share_of borne count n + slice_index (dusts_of r) k) (none_plus k) now))
     ∙ ap (λ (n : ℕ). Some n) (none_plus place)
 
+-- the first that can't bear its share is told by its index
+pub dust_shown : (k : Chain) (r : PlainRequest) (run : PlainRun) (f : PlainPaying) (index : ℕ) → value_of (coins_for k r) ≤ 2_100_000_000_000_000 → ComeTo k r run → run.end ≡ ends.Found f → IsFirstShortAt f.borne (amounts_of r) (dusts_of r) index → shared k r ≡ ShareDust index
+dust_shown k r run f index worth is e short = dust_due k r run f short.place worth is e (first_short r f.borne short.place short.first) ∙ ap ShareDust (sym short.index_is)
+
 -- a recipient that can't bear its share
 pub bear_stops : (k : Chain) (r : PlainRequest) (run : PlainRun) (f : PlainPaying) (fault : ShareFault) → value_of (coins_for k r) ≤ 2_100_000_000_000_000 → ComeTo k r run → run.end ≡ ends.Found f → IsFoundIn k r run.sections f → IsBearFault r f.borne fault → StopsSharing k r (bear_stop_of fault)
-bear_stops k r run f (faults.ShareDust place) worth is e found short =
-    (dust_due k r run f place worth is e (first_short r f.borne place short), record { worth = worth; run = run; paying = f; comes_to = is; end_is = e; found = found; short = short })
+bear_stops k r run f (faults.ShareDust index) worth is e found short =
+    (dust_shown k r run f index worth is e short, record { worth = worth; run = run; paying = f; comes_to = is; end_is = e; found = found; short = short })
 bear_stops k r run f faults.Memory worth is e found short = tt

@@ -1,6 +1,7 @@
 -- What a request is due whose searches came to their end.
 use Rattle.std.specs.Prelude.{ℕ, ◌≡◌, List}
 use Rattle.std.proofs.Common.{sym, ap, subst, ◌∙◌}
+use Rattle.closing_log.specs.LogText.{IsLogText}
 use Rattle.closing_log.specs.declared.log.Stage.TheVariants as stage
 use Rattle.fee_rates.specs.Fee.{fee_of, vsize_of}
 use Rattle.fee_sharing.specs.Shares.{AllReach, AreLeft}
@@ -13,11 +14,12 @@ use Rattle.command_inputs.specs.Outcome.{none_report}
 use Rattle.command_amounts.specs.Amounts.{amounts_of}
 use Rattle.command_amounts.specs.Coins.{coins_for}
 use Rattle.command_share.proofs.BearLaws.{bear_stops, none_short}
+use Rattle.command_share.proofs.LogLaws.{found_reads, none_reads}
 use Rattle.command_share.proofs.OutcomeLaws.{end_due, paid_due}
 use Rattle.command_share.proofs.PayLaws.{pays_fee}
 use Rattle.command_share.specs.Bearing.{IsBearFault}
 use Rattle.command_share.specs.Endings.{CanPay, CanReport, IsNoneEnd, IsOpenEnd, IsPaidEnd, IsPaidText, IsRunOf}
-use Rattle.command_share.specs.Outcome.{NoSelection, Shared, Unfinished, log_text, open_report}
+use Rattle.command_share.specs.Outcome.{NoSelection, Shared, Unfinished, ended_log, log_text, open_report}
 use Rattle.command_share.specs.Paying.{PlainPaying, amounts_left, dusts_of, shared_request}
 use Rattle.command_share.specs.Rows.{AreSearches, PlainRun}
 use Rattle.command_share.specs.Stops.{StopsSharing, bear_stop_of}
@@ -48,6 +50,7 @@ module _ (k : Chain) (r : PlainRequest) (run : PlainRun) (h : IsRunOf k r run) w
     reports = text;
     told = told;
     logs = logs;
+    reads = subst (λ (l : List ℕ). IsLogText l (ended_log run.sections)) (sym logs) (none_reads r k.wallet.change (coins_for k r) run.sections (subst (AreSearches r k.wallet.change (coins_for k r) run) e h.means));
     due = end_due k r run ends.Nothing h.worth h.comes_to e ∙ (ap (λ (x : List ℕ). NoSelection x (log_text run.sections)) (sym text) ∙ ap (NoSelection report) (sym logs));
   }
 
@@ -62,6 +65,7 @@ module _ (k : Chain) (r : PlainRequest) (run : PlainRun) (h : IsRunOf k r run) w
     pays = record {
       comes_to = h.comes_to;
       end_is = e;
+      tries = h.tries;
       found = subst (AreSearches r k.wallet.change (coins_for k r) run) e h.means;
       shares = left;
       rules = rules;
@@ -69,6 +73,7 @@ module _ (k : Chain) (r : PlainRequest) (run : PlainRun) (h : IsRunOf k r run) w
     };
     text = text;
     logs = logs;
+    reads = subst (λ (l : List ℕ). IsLogText l (ended_log run.sections)) (sym logs) (found_reads r k.wallet.change (coins_for k r) run.sections f (subst (AreSearches r k.wallet.change (coins_for k r) run) e h.means));
     due = paid_due k r run f h.worth h.comes_to e (none_short r f.borne reach) ∙ (ap (λ (x : List ℕ). Shared x (log_text run.sections)) (sym text.reports) ∙ ap (Shared report) (sym logs));
   }
 

@@ -30,8 +30,11 @@ module _ (told : Type 0) (files : List ℕ → List ℕ) (s : Sources) (p : Paym
     pays = h.pays;
     psbt = h.text.psbt;
     shows = h.text.shows;
+    fit = h.text.fit;
+    few = h.text.few;
     reports = h.text.reports;
     logs = h.logs;
+    reads = h.reads;
     comes_to = λ t. inputs_due files s p w blocks r (inputs t) ∙ h.due;
   }
 
@@ -46,6 +49,7 @@ module _ (told : Type 0) (files : List ℕ → List ℕ) (s : Sources) (p : Paym
     reports = h.reports;
     told = h.told;
     logs = h.logs;
+    reads = h.reads;
     comes_to = λ t. inputs_due files s p w blocks r (inputs t) ∙ h.due;
   }
 

@@ -71,7 +71,7 @@ module _ (told_files told : Type 0) (s : Sources) (p : Payment) where
   stop_ends (stops.AsPayment payments.Keep) shelf shelf' sink sink' result h same a = absurd h
   stop_ends (stops.AsPayment payments.Memory) shelf shelf' sink sink' result h same a = subst (λ (x : Status). Ends told_files told s p shelf shelf' sink sink' x) (sym a.0) (inl (a.1, same))
   stop_ends stops.NotShare shelf shelf' sink sink' result h same a = subst (λ (x : Status). Ends told_files told s p shelf shelf' sink sink' x) (sym a.0) (inr (inl (h, a.1)))
-  stop_ends (stops.ShareDust place) shelf shelf' sink sink' result h same a = subst (λ (x : Status). Ends told_files told s p shelf shelf' sink sink' x) (sym a.0) (inr (inr (place, h, a.1)))
+  stop_ends (stops.ShareDust index) shelf shelf' sink sink' result h same a = subst (λ (x : Status). Ends told_files told s p shelf shelf' sink sink' x) (sym a.0) (inr (inr (index, h, a.1)))
 
   -- ---- where nothing failed
 

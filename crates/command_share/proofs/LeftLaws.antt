@@ -1,7 +1,7 @@
 -- What the recipients of a request are left with, where its amounts and dust thresholds are at hand as lists.
 use Rattle.std.specs.Prelude.{ℕ, ◌≡◌, List, Result, Ok, Err, IfOk, IfErr, OnOk}
 use Rattle.std.proofs.Common.{◌∙◌, ap, subst}
-use Rattle.fee_sharing.specs.Shares.{AllReach, AreLeft, IsFirstShort, IsShareFault, left_of}
+use Rattle.fee_sharing.specs.Shares.{AllReach, AreLeft, IsFirstShortAt, IsShareFault, left_of}
 use Rattle.fee_sharing.specs.declared.fault.ShareFault.{ShareFault}
 use Rattle.fee_sharing.specs.declared.fault.ShareFault.TheVariants as faults
 use Rattle.request_text.specs.PlainRequest.{IsRequest, PlainRequest}
@@ -34,6 +34,6 @@ module _ (r : PlainRequest) (borne : ℕ) (amounts dusts : List ℕ) (same : amo
 
   pub first_falls_short : (x : Result (List ℕ) ShareFault) → IfErr x (IsShareFault borne amounts dusts) → IfErr x (IsBearFault r borne)
   first_falls_short (Ok l) h = tt
-  first_falls_short (Err (faults.ShareDust place)) h =
-      subst (λ (a : List ℕ). IsFirstShort borne a (dusts_of r) place) same (subst (λ (d : List ℕ). IsFirstShort borne amounts d place) dust h)
+  first_falls_short (Err (faults.ShareDust index)) h =
+      subst (λ (a : List ℕ). IsFirstShortAt borne a (dusts_of r) index) same (subst (λ (d : List ℕ). IsFirstShortAt borne amounts d index) dust h)
   first_falls_short (Err faults.Memory) h = tt

@@ -1,9 +1,11 @@
 pub mod AskedLaws
 pub mod BearLaws
 pub mod ConcludedLaws
+pub mod DueLaws
 pub mod EndedLaws
 pub mod FinishLaws
 pub mod LeftLaws
+pub mod LogLaws
 pub mod OutcomeLaws
 pub mod PayLaws
 pub mod ReportLaws

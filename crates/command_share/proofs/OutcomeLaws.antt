@@ -7,6 +7,7 @@ use Rattle.coin_candidates.specs.declared.candidate.Candidate.{Candidate}
 use Rattle.fund_steps.specs.Amounts.{value_of}
 use Rattle.fund_steps.specs.declared.fault.PlanFault.{PlanFault}
 use Rattle.fund_steps.specs.declared.fault.PlanFault.TheVariants as plans
+use Rattle.psbt_codec.specs.Fault.{shown}
 use Rattle.request_text.specs.PlainRequest.{PlainRequest}
 use Rattle.wallet_text.specs.PlainWallet.{PlainWallet}
 use Rattle.fund_files.specs.Cause.{FileCause}
@@ -63,7 +64,7 @@ module _ (k : Chain) (r : PlainRequest) where
   pub end_due : (run : PlainRun) (end : RowsEnd) → value_of cs ≤ 2_100_000_000_000_000 → ComeTo k r run → run.end ≡ end → shared k r ≡ by_end k r run end
   end_due run end within is e = run_due run within is ∙ ap (by_end k r run) e
 
-  pub dust_due : (run : PlainRun) (f : PlainPaying) (place : ℕ) → value_of cs ≤ 2_100_000_000_000_000 → ComeTo k r run → run.end ≡ ends.Found f → short_in r f.borne ≡ Some place → shared k r ≡ ShareDust place
+  pub dust_due : (run : PlainRun) (f : PlainPaying) (place : ℕ) → value_of cs ≤ 2_100_000_000_000_000 → ComeTo k r run → run.end ≡ ends.Found f → short_in r f.borne ≡ Some place → shared k r ≡ ShareDust (shown place)
   dust_due run f place within is e short = end_due run (ends.Found f) within is e ∙ ap (by_short k r run f) short
 
   pub paid_due : (run : PlainRun) (f : PlainPaying) → value_of cs ≤ 2_100_000_000_000_000 → ComeTo k r run → run.end ≡ ends.Found f → short_in r f.borne ≡ None → shared k r ≡ Shared (share_report k r run.tries f) (log_text run.sections)

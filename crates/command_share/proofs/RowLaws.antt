@@ -94,7 +94,7 @@ module _ (r : PlainRequest) (w : Watch) (row : Row) (cs : List Candidate) (befor
       let same = finished_run ends.Nothing s made few fin (ap (by_best r w row cs) none) in (
         same ∙ ap (λ (l : List PlainSection). Ok (run_with ends.Nothing l (before.tries + made))) (sym are),
         (
-          (s, record { search = record { budget = budget; tries = made; finished = fin }; none = none }, are, refl),
+          (s, record { search = record { budget = budget; within = omega arith; tries = made; finished = fin }; none = none }, are, refl),
           omega (arith, few_made (problem_in r w row cs) row.number budget made s fin, most),
         ),
       )
@@ -121,7 +121,7 @@ module _ (r : PlainRequest) (w : Watch) (row : Row) (cs : List Candidate) (befor
       let same = finished_run (ends.Found f) s made few fin best in (
         same ∙ ap (λ (l : List PlainSection). Ok (run_with (ends.Found f) l (before.tries + made))) (sym are),
         (
-          (s, are, record { row_is = own; search = record { budget = budget; tries = made; finished = fin }; found = found; pays = pays; weight_is = weight }),
+          (s, are, record { row_is = own; search = record { budget = budget; within = omega arith; tries = made; finished = fin }; found = found; pays = pays; weight_is = weight }),
           omega (arith, few_made (problem_in r w row cs) row.number budget made s fin, most),
         ),
       )

@@ -50,21 +50,23 @@ record IsSearchOf (k : Chain) (r : PlainRequest) (w : Watch) (run : PlainRun) (c
   worth : value_of cs ≤ 2_100_000_000_000_000
   made : All (HasMaker k.book) cs
   value : searched r w cs ≡ Ok run
+  tries : run.tries ≤ r.tries
   means : AreSearches r w cs run run.end
 
 run_at : (k : Chain) (r : PlainRequest) (run : PlainRun) → IsSearchOf k r k.wallet.change run (coins_for k r) → IsRunOf k r run
 run_at k r run h = record {
   worth = h.worth;
   comes_to = h.value;
+  tries = h.tries;
   means = h.means;
   can = can_report k r k.wallet.change (coins_for k r) h.made run run.end h.means;
 }
 
-pub run_is : (k : Chain) (r : PlainRequest) (w : Watch) (cs : List Candidate) (run : PlainRun) → w ≡ k.wallet.change → AreCoins k r cs → searched r w cs ≡ Ok run → AreSearches r w cs run run.end → IsRunOf k r run
-run_is k r w cs run own coins value means =
+pub run_is : (k : Chain) (r : PlainRequest) (w : Watch) (cs : List Candidate) (run : PlainRun) → w ≡ k.wallet.change → AreCoins k r cs → searched r w cs ≡ Ok run → run.tries ≤ r.tries → AreSearches r w cs run run.end → IsRunOf k r run
+run_is k r w cs run own coins value tries means =
     run_at k r run
     (subst (λ (l : List Candidate). IsSearchOf k r k.wallet.change run l) coins.are
-    (subst (λ (x : Watch). IsSearchOf k r x run cs) own (record { worth = coins.worth; made = coins.makers; value = value; means = means })))
+    (subst (λ (x : Watch). IsSearchOf k r x run cs) own (record { worth = coins.worth; made = coins.makers; value = value; tries = tries; means = means })))
 
 pub rows_fault : (k : Chain) (r : PlainRequest) (w : Watch) (cs : List Candidate) (fault : PlanFault) → w ≡ k.wallet.change → AreCoins k r cs → AreCrowded r w cs fault → StopsSharing k r (fault_stop_of fault)
 rows_fault k r w cs fault own coins h =

@@ -78,7 +78,7 @@ stops_on told s p w blocks r old new (stops.AsPayment (payments.Refused refusal)
 stops_on told s p w blocks r old new (stops.AsPayment payments.Keep) inputs is = absurd is
 stops_on told s p w blocks r old new (stops.AsPayment payments.Memory) inputs is = tt
 stops_on told s p w blocks r old new stops.NotShare inputs is = absurd is
-stops_on told s p w blocks r old new (stops.ShareDust place) inputs is = λ t. (inputs_due old.files s p w blocks r (inputs t) ∙ is.0, (w, blocks, r, inputs t, is.1))
+stops_on told s p w blocks r old new (stops.ShareDust index) inputs is = λ t. (inputs_due old.files s p w blocks r (inputs t) ∙ is.0, (w, blocks, r, inputs t, is.1))
 
 pub held_stops : (told : Type 0) (s : Sources) (p : Payment) (k : Chain) (r : PlainRequest) (old new : ShelfView) (stop : Stop) → AreAsked told old.files s p k r → StopsSharing k r stop → StopsFor told s p old new stop
 held_stops told s p k r old new stop h is = stops_on told s p k.wallet h.held.blocks r old new stop h.inputs (subst (λ (x : Chain). StopsSharing x r stop) h.held.is is)
@@ -88,4 +88,4 @@ held_stops told s p k r old new stop h is = stops_on told s p k.wallet h.held.bl
 pub stop_untold : (told : Type 0) (s : Sources) (p : Payment) (stop : Stop) (sink sink' : SinkView) (result : Status) → IsStoppedWith told s p stop sink sink' result → TellsWhole result → ⊥
 stop_untold told s p (stops.AsPayment stop) sink sink' result h whole = payment_untold told s p stop sink sink' result h whole
 stop_untold told s p stops.NotShare sink sink' result h whole = answered_stops told not_share_words statuses.Input sink sink' result (λ w. w) h whole
-stop_untold told s p (stops.ShareDust place) sink sink' result h whole = answered_stops told (share_dust_words place) statuses.Input sink sink' result (λ w. w) h whole
+stop_untold told s p (stops.ShareDust index) sink sink' result h whole = answered_stops told (share_dust_words index) statuses.Input sink sink' result (λ w. w) h whole

@@ -1,5 +1,6 @@
 -- How a payment ends whose recipients bear the fee and whose files are read.
 use Rattle.std.specs.Prelude.{ℕ, ◌≡◌, ◌<◌, ◌≤◌, ◌+◌, List, length, All}
+use Rattle.closing_log.specs.LogText.{IsLogText}
 use Rattle.closing_log.specs.declared.log.Stage.TheVariants as stage
 use Rattle.fee_rates.specs.Fee.{fee_of, vsize_of}
 use Rattle.fee_sharing.specs.RowShares.{amount_of}
@@ -16,8 +17,8 @@ use Rattle.command_inputs.specs.Names.{Payment}
 use Rattle.command_inputs.specs.Outcome.{none_report}
 use Rattle.command_amounts.specs.Coins.{coins_for}
 use Rattle.command_amounts.specs.Signing.{psbt_from}
-use Rattle.command_share.specs.Outcome.{NoSelection, Shared, Unfinished, log_text, open_report, share_report, shared}
-use Rattle.command_share.specs.Paying.{PlainPaying, shared_request}
+use Rattle.command_share.specs.Outcome.{NoSelection, Shared, Unfinished, ended_log, log_text, open_report, share_report, shared}
+use Rattle.command_share.specs.Paying.{PlainPaying, amounts_left, shared_request}
 use Rattle.command_share.specs.Results.{ComeTo, IsNone, IsNotShared, IsOpen, IsPaid, IsShared, IsUnfinished}
 use Rattle.command_share.specs.Rows.{AreSearches, PlainRun}
 use Rattle.command_share.specs.declared.rows.RowsEnd.{RowsEnd}
@@ -29,6 +30,8 @@ use Rattle.command_share.specs.declared.ending.Ending.TheVariants as endings
 pub record IsPaidText (k : Chain) (r : PlainRequest) (tries : ℕ) (f : PlainPaying) (report : List ℕ) : Type 0 where
   pub psbt : IsPsbt (psbt_from k.book (shared_request r f.borne) k.wallet.change f.coins f.change)
   pub shows : ShowsCoins f.coins (psbt_from k.book (shared_request r f.borne) k.wallet.change f.coins f.change)
+  pub fit : AreWithin f.coins
+  pub few : length (amounts_left r f.borne) ≤ 18_446_744_073_709_551_616
   pub reports : report ≡ share_report k r tries f
 
 -- a payment, its report and its log
@@ -38,6 +41,7 @@ pub record IsPaidEnd (k : Chain) (r : PlainRequest) (report log : List ℕ) : Ty
   pub pays : IsPaid k r run paying
   pub text : IsPaidText k r run.tries paying report
   pub logs : log ≡ log_text run.sections
+  pub reads : IsLogText log (ended_log run.sections)
   pub due : shared k r ≡ Shared report log
 
 -- no selection, its report and its log
@@ -47,6 +51,7 @@ pub record IsNoneEnd (k : Chain) (r : PlainRequest) (report log : List ℕ) : Ty
   pub reports : report ≡ none_report run.tries
   pub told : IsReportText report (kinds.NoSelection run.tries)
   pub logs : log ≡ log_text run.sections
+  pub reads : IsLogText log (ended_log run.sections)
   pub due : shared k r ≡ NoSelection report log
 
 -- tries that are used up, and the report
@@ -82,6 +87,7 @@ CanReport k r (ends.Open number) = Unit {0}
 pub record IsRunOf (k : Chain) (r : PlainRequest) (run : PlainRun) : Type 0 where
   pub worth : value_of (coins_for k r) ≤ 2_100_000_000_000_000
   pub comes_to : ComeTo k r run
+  pub tries : run.tries ≤ r.tries
   pub means : AreSearches r k.wallet.change (coins_for k r) run run.end
   pub can : CanReport k r run.end
 

@@ -3,7 +3,7 @@ use Rattle.std.specs.Prelude.{ℕ, ◌≡◌, ◌≤◌, ◌<◌, ◌⊎◌, Lis
 use Rattle.block_feed.specs.Block.{ChainBlock}
 use Rattle.closing_log.specs.Log.{PlainSection}
 use Rattle.fee_sharing.specs.RowShares.{KeepsWorth}
-use Rattle.fee_sharing.specs.Shares.{IsFirstShort}
+use Rattle.fee_sharing.specs.Shares.{IsFirstShortAt}
 use Rattle.fund_steps.specs.Amounts.{value_of}
 use Rattle.fund_steps.specs.declared.fault.PlanFault.{PlanFault}
 use Rattle.fund_steps.specs.declared.fault.PlanFault.TheVariants as plans
@@ -45,7 +45,7 @@ pub record IsNotShare (files : List ℕ → List ℕ) (s : Sources) (p : Payment
   pub other : IsForShare asked → ⊥
 
 -- A row keeps so many groups of the coins that may be spent, which are more than 10,000: row 1; or row 2, and row 1 has no
--- selection.
+-- selection, as the request's tries show.
 abbrev pub IsCrowded : Chain → PlainRequest → (number n : ℕ) → Type 0
 IsCrowded k r number n =
     ((number ≡ first_row.number) × KeepsWorth r first_row (coins_for k r) n × (10_000 < n))
@@ -63,16 +63,16 @@ KeepsFromSharing k r plans.Memory = ⊥
 abbrev pub IsFoundIn : Chain → PlainRequest → List PlainSection → PlainPaying → Type 0
 IsFoundIn k r sections f = FoundFirst r k.wallet.change (coins_for k r) sections f ⊎ FoundSecond r k.wallet.change (coins_for k r) sections f
 
--- The recipient at this place is the first that is below its share and its dust threshold together, by the payment to which the
+-- The recipient of this index is the first that is below its share and its dust threshold together, by the payment to which the
 -- searches come.
-pub record CantBear (k : Chain) (r : PlainRequest) (place : ℕ) : Type 0 where
+pub record CantBear (k : Chain) (r : PlainRequest) (index : ℕ) : Type 0 where
   pub worth : value_of (coins_for k r) ≤ 2_100_000_000_000_000
   pub run : PlainRun
   pub paying : PlainPaying
   pub comes_to : searched r k.wallet.change (coins_for k r) ≡ Ok run
   pub end_is : run.end ≡ ends.Found paying
   pub found : IsFoundIn k r run.sections paying
-  pub short : IsFirstShort paying.borne (amounts_of r) (dusts_of r) place
+  pub short : IsFirstShortAt paying.borne (amounts_of r) (dusts_of r) index
 
 -- What a cause means by itself. That of a file means what it does for a payment. That of a plan: the files are in order, the
 -- request is taken, and this keeps its coins from being searched.
@@ -92,6 +92,6 @@ AreNotShare files s p = (outcome_of files s p ≡ NotShare) × IsNotShare files 
 
 -- they come to a recipient that can't bear its share, and hold what makes it so
 abbrev pub AreShareDust : (List ℕ → List ℕ) → Sources → Payment → ℕ → Type 0
-AreShareDust files s p place =
-    (outcome_of files s p ≡ ShareDust place)
-    × ((w : PlainWallet) × (blocks : List ChainBlock) × (r : PlainRequest) × AreInputs files s p w blocks r × CantBear (chain_from w blocks) r place)
+AreShareDust files s p index =
+    (outcome_of files s p ≡ ShareDust index)
+    × ((w : PlainWallet) × (blocks : List ChainBlock) × (r : PlainRequest) × AreInputs files s p w blocks r × CantBear (chain_from w blocks) r index)

@@ -1,7 +1,7 @@
 -- What the files of a payment come to whose recipients bear the fee.
 use Rattle.std.specs.Prelude.{ℕ, ◌-◌, Bool, true, nat_lt, List, [], ◌∷◌, ◌++◌, suc, codes, Option, Some, None, Result, Ok, Err, if◌then◌else◌}
 use Rattle.std.specs.Fmt.{decimal}
-use Rattle.closing_log.specs.Log.{PlainSection}
+use Rattle.closing_log.specs.Log.{PlainLog, PlainSection}
 use Rattle.closing_log.specs.LogText as logs
 use Rattle.closing_log.specs.declared.log.Stage.TheVariants as stage
 use Rattle.coin_candidates.specs.declared.candidate.Candidate.{Candidate}
@@ -12,6 +12,7 @@ use Rattle.fund_report.specs.declared.report.Report.TheVariants as report
 use Rattle.fund_steps.specs.Amounts.{value_of}
 use Rattle.fund_steps.specs.declared.fault.PlanFault.{PlanFault}
 use Rattle.fund_steps.specs.declared.fault.PlanFault.TheVariants as plans
+use Rattle.psbt_codec.specs.Fault.{shown}
 use Rattle.request_text.specs.PlainRequest.{PlainRequest}
 use Rattle.fund_files.specs.Cause.{FileCause}
 use Rattle.fund_files.specs.declared.chain.Chain.{Chain}
@@ -32,21 +33,24 @@ use Rattle.command_share.specs.Rows.{PlainRun, searched}
 use Rattle.command_share.specs.declared.rows.RowsEnd.{RowsEnd}
 use Rattle.command_share.specs.declared.rows.RowsEnd.TheVariants as ends
 
--- A refusal as that of a payment; or of a request that isn't taken; or of the recipient at this place, which can't bear its share.
+-- A refusal as that of a payment; or of a request that isn't taken; or of the recipient of this index, which can't bear its share.
 -- Or a report with which the tries are used up; or a report and a log, where no row has a selection or of a payment.
 pub data Outcome : Type 0 where
   Refused : Cause → Outcome
   NotShare : Outcome
-  ShareDust : ℕ → Outcome
+  ShareDust : (index : ℕ) → Outcome
   Unfinished : (report : List ℕ) → Outcome
   NoSelection : (report log : List ℕ) → Outcome
   Shared : (report log : List ℕ) → Outcome
 
 -- ---- texts
 
--- the log of finished searches
+-- the log of finished searches, which is ended
+abbrev pub ended_log : List PlainSection → PlainLog
+ended_log sections = record { closed = sections; tail = None; ended = true }
+
 abbrev pub log_text : List PlainSection → List ℕ
-log_text sections = logs.text_of (record { closed = sections; tail = None; ended = true })
+log_text sections = logs.text_of (ended_log sections)
 
 -- the report where the tries are used up in the row of this number
 abbrev pub open_report : (tries number : ℕ) → List ℕ
@@ -73,20 +77,20 @@ abbrev pub fee_in : PlainRequest → PlainPaying → ℕ
 fee_in r f = value_of f.coins - outputs_of (shared_request r f.borne) f.change
 
 -- The row of its coins and all tries; the coins that it spends; what each recipient gets; what it comes to; and the change.
-unfoldable pub shared_lines : PlainRequest → (tries : ℕ) → PlainPaying → List ℕ
-shared_lines r tries f =
+unfoldable pub shared_lines : (amounts : List ℕ) → (fee tries : ℕ) → PlainPaying → List ℕ
+shared_lines amounts fee tries f =
     lines_text (head_lines f.row.number tries)
-    ++ (lines_text (in_lines f.coins) ++ (lines_text (pay_lines 0 (amounts_left r f.borne)) ++ (lines_text (figure_lines f.weight (fee_in r f)) ++ lines_text (change_line f.change ∷ []))))
+    ++ (lines_text (in_lines f.coins) ++ (lines_text (pay_lines 0 amounts) ++ (lines_text (figure_lines f.weight fee) ++ lines_text (change_line f.change ∷ []))))
 
--- the same, and what a signer gets
+-- the same of what the recipients are left with, and what a signer gets
 abbrev pub share_report : Chain → PlainRequest → (tries : ℕ) → PlainPaying → List ℕ
-share_report k r tries f = shared_lines r tries f ++ lines_text (psbt_line (psbt_text_from k.book (shared_request r f.borne) k.wallet.change f.coins f.change) ∷ [])
+share_report k r tries f = shared_lines (amounts_left r f.borne) (fee_in r f) tries f ++ lines_text (psbt_line (psbt_text_from k.book (shared_request r f.borne) k.wallet.change f.coins f.change) ∷ [])
 
 -- ---- what is due
 
 -- by the first recipient that can't bear its share
 abbrev pub by_short : Chain → PlainRequest → PlainRun → PlainPaying → Option ℕ → Outcome
-by_short k r run f (Some place) = ShareDust place
+by_short k r run f (Some place) = ShareDust (shown place)
 by_short k r run f None = Shared (share_report k r run.tries f) (log_text run.sections)
 
 -- by what the searches come to
@@ -125,7 +129,7 @@ outcome_of files s p = by_files (held_in files s p)
 abbrev pub status_of : Outcome → Status
 status_of (Refused cause) = status_of_cause cause
 status_of NotShare = statuses.Input
-status_of (ShareDust place) = statuses.Input
+status_of (ShareDust index) = statuses.Input
 status_of (Unfinished report) = statuses.Unfinished
 status_of (NoSelection report log) = statuses.NoSelection
 status_of (Shared report log) = statuses.Done
@@ -134,7 +138,7 @@ status_of (Shared report log) = statuses.Done
 abbrev pub IsRefusal : Outcome → Type 0
 IsRefusal (Refused cause) = Unit {0}
 IsRefusal NotShare = Unit {0}
-IsRefusal (ShareDust place) = Unit {0}
+IsRefusal (ShareDust index) = Unit {0}
 IsRefusal (Unfinished report) = ⊥
 IsRefusal (NoSelection report log) = ⊥
 IsRefusal (Shared report log) = ⊥

@@ -1,5 +1,5 @@
 -- The two rows of which coins are taken where the recipients bear the fee, and what their searches come to.
-use Rattle.std.specs.Prelude.{ℕ, ◌≡◌, ◌<◌, ◌+◌, ◌-◌, ◌⊎◌, nat_lt, false, List, [], ◌∷◌, ◌++◌, map, Option, Some, None, Result, Ok, Err, if◌then◌else◌}
+use Rattle.std.specs.Prelude.{ℕ, ◌≡◌, ◌≤◌, ◌<◌, ◌+◌, ◌-◌, ◌⊎◌, nat_lt, false, List, [], ◌∷◌, ◌++◌, map, Option, Some, None, Result, Ok, Err, if◌then◌else◌}
 use Rattle.closing_log.specs.Log.{PlainSection}
 use Rattle.closing_log.specs.declared.log.Stage.TheVariants as stage
 use Rattle.coin_candidates.specs.declared.candidate.Candidate.{Candidate}
@@ -94,10 +94,12 @@ searched r w cs = then_second r w cs (after_row r w first_row cs beginning)
 
 -- ---- what that means
 
--- The search of a row is finished within some tries. It has the best selection of the row's problem, which is the lightest, and of
--- these the one of least value; or none, exactly where no selection is admissible. Its letters are accepted with that answer.
+-- The search of a row is finished within some tries, no more than the request's. It has the best selection of the row's problem,
+-- which is the lightest, and of these the one of least value; or none, exactly where no selection is admissible. Its letters are
+-- accepted with that answer.
 pub record IsSearched (r : PlainRequest) (w : Watch) (row : Row) (cs : List Candidate) (s : PlainSection) : Type 0 where
   pub budget : ℕ
+  pub within : budget ≤ r.tries
   pub tries : ℕ
   pub finished : IsFinished (problem_in r w row cs) row.number budget s tries
 

@@ -42,7 +42,7 @@ EndsNotShare told_files told s p shelf sink sink' = (told_files → AreNotShare 
 
 -- a recipient can't bear its share, with its line
 abbrev pub EndsShareDust : Type 0 → Type 0 → Sources → Payment → ShelfView → SinkView → SinkView → Type 0
-EndsShareDust told_files told s p shelf sink sink' = (place : ℕ) × (told_files → AreShareDust shelf.files s p place) × (told → GotLine (fault_line (share_dust_words place)) sink sink')
+EndsShareDust told_files told s p shelf sink sink' = (index : ℕ) × (told_files → AreShareDust shelf.files s p index) × (told → GotLine (fault_line (share_dust_words index)) sink sink')
 
 -- a refusal of the input: as that of a payment, of a request that isn't taken, or of a recipient that can't bear its share
 abbrev pub EndsInput : Type 0 → Type 0 → Sources → Payment → ShelfView → SinkView → SinkView → Type 0

@@ -29,7 +29,7 @@ fault_stop_of fault = stops.AsPayment (plan_stop_of fault)
 
 -- the stop of one whose recipients can't bear their shares
 abbrev pub bear_stop_of : ShareFault → Stop
-bear_stop_of (faults.ShareDust place) = stops.ShareDust place
+bear_stop_of (faults.ShareDust index) = stops.ShareDust index
 bear_stop_of faults.Memory = stops.AsPayment payments.Memory
 
 -- A read of a file failed, those before it being in order, or the files are refused.
@@ -43,7 +43,7 @@ StopsAsPayment told s p old new payments.Memory = Unit {0}
 abbrev pub StopsFor : Type 0 → Sources → Payment → ShelfView → ShelfView → Stop → Type 0
 StopsFor told s p old new (stops.AsPayment stop) = StopsAsPayment told s p old new stop
 StopsFor told s p old new stops.NotShare = told → AreNotShare old.files s p
-StopsFor told s p old new (stops.ShareDust place) = told → AreShareDust old.files s p place
+StopsFor told s p old new (stops.ShareDust index) = told → AreShareDust old.files s p index
 
 -- ---- a request that isn't paid
 
@@ -63,7 +63,7 @@ StopsAsPlan k r payments.Memory = Unit {0}
 abbrev pub StopsSharing : Chain → PlainRequest → Stop → Type 0
 StopsSharing k r (stops.AsPayment stop) = StopsAsPlan k r stop
 StopsSharing k r stops.NotShare = ⊥
-StopsSharing k r (stops.ShareDust place) = (shared k r ≡ ShareDust place) × CantBear k r place
+StopsSharing k r (stops.ShareDust index) = (shared k r ≡ ShareDust index) × CantBear k r index
 
 -- ---- the answer
 
@@ -71,18 +71,18 @@ StopsSharing k r (stops.ShareDust place) = (shared k r ≡ ShareDust place) × C
 abbrev pub not_share_words : List ℕ
 not_share_words = codes "input plan NotShare"
 
--- what it says of the recipient at a place that can't bear its share
-abbrev pub share_dust_words : (place : ℕ) → List ℕ
-share_dust_words place = codes "input plan ShareDust " ++ decimal place
+-- what it says of the recipient of an index that can't bear its share
+abbrev pub share_dust_words : (index : ℕ) → List ℕ
+share_dust_words index = codes "input plan ShareDust " ++ decimal index
 
 -- the status of a stop
 abbrev pub status_of_stop : Stop → Status
 status_of_stop (stops.AsPayment stop) = stop_status stop
 status_of_stop stops.NotShare = statuses.Input
-status_of_stop (stops.ShareDust place) = statuses.Input
+status_of_stop (stops.ShareDust index) = statuses.Input
 
 -- the answer to a stop: its status, with its line
 abbrev pub IsStoppedWith : Type 0 → Sources → Payment → Stop → SinkView → SinkView → Status → Type 0
 IsStoppedWith told s p (stops.AsPayment stop) old new result = IsStopped told s p stop old new result
 IsStoppedWith told s p stops.NotShare old new result = IsAnswered told not_share_words statuses.Input old new result
-IsStoppedWith told s p (stops.ShareDust place) old new result = IsAnswered told (share_dust_words place) statuses.Input old new result
+IsStoppedWith told s p (stops.ShareDust index) old new result = IsAnswered told (share_dust_words index) statuses.Input old new result

@@ -16,7 +16,7 @@ use fund_shelf::Sink;
 /// What the line says behind the word `fault` where the request isn't taken.
 const NOT_SHARE: &str = "input plan NotShare";
 
-/// What it says of a recipient that can't bear its share, before its place.
+/// What it says of a recipient that can't bear its share, before its index.
 const SHARE_DUST: &str = "input plan ShareDust ";
 
 /// Puts the line of a stop, and answers its status, without memory.
@@ -29,9 +29,9 @@ pub fn answer_stop<O: Sink>(sources: &Sources, payment: &Payment, stop: Stop, ou
     match stop {
         Stop::AsPayment(stop) => answer(sources, payment, stop, out),
         Stop::NotShare => put_fault(&[Part::Text(NOT_SHARE)], Status::Input, out),
-        Stop::ShareDust(place) => {
+        Stop::ShareDust(index) => {
             put_fault(
-                &[Part::Number(SHARE_DUST, place as u64)],
+                &[Part::Number(SHARE_DUST, index as u64)],
                 Status::Input,
                 out,
             )

@@ -51,8 +51,8 @@ fn outcome<H: Shelf>(
 /// these the one that is worth least. Where the tries are used up it writes no log.
 ///
 /// What is refused gets its fault line there. A request that isn't for `weight`, lists coins or names a payment to be replaced is
-/// refused before anything of its plan. A recipient that can't bear its share is refused behind the searches, and no log is
-/// written.
+/// refused before anything of its plan. A recipient that can't bear its share is refused behind the searches, by its index,
+/// and no log is written.
 ///
 /// The clauses on content hold where the shelf and the sink tell theirs.
 pub fn share<H: Shelf, O: Sink>(

@@ -49,7 +49,7 @@ fn paid_report(
     ensures { IfOk result (λ text. IsPaidText held.now request.now tries payment text.items) }
 {
     let paying = with_amounts(alloc, request, amounts)?;
-    let mut text = shared_lines(alloc, request, &paying, tries, &payment, amounts)?;
+    let mut text = shared_lines(alloc, &paying, tries, &payment, amounts)?;
     let Paying { coins, change, .. } = payment;
     let psbt = payment_text(alloc, held, &paying, coins, change)?;
     put_psbt(&mut text, psbt.as_str())?;

@@ -1,6 +1,6 @@
 //! What is printed and written.
 
-ghost use Rattle.std.specs.Prelude.{◌≡◌, ◌≤◌, ◌+◌, ◌++◌, ◌∷◌, [], IfOk, OnOk, string_bytes};
+ghost use Rattle.std.specs.Prelude.{◌≡◌, ◌≤◌, ◌+◌, ◌-◌, ◌++◌, ◌∷◌, [], IfOk, OnOk, string_bytes};
 ghost use Rattle.closing_log.specs.declared.log.Stage.TheVariants as stages;
 ghost use Rattle.fund_plan.specs.Pays.{outputs_of};
 ghost use Rattle.fund_report.specs.ReportText.{IsReportText};
@@ -8,7 +8,6 @@ ghost use Rattle.fund_steps.specs.Amounts.{AreWithin, value_of};
 ghost use Rattle.command_end.specs.LinesText.{lines_text};
 ghost use Rattle.command_inputs.specs.Outcome.{none_report};
 ghost use Rattle.command_share.specs.Outcome.{change_line, head_lines, log_text, open_report, pay_line, pay_lines, shared_lines};
-ghost use Rattle.command_share.specs.Paying.{amounts_left, shared_request};
 
 use crate::rows::Paying;
 use closing_log::{LogText, Section, Stage, write_sections};
@@ -113,23 +112,19 @@ fn fee_of(paying: &Request, payment: &Paying) -> u64
     }
 }
 
-/// The report of a payment up to its PSBT. The error is out of memory.
+/// The report of a payment up to its PSBT, by the request with the amounts that are paid. The error is out of memory.
 #[tactic(auto, unfolding(crate::specs::Outcome::shared_lines))]
 pub fn shared_lines(
     alloc: Global,
-    request: &Request,
     paying: &Request,
     tries: u64,
     payment: &Paying,
     amounts: &[u64],
 ) -> Result<String, Memory>
-    requires paying { paying.now ≡ shared_request request.now payment.now.borne }
-    requires amounts { amounts.now ≡ amounts_left request.now payment.now.borne }
     requires coins { AreWithin payment.now.coins }
     requires within { outputs_of paying.now payment.now.change ≤ value_of payment.now.coins }
-    ensures { IfOk result (λ text. string_bytes text ≡ shared_lines request.now tries payment.now) }
+    ensures { IfOk result (λ text. string_bytes text ≡ shared_lines amounts.now (value_of payment.now.coins - outputs_of paying.now payment.now.change) tries payment.now) }
 {
-    let _ = request;
     let fee = fee_of(paying, payment);
     let mut text = head(alloc, payment.row.number, tries)?;
     put_coins(alloc, &mut text, &payment.coins)?;

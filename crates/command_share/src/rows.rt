@@ -221,6 +221,7 @@ pub fn search_rows(
     requires change { IsWatch change.now }
     ensures value { IfOk result (λ run. searched request.now change.now candidates.now ≡ Ok run) }
     ensures means { IfOk result (λ run. AreSearches request.now change.now candidates.now run run.end) }
+    ensures tries { IfOk result (λ run. run.tries ≤ request.now.tries) }
     ensures fault { IfErr result (AreCrowded request.now change.now candidates.now) }
 {
     let rows = ladder(false, false);

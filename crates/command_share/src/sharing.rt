@@ -37,8 +37,8 @@ fn dusts(alloc: Global, recipients: &[Recipient]) -> Result<Vec<u64>, Memory>
     Ok(dusts)
 }
 
-/// What each recipient is left with where they bear so much together, in satoshi. The error is [`ShareFault::ShareDust`] where one
-/// is below its share and its dust threshold together, or out of memory.
+/// What each recipient is left with where they bear so much together, in satoshi. The error is [`ShareFault::ShareDust`] where
+/// one is below its share and its dust threshold together, or out of memory.
 pub fn left(alloc: Global, request: &Request, borne: u64) -> Result<ShareList, ShareFault>
     ensures value { IfOk result (λ l. l ≡ amounts_left request.now borne) }
     ensures left { IfOk result (λ _. AreLeft borne (amounts_of request.now) (dusts_of request.now) (amounts_left request.now borne)) }

@@ -14,8 +14,9 @@ pub enum Stop {
     AsPayment(PaymentStop),
     /// The request isn't taken: its method isn't `weight`, it lists coins, or it names a payment to be replaced.
     NotShare,
-    /// The recipient at this place, from 0, is the first that is below its share and its dust threshold together.
-    ShareDust(usize),
+    /// The recipient of this index, from 0, is the first that is below its share and its dust threshold together. An index above
+    /// 4,294,967,295 is given as that.
+    ShareDust(u32),
 }
 
 impl From<PaymentStop> for Stop {
@@ -45,7 +46,7 @@ impl From<ShareFault> for Stop {
 
     fn from(fault: ShareFault) -> Stop {
         match fault {
-            ShareFault::ShareDust(place) => Stop::ShareDust(place),
+            ShareFault::ShareDust(index) => Stop::ShareDust(index),
             ShareFault::Memory => Stop::AsPayment(PaymentStop::Memory),
         }
     }

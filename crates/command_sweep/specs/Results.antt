@@ -32,8 +32,9 @@ pub record SweepsAll (k : Chain) (r : PlainRequest) (coins : List Candidate) (am
   pub rules : IsRequest (swept_request r amount)
 
 -- A wallet, blocks and a request with a payment of all coins, which are within their bounds. It pays at least the fee of its
--- declared weight and the prices of its coins. What a signer gets is a PSBT in the request's version (BIP 174, BIP 370), of which each input shows the value and
--- the script of its coin. The report tells of it. Where the files are told, they hold this wallet, these blocks and this request.
+-- declared weight and the prices of its coins. What a signer gets is a PSBT in the request's version (BIP 174, BIP 370), of which
+-- each input shows the value and the script of its coin. The report tells of it. Where the files are told, they hold this wallet,
+-- these blocks and this request.
 pub record IsSwept (told_files : Type 0) (files : List ℕ → List ℕ) (s : Sources) (p : Payment) (report : List ℕ) : Type 0 where
   pub wallet : PlainWallet
   pub blocks : List ChainBlock

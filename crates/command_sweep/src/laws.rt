@@ -14,9 +14,9 @@ ghost use Rattle.command_sweep.specs.Inputs.{AreInputs, CanSweep, IsMeant, IsNot
 ghost use Rattle.command_sweep.specs.Outcome.{NoSelection, NotSweep, Refused, Swept, TooHeavy, outcome_of, sweep_report};
 ghost use Rattle.command_sweep.specs.Results.{IsShort, SweepsAll};
 
-/// The law of what the files of a sweep come to: a cause for a refusal which they mean is the one that they come to, and so is a
-/// request that a sweep doesn't take, and a payment that is too heavy. Otherwise they come to no selection where there is no coin
-/// or less is left than is asked for, and to the payment of all coins where that is made. A call does nothing.
+/// The law of what the files of a sweep come to. A cause for a refusal which they mean is the one that they come to. So is a
+/// request that a sweep doesn't take, and a payment that is too heavy. Otherwise they come to no selection where there is no
+/// coin, or less is left than is asked for. They come to the payment of all coins where that is made. A call does nothing.
 pub fn sweeps_are_due()
     ensures refused { (files : List ℕ → List ℕ) (s : Sources) (p : Payment) (cause : Cause) → IsMeant files s p cause → outcome_of files s p ≡ Refused cause }
     ensures not_sweep { (files : List ℕ → List ℕ) (s : Sources) (p : Payment) → IsNotSweep files s p → outcome_of files s p ≡ NotSweep }

@@ -16,8 +16,8 @@ pub enum Unsuited {
     /// `sweep` takes a request with one recipient that lists no coins and replaces no payment.
     NotSweep,
     /// Of `share`: the recipient of this index is the first that is below its share of the fee and its dust threshold
-    /// together.
-    ShareDust(usize),
+    /// together. An index above 4,294,967,295 is given as that.
+    ShareDust(u32),
     /// Of `sweep`: the payment of all coins has this weight, in weight units, and more than 400,000.
     TooHeavy(u64),
 }

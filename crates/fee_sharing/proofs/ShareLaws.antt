@@ -6,7 +6,8 @@ use Rattle.std.proofs.lemmas.Bool.{cases_lt}
 use Rattle.std.proofs.lemmas.Bool.Decides.{nat_tests}
 use Rattle.std.proofs.lemmas.List.{get_or-map, length-map}
 use Rattle.std.proofs.lemmas.List.Sums.{sum_by-cons}
-use Rattle.fee_sharing.specs.Shares.{AllReach, AreLeft, left_of, less_parts, share_of}
+use Rattle.psbt_codec.specs.Fault.{shown}
+use Rattle.fee_sharing.specs.Shares.{AllReach, AreLeft, IsFirstShort, IsFirstShortAt, left_of, less_parts, share_of}
 
 no_less : (a b : ℕ) → (a < b → ⊥) → b ≤ a
 no_less a b h =
@@ -118,6 +119,10 @@ some_left borne (first ∷ others) dusts some reach = left_by borne first others
 -- what is left of amounts that reach
 pub are_left : (borne : ℕ) (amounts dusts left : List ℕ) → 0 < length amounts → AllReach borne amounts dusts → left ≡ left_of borne amounts → AreLeft borne amounts dusts left
 are_left borne amounts dusts left some reach is = subst (AreLeft borne amounts dusts) (sym is) (some_left borne amounts dusts some reach)
+
+-- the first that falls short, by the index that a fault shows
+pub first_at : (borne : ℕ) (amounts dusts : List ℕ) (place index : ℕ) → IsFirstShort borne amounts dusts place → index ≡ shown place → IsFirstShortAt borne amounts dusts index
+first_at borne amounts dusts place index first is = record { place = place; first = first; index_is = is }
 
 -- ---- as it is worked out
 

@@ -72,6 +72,7 @@ finished x row new budget p s tries fits tried is section_is tries_are =
       is = whole;
       done = over;
       tries_are = tries_are ∙ ap (λ (w : Walk). w.tries) tried.walk;
+      fits = fits;
       best = subst (λ (z : PlainSection). IsBest x z.answer) (sym whole) (walk_best x fits budget over);
       accepted = subst (λ (z : PlainSection). IsAcceptedText x z.answer z.letters) (sym whole) ((walk x budget).tokens, refl, walk_accepted x fits budget over);
     }

@@ -1,9 +1,8 @@
 -- What a payment weighs whose recipients bear the fee.
-use Rattle.std.proofs.Common.{◌≡◌, ◌+◌, ◌*◌, ◌∙◌, ℕ, List, [], Option, Some, None, refl, ap, arith}
+use Rattle.std.proofs.Common.{◌≡◌, ◌+◌, ◌*◌, ℕ, List, Option, Some, None, refl, arith}
 use Rattle.coin_candidates.specs.declared.candidate.Candidate.{Candidate}
 use Rattle.fee_rates.specs.Output.{output_size_of}
 use Rattle.fee_rates.specs.Terms.{base_of}
-use Rattle.fee_rates.specs.declared.terms.Terms.{Terms}
 use Rattle.fund_plan.specs.Pays.{payment_weight}
 use Rattle.fund_steps.specs.Amounts.{weight_of}
 use Rattle.fund_steps.specs.Terms.{load_of}

@@ -15,7 +15,7 @@ use Rattle.output_groups.specs.declared.rows.Row.{Row}
 use Rattle.pick_problem.specs.Best.{IsBest}
 use Rattle.pick_problem.specs.Digest.{digest_of}
 use Rattle.pick_problem.specs.Letters.{IsAcceptedText, letters_of}
-use Rattle.pick_problem.specs.Problem.{PlainProblem}
+use Rattle.pick_problem.specs.Problem.{IsProblem, PlainProblem}
 use Rattle.pick_problem.specs.Walk.{Walk, walk}
 use Rattle.pick_problem.specs.declared.item.Kind.TheVariants as kind
 use Rattle.request_text.specs.PlainRequest.{PlainRequest, paid_to}
@@ -107,13 +107,15 @@ amount_of (Some amount) = amount
 
 -- ---- what a row comes to
 
--- A finished search: it has the row, the stage `lean-small` and the digest of its problem. Its answer is the best selection
--- of the problem: the lightest one, and of these the one of least value. It has none exactly where no selection is
--- admissible. Its letters are accepted with that answer. It is what so many tries leave, of which these were made.
+-- A finished search: it has the row, the stage `lean-small` and the digest of its problem, which keeps the rules of problems.
+-- Its answer is the best selection of the problem: the lightest one, and of these the one of least value. It has none exactly
+-- where no selection is admissible. Its letters are accepted with that answer. It is what so many tries leave, of which these
+-- were made.
 pub record IsFinished (x : PlainProblem) (row budget : ℕ) (s : PlainSection) (tries : ℕ) : Type 0 where
   pub is : s ≡ record { row = row; stage = stage.LeanSmall; digest = digest_of x; letters = letters_of (walk x budget).tokens; answer = (walk x budget).best }
   pub done : (walk x budget).done ≡ true
   pub tries_are : tries ≡ (walk x budget).tries
+  pub fits : IsProblem x
   pub best : IsBest x s.answer
   pub accepted : IsAcceptedText x s.answer s.letters
 

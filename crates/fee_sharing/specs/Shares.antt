@@ -1,5 +1,6 @@
 -- What each recipient bears of a sum, and what it is left with, in satoshi.
 use Rattle.std.specs.Prelude.{ℕ, ◌≡◌, ◌<◌, ◌≤◌, ◌+◌, ◌-◌, ◌/◌, ◌%◌, ◌==◌, List, [], ◌∷◌, length, map, sum, slice_index, if◌then◌else◌}
+use Rattle.psbt_codec.specs.Fault.{shown}
 use Rattle.fee_sharing.specs.declared.fault.ShareFault.{ShareFault}
 use Rattle.fee_sharing.specs.declared.fault.ShareFault.TheVariants.{ShareDust, Memory}
 
@@ -17,6 +18,12 @@ pub record IsFirstShort (borne : ℕ) (amounts dusts : List ℕ) (place : ℕ) :
   pub within : place < length amounts
   pub short : FallsShort borne amounts dusts place
   pub before : (k : ℕ) → k < place → FallsShort borne amounts dusts k → ⊥
+
+-- an index shows the first such, as a fault gives indices
+pub record IsFirstShortAt (borne : ℕ) (amounts dusts : List ℕ) (index : ℕ) : Type 0 where
+  pub place : ℕ
+  pub first : IsFirstShort borne amounts dusts place
+  pub index_is : index ≡ shown place
 
 -- no amount does
 abbrev pub AllReach : (borne : ℕ) (amounts dusts : List ℕ) → Type 0
@@ -38,8 +45,8 @@ less_parts part over (first ∷ others) = (first - (part + over)) ∷ map (λ n.
 unfoldable pub left_of : (borne : ℕ) (amounts : List ℕ) → List ℕ
 left_of borne amounts = less_parts (borne / length amounts) (borne % length amounts) amounts
 
--- Why there are no shares. The first amount that is below its share and its dust threshold together is told by its place.
+-- Why there are no shares. The first amount that is below its share and its dust threshold together is told by its index.
 -- Where memory is short, no amount is.
 abbrev pub IsShareFault : (borne : ℕ) (amounts dusts : List ℕ) → ShareFault → Type 0
-IsShareFault borne amounts dusts (ShareDust k) = IsFirstShort borne amounts dusts k
+IsShareFault borne amounts dusts (ShareDust index) = IsFirstShortAt borne amounts dusts index
 IsShareFault borne amounts dusts Memory = AllReach borne amounts dusts

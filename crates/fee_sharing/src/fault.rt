@@ -7,8 +7,9 @@ use fund_base::Memory;
 /// Why amounts can't bear their shares.
 #[derive(Clone, Copy, PartialEq, Eq)]
 pub enum ShareFault {
-    /// The amount at this place, from 0, is below its share and its dust threshold together. It is the first such.
-    ShareDust(usize),
+    /// The amount of this index, from 0, is below its share and its dust threshold together. It is the first such. An index
+    /// above 4,294,967,295 is given as that.
+    ShareDust(u32),
     /// There was not enough memory. Each amount can bear its share then.
     Memory,
 }

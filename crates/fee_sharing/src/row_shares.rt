@@ -108,7 +108,8 @@ pub(crate) fn seen(alloc: Global, groups: &Groups, row: &Row) -> Result<RowItems
 ///
 /// The pool is that of the row at rate 0 and without prices, so that a group is worth what its coins are, and no unconfirmed
 /// parent is raised to the rate. A selection is to be worth the sum of the amounts, and at least 1 satoshi. It leaves the
-/// weight that a change output takes. The lightest one is looked for, and of these the one that is worth least (Bitcoin Core, `CoinGrinder`).
+/// weight that a change output takes. The lightest one is looked for, and of these the one that is worth least (Bitcoin Core,
+/// `CoinGrinder`).
 ///
 /// What it is worth above the amounts is change, exactly where that is no less than the least change that is worth making.
 /// With a change the recipients bear the fees of the base, of each input and of the change output. Without one they bear what

@@ -90,6 +90,7 @@ pub fn problem(
     let least = paid(request).max(1);
     let items = Rc::new(alloc, items)?;
     let problem = Problem::new(items, least, least, most_weight, Kind::Lean);
+    // A problem that is made keeps its rules.
     let _ = problem.items();
     Ok(problem)
 }

@@ -1,6 +1,7 @@
 //! What each recipient bears of a fee, and what it is left with.
 
 ghost use Rattle.std.specs.Prelude.{◌≡◌, ◌++◌, ◌-◌, ◌<◌, ◌≤◌, IfErr, IfOk, MatchOption, OnOk, length, map, All};
+ghost use Rattle.psbt_codec.specs.Fault.{shown};
 ghost use Rattle.fee_sharing.specs.Shares.{AllReach, AreLeft, IsFirstShort, IsShareFault, left_of, less_parts, share_of};
 
 use crate::fault::ShareFault;
@@ -61,6 +62,13 @@ fn first_short(borne: u64, amounts: &[u64], dusts: &[u64]) -> Option<usize>
     None
 }
 
+/// An index as a fault shows it: one that doesn't fit counts as the greatest that does.
+fn shown(place: usize) -> u32
+    ensures { result ≡ shown place }
+{
+    place.min(u32::MAX as usize) as u32
+}
+
 /// Appends what is left of each of these amounts, which bear an equal part.
 fn add_others(left: &mut Vec<u64>, part: u64, others: &[u64]) -> Result<(), Memory>
     ensures { OnOk result (left.new.items ≡ left.old.items ++ map (λ n. n - part) others.now) }
@@ -91,7 +99,8 @@ fn left(alloc: Global, borne: u64, amounts: &[u64]) -> Result<Vec<u64>, Memory>
 /// length, which isn't 0, and a dust threshold is at most 1,000,000 satoshi.
 ///
 /// The error is [`ShareFault::ShareDust`] exactly where an amount is below the sum of its share and its dust threshold, with
-/// the place of the first such. [`ShareFault::Memory`] comes only where there is no such amount.
+/// the index of the first such. [`ShareFault::Memory`] comes only where there is no such amount.
+#[tactic(auto, using(crate::proofs::ShareLaws::first_at))]
 pub fn shares(
     alloc: Global,
     borne: u64,
@@ -108,7 +117,7 @@ pub fn shares(
     ensures short { IfErr result (IsShareFault borne amounts.now dusts.now) }
 {
     if let Some(place) = first_short(borne, amounts, dusts) {
-        return Err(ShareFault::ShareDust(place));
+        return Err(ShareFault::ShareDust(shown(place)));
     }
     let amounts = left(alloc, borne, amounts)?;
     Ok(ShareList { amounts })

@@ -124,7 +124,8 @@ fn left(request: &Request, base: u64, coins: &[Candidate]) -> i128
 /// The payment of all coins to the one recipient of the request.
 ///
 /// Its inputs are all coins of the pool of the ladder's last row, each a group by itself, in the order of their outpoints:
-/// those that are worth more than the fee and the price of their input (Bitcoin Core, `sendall` with `send_max`). The recipient gets what they are worth less the fees of their inputs and their prices, less the fee of the base, in satoshi.
+/// those that are worth more than the fee and the price of their input (Bitcoin Core, `sendall` with `send_max`). The
+/// recipient gets what they are worth less the fees of their inputs and their prices, less the fee of the base, in satoshi.
 /// The answer is `Short` where this is less than the request asks for, or where there is no coin.
 ///
 /// The candidates are together worth at most [`fund_base::MAX_MONEY`], and the request has one recipient. The error is

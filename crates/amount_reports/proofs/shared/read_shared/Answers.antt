@@ -2,4 +2,4 @@ use Rattle.amount_reports.proofs.SharedLaws.{tells_only}
 use Rattle.amount_reports.proofs.shared.read_shared.Goals as goal
 
 pub returns-clause-only : goal.returns-clause-only
-returns-clause-only c = tells_only c.args.bytes.now c.read_whole.result c.read_whole.ensures
+returns-clause-only c = tells_only c.args.bytes.now c.read_whole.result c.read_whole.ensures.agrees

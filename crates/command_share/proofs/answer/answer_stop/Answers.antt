@@ -9,5 +9,5 @@ returns-in-ShareDust-clause-answered g c =
     let old = g.O.Sink.view c.args.out.now in
     let new = g.O.Sink.view c.put_fault-in-ShareDust.new.out in
     rw c.in-ShareDust.is (
-    subst (λ (number : List ℕ). IsAnswered g.O.Sink.tells (codes "input plan ShareDust " ++ number) statuses.Input old new c.put_fault-in-ShareDust.result) (append-nil (decimal c.in-ShareDust.place)) c.put_fault-in-ShareDust.ensures.answered
+    subst (λ (number : List ℕ). IsAnswered g.O.Sink.tells (codes "input plan ShareDust " ++ number) statuses.Input old new c.put_fault-in-ShareDust.result) (append-nil (decimal c.in-ShareDust.index)) c.put_fault-in-ShareDust.ensures.answered
     )

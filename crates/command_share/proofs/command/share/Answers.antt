@@ -1,4 +1,4 @@
-use Rattle.std.proofs.Common.{◌∙◌, inl, inr, refl}
+use Rattle.std.proofs.Common.{◌∙◌, ap, ℕ, inl, inr, List, refl}
 use Rattle.command_end.proofs.WholeLaws.{put_whole}
 use Rattle.command_end.specs.Names.{plain_sources}
 use Rattle.command_end.specs.declared.status.Status.TheVariants as statuses
@@ -92,6 +92,9 @@ returns-in-Shared-clause-none_behind g c = λ t.
 
 pub returns-in-Unfinished-clause-all_read : goal.returns-in-Unfinished-clause-all_read
 returns-in-Unfinished-clause-all_read g c = λ other. c.in-Ok.ensures.all_read (λ file e. cc)
+
+pub returns-in-NoSelection-clause-others : goal.returns-in-NoSelection-clause-others
+returns-in-NoSelection-clause-others g c = λ t other apart. c.finish.ensures.others t other apart ∙ ap (λ (files : List ℕ → List ℕ). files other) (c.outcome.ensures.frame.same t)
 
 pub returns-in-NoSelection-clause-all_read : goal.returns-in-NoSelection-clause-all_read
 returns-in-NoSelection-clause-all_read g c = λ other. c.finish.ensures.reads ∙ c.in-Ok.ensures.all_read (λ file e. cc)

@@ -18,7 +18,7 @@ returns-clause-run c =
     let own = ap (λ (k : Chain). k.wallet.change) c.held.view_is in
     let coins = subst (λ (l : List Candidate). AreCoins a.held.now a.request.now l) (sym c.deref.ensures.value) c.in_ok-candidates.ensures.coins in
     let e = c.in_ok-run.ensures in
-    run_is a.held.now a.request.now _ c.deref.result.now c.in_ok-run.run' own coins e.value e.means
+    run_is a.held.now a.request.now _ c.deref.result.now c.in_ok-run.run' own coins e.value e.tries e.means
 
 pub returns-in_err-run-clause-stop : goal.returns-in_err-run-clause-stop
 returns-in_err-run-clause-stop c =

@@ -49,8 +49,8 @@ returns-in-Found c =
     elim c.in-Found.is [
       | inl found ↦
           let done = first_found a.request.now a.change.now a.candidates.now first _ value (view ∙ found.1) ended in
-          record { value = done.0; means = done.1; fault = tt }
+          record { value = done.0; means = done.1; tries = c.in_ok-first.ensures.tries; fault = tt }
       | inr unfinished ↦
           let done = first_open a.request.now a.change.now a.candidates.now first _ value (view ∙ unfinished.1) ended in
-          record { value = done.0; means = done.1; fault = tt }
+          record { value = done.0; means = done.1; tries = c.in_ok-first.ensures.tries; fault = tt }
     ]
