@@ -27,9 +27,10 @@ use Rattle.command_wide.specs.Outcome.{Funded, NoSelection, Unfinished, open_rep
 
 -- A wallet, blocks and a request with a payment without change: its coins are candidates of groups of the pool of the row that it
 -- names; the transaction made of them pays each recipient exactly, and at least the fee, with the Pending payments that its coins
--- rest on too. What a signer gets is a PSBT (BIP 174) of which each input shows the value and the script of its coin. An exhausted
--- payment is proved to be of the least waste of all choices of the first row that has one, by the log, of which each section is
--- accepted. The report and the log tell of it. Where the files are told, they hold this wallet, these blocks and this request.
+-- rest on too. What a signer gets is a PSBT (BIP 174, or BIP 370 in version 2) of which each input shows the value and the script of
+-- its coin. An exhausted payment is proved to be of the least waste of all choices of the first row that has one, by the log, of
+-- which each section is accepted. The report and the log tell of it. Where the files are told, they hold this wallet, these blocks
+-- and this request.
 pub record IsFunded (told_files : Type 0) (files : List ℕ → List ℕ) (s : Sources) (p : Payment) (report log : List ℕ) : Type 0 where
   pub wallet : PlainWallet
   pub blocks : List ChainBlock

@@ -43,9 +43,10 @@ pub record EndsByStatus (v : Outside) (words : Option Command) (status : Status)
   -- Done, where a job was gone on with: coins, transaction, PSBT and log are as with `done`, and the mark claims what `ClaimsOn`
   -- says, whatever the keeper returned.
   pub resumed : status ≡ statuses.Done → WhereResuming words (λ s p job. EndsResumed v.tells_files v.tells_output v.tells_jobs s p job v.shelf v.shelf' v.sink v.sink' v.keeper)
-  -- No selection: no search and no draw has a result, and the presets alone don't pay. The log, which proves it of each search, is
-  -- written, and the report is printed. A workload can end so too: its summary is printed. `wide` ends so where no row has coins that
-  -- pay without change, `share` where neither row 1 nor row 2 reaches the amounts, which their logs prove. `sweep` ends so where all
+  -- No selection: no search and no draw has a result, and the presets alone don't pay. Unless these bring all that is due, no choice
+  -- of groups from any row does for what the method looks for, `manual` aside. The log, which proves it of each search, is written,
+  -- and the report is printed. A workload can end so too: its summary is printed. `wide` ends so where no row has coins that pay
+  -- without change, `share` where neither row 1 nor row 2 reaches the amounts, which their logs prove. `sweep` ends so where all
   -- coins bring less than is asked for; it has no log.
   pub none : status ≡ statuses.NoSelection → IfSome words (λ c. EndsNotFunded v.tells_files v.tells_output v.tells_jobs c v.shelf v.shelf' v.sink v.sink' v.keeper)
   -- Unfinished: the request's tries are made, or as many as the job had left. A search is open. Either nothing was found, or the
@@ -55,8 +56,9 @@ pub record EndsByStatus (v : Outside) (words : Option Command) (status : Status)
   pub unfinished : status ≡ statuses.Unfinished → IfSome words (λ c. EndsUnfinished v.tells_files v.tells_output v.tells_jobs c v.shelf v.shelf' v.sink v.sink' v.keeper v.keeper')
   -- Done, where coins are listed: the states and the candidates are printed, and nothing else.
   pub listed : status ≡ statuses.Done → WhereListing words (λ s. EndsListed v.tells_files v.tells_output s v.shelf v.sink v.sink')
-  -- Done, where a report is checked: it is accepted with its log, so it vouches for the answer that it names. That and its first
-  -- line are printed, and nothing else.
+  -- Done, where a report is checked: it is accepted with its log, so it vouches for the plan's answer. A partial one vouches only
+  -- that it pays as it says, an unfinished one only for its form. Where the request names a payment, the report's payment replaces
+  -- it by BIP 125. That it is accepted and its first line are printed, and nothing else.
   pub accepted : status ≡ statuses.Done → WhereChecking words (λ s p report. EndsAccepted v.tells_files v.tells_output s p report v.shelf v.sink v.sink')
   -- Done, where a workload is summed up: the same is true of the payment from it as of one from files, and the summary of its
   -- report is printed, and nothing else.
@@ -77,9 +79,9 @@ pub record EndsByStatus (v : Outside) (words : Option Command) (status : Status)
   -- recipient can't bear its share, `sweep` where the payment is too heavy, and `work` where two of its transactions have one txid. At a
   -- desk the rule is one of the wallet or the blocks.
   pub input : status ≡ statuses.Input → IfSome words (λ c. EndsInput v.tells_files v.tells_output c v.shelf v.sink v.sink')
-  -- Limit: the first limit of a file is told, or a row of the ladder keeps more than 10,000 groups. A report, a transaction, a script and
-  -- a file that a line of it names are files here. Or it is a limit of the kept job: its tries are all made, or its parts are too long. A
-  -- desk that has printed a reply puts no line.
+  -- Limit: the first limit of a file is told, or the files have more than 100,000 coins, or a row of the ladder keeps more than
+  -- 10,000 groups. A report, a log that is judged, a transaction, a script and a file that a line of it names are files here. Or it
+  -- is a limit of the kept job: its tries are all made, or its parts are too long. A desk that has printed a reply puts no line.
   pub limit : status ≡ statuses.Limit → IfSome words (λ c. EndsLimited v.tells_files v.tells_output v.tells_jobs c v.shelf v.shelf' v.sink v.sink' v.keeper)
   -- Saved, with `resume` alone: the first rule that the kept job breaks is told, after those of the files.
   pub saved : status ≡ statuses.Saved → IfSome words (λ c. EndsNotKept v.tells_files v.tells_output v.tells_jobs c v.shelf v.sink v.sink' v.keeper)
