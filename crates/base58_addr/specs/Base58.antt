@@ -1,5 +1,5 @@
 -- The letters of base58, and which bytes a text of them stands for (Bitcoin developer reference, 'Base58Check').
-use Rattle.std.specs.Prelude.{ℕ, ◌==◌, ◌%◌, List, map, length, position, slice_index, codes, Option, unwrap_or}
+use Rattle.std.specs.Prelude.{ℕ, ◌==◌, ◌%◌, nat_le, List, map, length, position, slice_index, codes, Option, unwrap_or}
 use Rattle.base58_addr.specs.Rebasing.{rebased}
 
 -- the letters of the values from 0 to 57
@@ -25,6 +25,10 @@ letter_at letters place = slice_index letters (place % 58)
 -- the letter of a value
 abbrev pub letter_of : ℕ → ℕ
 letter_of value = letter_at alphabet value
+
+-- the place of the first letter that isn't in the alphabet
+abbrev pub other_letter : List ℕ → Option ℕ
+other_letter text = position (λ c. nat_le 58 (value_of c)) text
 
 -- The text that stands for these bytes: a `1` for each zero that they begin with, and the digits of their number.
 abbrev pub text_of : List ℕ → List ℕ

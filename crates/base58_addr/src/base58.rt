@@ -3,7 +3,7 @@
 ghost use Rattle.std.specs.Prelude.{◌≡◌, ◌≤◌, ◌==◌, IfSome, length, nat_le};
 ghost use Rattle.std.specs.List.{list_any, take_while};
 ghost use Rattle.sha2.specs.Sha256.{sha256};
-ghost use Rattle.base58_addr.specs.Base58.{found_at, place_of, value_of, letter_at, letter_of};
+ghost use Rattle.base58_addr.specs.Base58.{found_at, letter_at, letter_of, other_letter, place_of, value_of};
 
 use sha2::{Digest, Sha256};
 
@@ -56,6 +56,13 @@ fn is_unknown(c: u8) -> bool
     ensures { result ≡ nat_le 58 (value_of c) }
 {
     value(c) >= 58
+}
+
+/// The place of the first letter that isn't in the alphabet, counted in bytes from 0; none exactly where all are.
+pub fn other_letter(text: &[u8]) -> Option<usize>
+    ensures { result ≡ other_letter text.now }
+{
+    text.iter().position(|c| is_unknown(*c))
 }
 
 /// Whether one of these letters isn't in the alphabet.

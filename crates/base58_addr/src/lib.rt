@@ -9,6 +9,7 @@ mod fault;
 mod laws;
 mod number;
 
+pub use base58::other_letter;
 pub use decoding::decode;
 pub use encoding::encode;
 pub use fault::Base58Fault;

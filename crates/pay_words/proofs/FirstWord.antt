@@ -1,9 +1,8 @@
 -- Where memory runs out, the first word is that of a flag.
-use Rattle.std.proofs.Common.{◌≡◌, ℕ, zero, suc, ◌+◌, ◌<◌, List, [], ◌∷◌, length, get_or, Option, Some, None, Result, Ok, Err, String, string_bytes, refl, sym, subst, arith}
+use Rattle.std.proofs.Common.{◌≡◌, ℕ, zero, suc, ◌<◌, List, [], ◌∷◌, length, get_or, Option, Some, None, Result, Ok, Err, String, string_bytes, refl, sym, subst, arith}
 use Rattle.std.specs.Prelude.{IsOk, IsSome}
 use Rattle.std.specs.declared.alloc.Global.{Global}
 use Rattle.fund_base.proofs.Laws.{bind_ok}
-use Rattle.fund_base.specs.Parsing.{◌>>=◌}
 use Rattle.pay_words.specs.Asked.{PlainNames, each_name, names_in, needed_name}
 use Rattle.pay_words.specs.Flags.{flag_of}
 use Rattle.pay_words.specs.Given.{BeginsWithFlag, ended_by, flags_from, flags_in, named, next_of, place_of}

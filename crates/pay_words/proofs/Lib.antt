@@ -5,4 +5,6 @@ pub mod NameLaws
 pub mod PaymentRest
 pub mod Pieces
 pub mod Rest
+pub mod SettingsLaws
+pub mod SpreadLaws
 pub mod WayLaws

@@ -1,5 +1,5 @@
 -- What asks for a low rate is given the flag that allows it.
-use Rattle.std.proofs.Common.{◌≡◌, ◌<◌, ℕ, Bool, true, false, ltb, List, Option, Some, None, Result, Ok, Err, String, if◌then◌else◌, refl, ap, subst, ◌∙◌, arith, inl, inr}
+use Rattle.std.proofs.Common.{◌≡◌, ◌<◌, ℕ, Bool, true, false, ltb, List, Option, Some, None, Result, Ok, Err, String, if◌then◌else◌, refl, ap, subst, arith, inl, inr}
 use Rattle.std.specs.Prelude.{◌&&◌, not}
 use Rattle.std.specs.declared.alloc.Global.{Global}
 use Rattle.std.proofs.lemmas.Bool.{and_cases, both_ways, lt-ltb, not-false}
@@ -8,13 +8,14 @@ use Rattle.fund_base.proofs.Laws.{bind_ok, ok_is}
 use Rattle.request_making.specs.declared.settings.Settings.{Settings}
 use Rattle.pay_words.specs.Asked.{PlainAsked, asked_by, asked_in, names_in, some_paid}
 use Rattle.pay_words.specs.Given.{flags_in, place_of}
-use Rattle.pay_words.specs.Settings.{default_or, fee_rate, low_or_not, max_fee, method_or_auto, rate_or, seed_or, settings_given, tries_or}
+use Rattle.pay_words.specs.Settings.{default_or, fee_rate, low_or_not, max_fee, settings_given}
 use Rattle.pay_words.specs.Values.{has, rate_at, word_at}
 use Rattle.pay_words.specs.Ways.{way_of}
 use Rattle.pay_words.specs.declared.fault.WordFault.{WordFault}
 use Rattle.pay_words.specs.declared.fault.WordFault.TheVariants as faults
 use Rattle.pay_words.specs.declared.flag.Flag.TheVariants as flags
 use Rattle.pay_words.specs.declared.given.Given.{Given}
+use Rattle.pay_words.proofs.SettingsLaws.{settings_are}
 
 low_allowed : (given : List Given) (place rate taken : ℕ) → low_or_not given place rate ≡ Ok taken → taken < 1_000 → has given flags.AllowLowRate ≡ true
 low_allowed given place rate taken e low = by (ltb rate 1_000 && not (has given flags.AllowLowRate)) refl e
@@ -39,19 +40,6 @@ rate_allowed words given rate taken low = by (place_of given flags.FeeRate) take
     by None here = absurd cc
     by (Some place) here = let b = bind_ok (rate_at place (word_at words place)) _ rate here in low_allowed given place b.0 rate b.2 low
 
-settings_rate : (drawn : List ℕ) (words : List (String Global)) (given : List Given) (settings : Settings) → settings_given drawn words given ≡ Ok settings → fee_rate words given ≡ Ok settings.rate
-settings_rate drawn words given settings e =
-    let rate = bind_ok (fee_rate words given) _ settings e in
-    let long_term = bind_ok (rate_or 10_000 words given) _ settings rate.2 in
-    let method = bind_ok (method_or_auto words given) _ settings long_term.2 in
-    let tries = bind_ok (tries_or 100_000 words given) _ settings method.2 in
-    let seed = bind_ok (seed_or drawn words given) _ settings tries.2 in
-    rate.1 ∙ ap (λ (r : Result Settings WordFault). rate_in rate.0 r) seed.2
-  where
-    rate_in : ℕ → Result Settings WordFault → Result ℕ WordFault
-    rate_in default (Ok s) = Ok s.rate
-    rate_in default (Err e) = Ok default
-
 -- what asks for a rate below 1 satoshi per virtual byte is given the flag that allows it
 pub low_given : (drawn : List ℕ) (words : List (String Global)) (given : List Given) (asked : PlainAsked) → flags_in words ≡ Ok given → asked_in drawn words ≡ Ok asked → asked.settings.rate < 1_000 → has given flags.AllowLowRate ≡ true
 unfolding asked_in asked_by
@@ -65,7 +53,7 @@ low_given drawn words given asked read is low =
     let same : settings.0 ≡ asked.settings = ap (λ (r : Result PlainAsked WordFault). settings_or settings.0 r) way.2 in
     let one : read_in.0 ≡ given = ok_is read_in.0 given (flags_in words) read_in.1 read in
     subst (λ (g : List Given). has g flags.AllowLowRate ≡ true) one
-    (rate_allowed words read_in.0 settings.0.rate (settings_rate drawn words read_in.0 settings.0 settings.1) (omega (arith, ap (λ (s : Settings). s.rate) same, low)))
+    (rate_allowed words read_in.0 settings.0.rate (settings_are drawn words read_in.0 settings.0 settings.1).rate (omega (arith, ap (λ (s : Settings). s.rate) same, low)))
   where
     settings_or : Settings → Result PlainAsked WordFault → Settings
     settings_or default (Ok a) = a.settings

@@ -1,8 +1,10 @@
 pub mod Flags
 pub mod Given
+pub mod Payees
 pub mod Payments
 pub mod Settings
 pub mod Values
 pub mod Ways
 pub mod Asked
 pub mod Sentences
+pub mod Spread

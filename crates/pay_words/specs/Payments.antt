@@ -1,15 +1,14 @@
 -- Who is paid by words, and which coins are spent in any case.
-use Rattle.std.specs.Prelude.{ℕ, Bool, ◌==◌, nat_lt, List, [], ◌∷◌, ◌++◌, length, String, string_bytes, Option, Some, None, Result, Ok, Err, if◌then◌else◌}
+use Rattle.std.specs.Prelude.{ℕ, Bool, ◌==◌, nat_lt, List, [], ◌∷◌, ◌++◌, length, String, Option, Some, None, Result, Ok, Err, if◌then◌else◌}
 use Rattle.std.specs.List.{after_first, before_first, position_or_len}
 use Rattle.std.specs.Option.{ok_or}
 use Rattle.std.specs.Result.{result_ok}
 use Rattle.std.specs.declared.alloc.Global.{Global}
 use Rattle.hex.specs.Hex.{decode_of}
 use Rattle.fund_base.specs.Parsing.{◌>>=◌}
-use Rattle.request_making.specs.declared.payment.Payee.{Payee}
-use Rattle.request_making.specs.declared.payment.Payee.TheVariants as payees
 use Rattle.request_making.specs.declared.payment.Payment.{Payment}
 use Rattle.pay_words.specs.Flags.{is_same}
+use Rattle.pay_words.specs.Payees.{PlainPayee, Script, payee_at, plain_payee}
 use Rattle.pay_words.specs.Values.{amount_at, word_at}
 use Rattle.pay_words.specs.declared.fault.WordFault.{WordFault}
 use Rattle.pay_words.specs.declared.fault.WordFault.TheVariants as faults
@@ -17,18 +16,9 @@ use Rattle.pay_words.specs.declared.flag.Flag.{Flag}
 use Rattle.pay_words.specs.declared.flag.Flag.TheVariants as flags
 use Rattle.pay_words.specs.declared.given.Given.{Given}
 
--- to whom is paid: an address as it was given, or a script
-pub data PlainPayee : Type 0 where
-  Address : List ℕ → PlainPayee
-  Script : List ℕ → PlainPayee
-
 pub record PlainPayment : Type 0 where
   pub to : PlainPayee
   pub amount : ℕ
-
-abbrev pub plain_payee : Payee → PlainPayee
-plain_payee (payees.Address text) = Address (string_bytes text)
-plain_payee (payees.Script script) = Script script
 
 abbrev pub plain_payment : Payment → PlainPayment
 plain_payment p = record { to = plain_payee p.to; amount = p.amount }
@@ -43,7 +33,7 @@ cut_of word = if nat_lt (position_or_len is_equals word) (length word) then Some
 
 -- paid to an address
 abbrev pub to_address : ℕ → List ℕ → List ℕ → Result PlainPayment WordFault
-to_address place to amount = amount_at place amount >>= λ n. Ok (record { to = Address to; amount = n })
+to_address place to amount = amount_at place amount >>= λ n. payee_at place to >>= λ payee. Ok (record { to = payee; amount = n })
 
 -- a script in hex
 abbrev pub script_at : ℕ → List ℕ → Result (List ℕ) WordFault

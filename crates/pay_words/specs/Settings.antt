@@ -7,7 +7,7 @@ use Rattle.request_making.specs.declared.settings.Settings.{Settings}
 use Rattle.request_text.specs.declared.request.Method.{Method}
 use Rattle.request_text.specs.declared.request.Method.TheVariants as methods
 use Rattle.pay_words.specs.Given.{place_of}
-use Rattle.pay_words.specs.Values.{amount_at, has, method_at, number_at, rate_at, seed_at, word_at}
+use Rattle.pay_words.specs.Values.{amount_at, has, locktime_at, method_at, number_at, rate_at, seed_at, txid_at, word_at}
 use Rattle.pay_words.specs.declared.fault.WordFault.{WordFault}
 use Rattle.pay_words.specs.declared.fault.WordFault.TheVariants as faults
 use Rattle.pay_words.specs.declared.flag.Flag.{Flag}
@@ -30,17 +30,35 @@ low_or_not given place rate = if nat_lt rate 1_000 && not (has given flags.Allow
 abbrev pub fee_rate : List (String Global) → List Given → Result ℕ WordFault
 fee_rate words given = needed flags.FeeRate (λ place text. rate_at place text >>= λ rate. low_or_not given place rate) words given
 
-abbrev pub rate_or : ℕ → List (String Global) → List Given → Result ℕ WordFault
-rate_or rate words given = default_or (Ok rate) rate_at words (place_of given flags.LongTerm)
+abbrev pub rate_or : ℕ → Flag → List (String Global) → List Given → Result ℕ WordFault
+rate_or rate flag words given = default_or (Ok rate) rate_at words (place_of given flag)
 
-abbrev pub method_or_auto : List (String Global) → List Given → Result Method WordFault
-method_or_auto words given = default_or (Ok methods.Auto) method_at words (place_of given flags.Method)
+-- the change that is aimed at
+abbrev pub target_or : ℕ → List (String Global) → List Given → Result ℕ WordFault
+target_or target words given = default_or (Ok target) amount_at words (place_of given flags.ChangeTarget)
+
+-- the method where none is given: weight where the recipients bear the fee, and else auto
+abbrev pub usual_method : List Given → Method
+usual_method given = if has given flags.FeeFromAmount then methods.Weight else methods.Auto
+
+abbrev pub method_or_usual : List (String Global) → List Given → Result Method WordFault
+method_or_usual words given = default_or (Ok (usual_method given)) method_at words (place_of given flags.Method)
 
 abbrev pub tries_or : ℕ → List (String Global) → List Given → Result ℕ WordFault
 tries_or tries words given = default_or (Ok tries) number_at words (place_of given flags.Tries)
 
 abbrev pub seed_or : List ℕ → List (String Global) → List Given → Result (List ℕ) WordFault
 seed_or drawn words given = default_or (Ok drawn) seed_at words (place_of given flags.Seed)
+
+-- the payment that is replaced
+abbrev pub some_txid : ℕ → List ℕ → Result (Option (List ℕ)) WordFault
+some_txid place text = txid_at place text >>= λ txid. Ok (Some txid)
+
+abbrev pub bump_or_none : List (String Global) → List Given → Result (Option (List ℕ)) WordFault
+bump_or_none words given = default_or (Ok None) some_txid words (place_of given flags.Bump)
+
+abbrev pub locktime_or : ℕ → List (String Global) → List Given → Result ℕ WordFault
+locktime_or locktime words given = default_or (Ok locktime) locktime_at words (place_of given flags.LockTime)
 
 abbrev pub some_amount : ℕ → List ℕ → Result (Option ℕ) WordFault
 some_amount place text = amount_at place text >>= λ fee. Ok (Some fee)
@@ -53,14 +71,24 @@ max_fee words given = default_or (Ok None) some_amount words (place_of given fla
 abbrev pub settings_given : List ℕ → List (String Global) → List Given → Result Settings WordFault
 settings_given drawn words given = do
   rate ← fee_rate words given
-  long_term ← rate_or 10_000 words given
-  method ← method_or_auto words given
+  long_term ← rate_or 10_000 flags.LongTerm words given
+  discard ← rate_or 10_000 flags.Discard words given
+  change_target ← target_or 50_000 words given
+  method ← method_or_usual words given
   tries ← tries_or 100_000 words given
   seed ← seed_or drawn words given
+  bump ← bump_or_none words given
+  locktime ← locktime_or 0 words given
   Ok (record (plain_settings rate method seed) {
     long_term = long_term;
+    discard = discard;
+    change_target = change_target;
     tries = tries;
+    take = not (has given flags.Stop);
     zero_conf = has given flags.ZeroConf;
     include_unsafe = has given flags.Unsafe;
     group = has given flags.Group;
+    replaceable = not (has given flags.NoReplace);
+    locktime = locktime;
+    bump = bump;
   })

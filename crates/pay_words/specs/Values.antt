@@ -4,6 +4,7 @@ use Rattle.std.specs.Option.{ok_or, option_map_or}
 use Rattle.std.specs.Result.{result_ok}
 use Rattle.std.specs.declared.alloc.Global.{Global}
 use Rattle.hex.specs.Hex.{decode_sized}
+use Rattle.json_fields.specs.Fields.{hash_in}
 use Rattle.request_making.specs.Spelled.{spelled}
 use Rattle.request_making.specs.declared.unit.Kind.TheVariants as kinds
 use Rattle.fund_base.specs.Decimal.{number_of}
@@ -39,6 +40,14 @@ rate_at place text = fault_as (faults.Rate place) (spelled kinds.Rate 100_000_00
 -- a number of 64 bits
 abbrev pub number_at : ℕ → List ℕ → Result ℕ WordFault
 number_at place text = ok_or (number_of 18_446_744_073_709_551_615 text) (faults.Number place)
+
+-- a lock time of 32 bits
+abbrev pub locktime_at : ℕ → List ℕ → Result ℕ WordFault
+locktime_at place text = ok_or (number_of 4_294_967_295 text) (faults.LockTime place)
+
+-- a txid, which text shows in hex with its bytes reversed
+abbrev pub txid_at : ℕ → List ℕ → Result (List ℕ) WordFault
+txid_at place text = ok_or (hash_in text) (faults.Txid place)
 
 -- a method
 abbrev pub method_at : ℕ → List ℕ → Result Method WordFault

@@ -3,7 +3,7 @@
 ghost use Rattle.std.specs.Prelude.{◌≡◌, bytes_eq, find};
 ghost use Rattle.pay_words.specs.Flags.{flag_of, flag_word, is_same, may_repeat, takes_value};
 
-/// A flag. All but the last eight take a value: the word behind them.
+/// A flag. All but the last eleven take a value: the word behind them.
 #[derive(Clone, Copy)]
 pub enum Flag {
     /// The name of the wallet file.
@@ -18,6 +18,10 @@ pub enum Flag {
     FeeRate,
     /// The rate at which coins are thought to be spent later.
     LongTerm,
+    /// The rate at which change would be spent.
+    Discard,
+    /// The change that is aimed at.
+    ChangeTarget,
     /// How coins are chosen.
     Method,
     /// A coin that is spent in any case. It may be given more than once.
@@ -26,6 +30,10 @@ pub enum Flag {
     Tries,
     /// What draws at random are made from, in hex.
     Seed,
+    /// The payment that is replaced.
+    Bump,
+    /// The lock time.
+    LockTime,
     /// The greatest fee that is taken.
     MaxFee,
     /// The name of a file for the PSBT.
@@ -36,6 +44,12 @@ pub enum Flag {
     Group,
     /// Of all choices without change the one that wastes least is taken, with coins that aren't needed.
     Consolidate,
+    /// The recipients bear the fee.
+    FeeFromAmount,
+    /// Nothing is paid where the tries are used up before the search is done.
+    Stop,
+    /// The payment doesn't signal that it may be replaced.
+    NoReplace,
     /// The wallet's own pending outputs may be spent.
     ZeroConf,
     /// Pending outputs that a stranger may take back may be spent.
@@ -51,22 +65,29 @@ pub enum Flag {
 }
 
 /// All flags.
-const FLAGS: [Flag; 21] = [
+const FLAGS: [Flag; 28] = [
     Flag::Wallet,
     Flag::Blocks,
     Flag::To,
     Flag::ToScript,
     Flag::FeeRate,
     Flag::LongTerm,
+    Flag::Discard,
+    Flag::ChangeTarget,
     Flag::Method,
     Flag::Coin,
     Flag::Tries,
     Flag::Seed,
+    Flag::Bump,
+    Flag::LockTime,
     Flag::MaxFee,
     Flag::Psbt,
     Flag::Log,
     Flag::Group,
     Flag::Consolidate,
+    Flag::FeeFromAmount,
+    Flag::Stop,
+    Flag::NoReplace,
     Flag::ZeroConf,
     Flag::Unsafe,
     Flag::AllowLowRate,
@@ -87,15 +108,22 @@ pub fn flag_word(flag: Flag) -> &'static str
         Flag::ToScript => "--to-script",
         Flag::FeeRate => "--fee-rate",
         Flag::LongTerm => "--long-term",
+        Flag::Discard => "--discard",
+        Flag::ChangeTarget => "--change-target",
         Flag::Method => "--method",
         Flag::Coin => "--coin",
         Flag::Tries => "--tries",
         Flag::Seed => "--seed",
+        Flag::Bump => "--bump",
+        Flag::LockTime => "--locktime",
         Flag::MaxFee => "--max-fee",
         Flag::Psbt => "--psbt",
         Flag::Log => "--log",
         Flag::Group => "--group",
         Flag::Consolidate => "--consolidate",
+        Flag::FeeFromAmount => "--fee-from-amount",
+        Flag::Stop => "--stop",
+        Flag::NoReplace => "--no-replace",
         Flag::ZeroConf => "--zero-conf",
         Flag::Unsafe => "--unsafe",
         Flag::AllowLowRate => "--allow-low-rate",
@@ -119,6 +147,9 @@ pub fn takes_value(flag: Flag) -> bool
     match flag {
         Flag::Group
         | Flag::Consolidate
+        | Flag::FeeFromAmount
+        | Flag::Stop
+        | Flag::NoReplace
         | Flag::ZeroConf
         | Flag::Unsafe
         | Flag::AllowLowRate

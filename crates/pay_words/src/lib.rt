@@ -2,6 +2,7 @@
 //! their first fault; and the request file of what was asked.
 #![tactic(auto)]
 
+mod address;
 mod asked;
 mod fault;
 mod flag;
@@ -10,14 +11,19 @@ mod laws;
 mod payments;
 mod sentence;
 mod settings;
+mod spread;
 mod values;
 mod way;
 
+pub use address::Network;
 pub use asked::{Asked, Names, read_pay};
 pub use fault::WordFault;
 pub use flag::{Flag, flag_word};
 pub use laws::{
-    consolidating_chooses_all, flags_have_one_word, low_rates_are_allowed, names_are_apart,
+    addresses_pay_to_scripts, bearing_chooses_all, bumping_lists_no_coin,
+    consolidating_chooses_all, flags_have_one_word, flags_take_values_behind_signs,
+    low_rates_are_allowed, names_are_apart,
 };
-pub use sentence::{flag_about, word_place, word_sentence};
+pub use sentence::{flag_about, letter_about, word_place, word_sentence};
+pub use spread::spread_words;
 pub use way::Way;

@@ -6,6 +6,7 @@ ghost use Rattle.fund_base.specs.Parsing.{YieldsAll};
 ghost use Rattle.pay_words.specs.Payments.{coin_given, cut_of, paid_to, paid_to_script, payments_after, payments_from, plain_payment, script_at, to_address, to_script};
 ghost use Rattle.pay_words.specs.declared.fault.WordFault.TheVariants.{Memory as OutOfMemory};
 
+use crate::address::payee_at;
 use crate::fault::WordFault;
 use crate::flag::{Flag, is_same};
 use crate::given::Given;
@@ -15,24 +16,21 @@ use request_making::{Payee, Payment};
 use std::alloc::Global;
 
 /// What stands before and behind the first `=` of the word.
-fn cut_of(word: &str) -> Option<(&str, &str)>
+pub fn cut_of(word: &str) -> Option<(&str, &str)>
     ensures { option_map (λ p. (p.0.now, p.1.now)) result ≡ cut_of word.now }
 {
     word.split_once('=')
 }
 
-/// What is paid to an address. Whether it is one is judged where the request is read. It runs out of memory only where
-/// the amount is one.
+/// What is paid to an address, in base58 or of a witness program. It runs out of memory only where the amount is one, and the text
+/// pays somebody.
 fn to_address(alloc: Global, place: usize, to: &str, amount: &str) -> Result<Payment, WordFault>
     ensures gives { YieldsAll OutOfMemory plain_payment result (to_address place to.now amount.now) }
     ensures short { result ≡ Err OutOfMemory → IsOk (to_address place to.now amount.now) }
 {
     let amount = amount_at(place, amount)?;
-    let text = String::from_str(alloc, to)?;
-    Ok(Payment {
-        to: Payee::Address(text),
-        amount,
-    })
+    let to = payee_at(alloc, place, to)?;
+    Ok(Payment { to, amount })
 }
 
 /// Writes the bytes of the script that is spelled in hex. It never runs out of memory.

@@ -1,10 +1,12 @@
 //! The sentences of faults of the words.
 
 ghost use Rattle.std.specs.Prelude.{◌≡◌};
-ghost use Rattle.pay_words.specs.Sentences.{amount_sentence, flag_about, rate_sentence, word_place, word_sentence};
+ghost use Rattle.pay_words.specs.Sentences.{amount_sentence, base58_sentence, flag_about, letter_about, network_sentence, rate_sentence, word_place, word_sentence};
 
+use crate::address::Network;
 use crate::fault::WordFault;
 use crate::flag::Flag;
+use base58_addr::Base58Fault;
 use request_making::SpellingFault;
 
 /// What to do about a text that is no amount.
@@ -38,6 +40,35 @@ fn rate_sentence(fault: &SpellingFault) -> &'static str
     }
 }
 
+/// What to do about a text that is no address in base58.
+#[tactic(auto, unfolding(crate::specs::Sentences::base58_sentence))]
+fn base58_sentence(fault: &Base58Fault) -> &'static str
+    ensures { result.now ≡ base58_sentence fault.now }
+{
+    match fault {
+        Base58Fault::Letter =>
+            "A letter stands there that no address has: base58 has no 0, O, I and l, no blank and no sign; copy the address again.",
+        Base58Fault::Length => "The address is too short or too long: copy it again.",
+        Base58Fault::Checksum => "A letter of the address is mistyped: copy it again.",
+        Base58Fault::Version =>
+            "This is an address of another network, as m, n and 2 stand for a test network, and L and M for Litecoin: ask for one of Bitcoin's main network.",
+        Base58Fault::Memory => "The machine has too little memory: try again with less beside it.",
+    }
+}
+
+/// What to do about an address of another network.
+#[tactic(auto, unfolding(crate::specs::Sentences::network_sentence))]
+fn network_sentence(network: &Network) -> &'static str
+    ensures { result.now ≡ network_sentence network.now }
+{
+    match network {
+        Network::Litecoin =>
+            "This is an address of Litecoin: ask for one of Bitcoin's main network.",
+        Network::Ethereum =>
+            "This is an address of Ethereum: ask for one of Bitcoin's main network.",
+    }
+}
+
 /// What to do about words that ask for no payment: the sentence of each fault.
 #[tactic(auto, unfolding(crate::specs::Sentences::word_sentence))]
 pub fn word_sentence(fault: &WordFault) -> &'static str
@@ -59,15 +90,27 @@ pub fn word_sentence(fault: &WordFault) -> &'static str
         WordFault::Rate(_, fault) => rate_sentence(fault),
         WordFault::LowRate(_) =>
             "Nodes do not relay a payment below 1 satoshi per virtual byte: give more, or --allow-low-rate beside it.",
+        WordFault::Base58Letter(_, _) => base58_sentence(&Base58Fault::Letter),
+        WordFault::Base58(_, fault) => base58_sentence(fault),
+        WordFault::Foreign(_, network) => network_sentence(network),
         WordFault::Method(_) =>
             "The method is not known: auto, changeless, weight, draw and manual are.",
         WordFault::Number(_) =>
             "This is no whole number, or it is too great: write it in digits alone.",
         WordFault::Seed(_) => "The seed is not 64 hex digits: openssl rand -hex 32 prints such.",
+        WordFault::Txid(_) => "The txid is not 64 hex digits: copy it as coins shows it.",
+        WordFault::LockTime(_) =>
+            "This is no lock time: write the height of a block, or from 500000000 on the seconds since 1970, up to 4294967295.",
+        WordFault::BesideBump(_) =>
+            "--bump spends the coins of the payment that is replaced: leave out --coin, --consolidate and --fee-from-amount beside it.",
+        WordFault::BothWays(_) =>
+            "--fee-from-amount and --consolidate exclude one another: leave one of them out.",
         WordFault::NotChangeless(_) =>
             "--consolidate goes with --method changeless alone: give that beside it.",
+        WordFault::NotWeight(_) =>
+            "--fee-from-amount goes with --method weight alone: leave out --method, or this flag.",
         WordFault::ListedCoin(_) =>
-            "No coin may be listed beside --consolidate: leave --coin out, or that flag.",
+            "No coin may be listed beside --consolidate or --fee-from-amount: leave --coin out, or that flag.",
         WordFault::Memory => "The machine has too little memory: try again with less beside it.",
     }
 }
@@ -85,15 +128,33 @@ pub fn word_place(fault: &WordFault) -> Option<usize>
         | WordFault::Script(place)
         | WordFault::Rate(place, _)
         | WordFault::LowRate(place)
+        | WordFault::Base58Letter(place, _)
+        | WordFault::Base58(place, _)
+        | WordFault::Foreign(place, _)
         | WordFault::Method(place)
         | WordFault::Number(place)
         | WordFault::Seed(place)
+        | WordFault::Txid(place)
+        | WordFault::LockTime(place)
+        | WordFault::BesideBump(place)
+        | WordFault::BothWays(place)
         | WordFault::NotChangeless(place)
+        | WordFault::NotWeight(place)
         | WordFault::ListedCoin(place) => Some(place),
         WordFault::NoValue(_)
         | WordFault::Missing(_)
         | WordFault::EmptyName(_)
         | WordFault::Memory => None,
+    }
+}
+
+/// The place of the letter that a fault is about, counted in bytes from the beginning of its word; none where it is about none.
+pub fn letter_about(fault: &WordFault) -> Option<usize>
+    ensures { result ≡ letter_about fault.now }
+{
+    match *fault {
+        WordFault::Base58Letter(_, letter) => Some(letter),
+        _ => None,
     }
 }
 

@@ -1,12 +1,14 @@
 //! The settings that the words give.
 
 ghost use Rattle.std.specs.Prelude.{◌≡◌};
-ghost use Rattle.pay_words.specs.Settings.{fee_rate, max_fee, method_or_auto, rate_or, seed_or, settings_given, tries_or};
+ghost use Rattle.pay_words.specs.Settings.{bump_or_none, fee_rate, locktime_or, max_fee, method_or_usual, rate_or, seed_or, settings_given, target_or, tries_or, usual_method};
 
 use crate::fault::WordFault;
 use crate::flag::Flag;
 use crate::given::{Given, place_of};
-use crate::values::{amount_at, has, method_at, number_at, rate_at, seed_at, word_at};
+use crate::values::{
+    amount_at, has, locktime_at, method_at, number_at, rate_at, seed_at, txid_at, word_at,
+};
 use request_making::Settings;
 use request_text::Method;
 
@@ -26,22 +28,43 @@ fn fee_rate(words: &[String], given: &[Given]) -> Result<u64, WordFault>
     }
 }
 
-/// The rate at which coins are thought to be spent later: 10 satoshi per virtual byte where it isn't given.
-fn long_term(words: &[String], given: &[Given]) -> Result<u64, WordFault>
-    ensures { result ≡ rate_or 10_000 words.now given.now }
+/// The rate behind this flag: this one where it isn't given.
+fn rate_or(rate: u64, flag: Flag, words: &[String], given: &[Given]) -> Result<u64, WordFault>
+    ensures { result ≡ rate_or rate flag words.now given.now }
 {
-    match place_of(given, Flag::LongTerm) {
-        None => Ok(10_000),
+    match place_of(given, flag) {
+        None => Ok(rate),
         Some(place) => rate_at(place, word_at(words, place)),
     }
 }
 
-/// The method: auto where it isn't given.
-fn method_or_auto(words: &[String], given: &[Given]) -> Result<Method, WordFault>
-    ensures { result ≡ method_or_auto words.now given.now }
+/// The change that is aimed at: 50,000 satoshi where it isn't given.
+fn change_target(words: &[String], given: &[Given]) -> Result<u64, WordFault>
+    ensures { result ≡ target_or 50_000 words.now given.now }
+{
+    match place_of(given, Flag::ChangeTarget) {
+        None => Ok(50_000),
+        Some(place) => amount_at(place, word_at(words, place)),
+    }
+}
+
+/// The method where none is given: weight where the recipients bear the fee, and else auto.
+fn usual_method(given: &[Given]) -> Method
+    ensures { result ≡ usual_method given.now }
+{
+    if has(given, Flag::FeeFromAmount) {
+        Method::Weight
+    } else {
+        Method::Auto
+    }
+}
+
+/// The method: the usual one where none is given.
+fn method_or_usual(words: &[String], given: &[Given]) -> Result<Method, WordFault>
+    ensures { result ≡ method_or_usual words.now given.now }
 {
     match place_of(given, Flag::Method) {
-        None => Ok(Method::Auto),
+        None => Ok(usual_method(given)),
         Some(place) => method_at(place, word_at(words, place)),
     }
 }
@@ -63,6 +86,29 @@ fn seed_or(words: &[String], given: &[Given], drawn: [u8; 32]) -> Result<[u8; 32
     match place_of(given, Flag::Seed) {
         None => Ok(drawn),
         Some(place) => seed_at(place, word_at(words, place)),
+    }
+}
+
+/// The payment that is replaced, if one is.
+fn bump_or_none(words: &[String], given: &[Given]) -> Result<Option<[u8; 32]>, WordFault>
+    ensures { result ≡ bump_or_none words.now given.now }
+{
+    match place_of(given, Flag::Bump) {
+        None => Ok(None),
+        Some(place) => {
+            let txid = txid_at(place, word_at(words, place))?;
+            Ok(Some(txid))
+        }
+    }
+}
+
+/// The lock time: 0 where it isn't given.
+fn locktime(words: &[String], given: &[Given]) -> Result<u32, WordFault>
+    ensures { result ≡ locktime_or 0 words.now given.now }
+{
+    match place_of(given, Flag::LockTime) {
+        None => Ok(0),
+        Some(place) => locktime_at(place, word_at(words, place)),
     }
 }
 
@@ -89,15 +135,25 @@ pub fn settings_given(
     ensures { result ≡ settings_given drawn words.now given.now }
 {
     let rate = fee_rate(words, given)?;
-    let long_term = long_term(words, given)?;
-    let method = method_or_auto(words, given)?;
+    let long_term = rate_or(10_000, Flag::LongTerm, words, given)?;
+    let discard = rate_or(10_000, Flag::Discard, words, given)?;
+    let change_target = change_target(words, given)?;
+    let method = method_or_usual(words, given)?;
     let tries = tries(words, given)?;
     let seed = seed_or(words, given, drawn)?;
+    let bump = bump_or_none(words, given)?;
+    let locktime = locktime(words, given)?;
     let mut settings = Settings::new(rate, method, seed);
     settings.long_term = long_term;
+    settings.discard = discard;
+    settings.change_target = change_target;
     settings.tries = tries;
+    settings.take = !has(given, Flag::Stop);
     settings.zero_conf = has(given, Flag::ZeroConf);
     settings.include_unsafe = has(given, Flag::Unsafe);
     settings.group = has(given, Flag::Group);
+    settings.replaceable = !has(given, Flag::NoReplace);
+    settings.locktime = locktime;
+    settings.bump = bump;
     Ok(settings)
 }

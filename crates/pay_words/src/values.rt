@@ -1,7 +1,7 @@
 //! The values of flags, by their words.
 
 ghost use Rattle.std.specs.Prelude.{◌≡◌, option_copied};
-ghost use Rattle.pay_words.specs.Values.{amount_at, has, method_at, number_at, rate_at, seed_at, text_of, word_at};
+ghost use Rattle.pay_words.specs.Values.{amount_at, has, locktime_at, method_at, number_at, rate_at, seed_at, text_of, txid_at, word_at};
 
 use crate::fault::WordFault;
 use crate::flag::Flag;
@@ -64,6 +64,31 @@ pub fn number_at(place: usize, text: &str) -> Result<u64, WordFault>
     match read_decimal(text.as_bytes(), u64::MAX) {
         Some(number) => Ok(number),
         None => Err(WordFault::Number(place)),
+    }
+}
+
+/// The lock time that the word at this place spells.
+pub fn locktime_at(place: usize, text: &str) -> Result<u32, WordFault>
+    ensures { result ≡ locktime_at place text.now }
+{
+    match read_decimal(text.as_bytes(), u32::MAX as u64) {
+        Some(number) => Ok(number as u32),
+        None => Err(WordFault::LockTime(place)),
+    }
+}
+
+/// The txid that the word at this place spells, as txids are shown, with its bytes as they are hashed.
+#[tactic(auto, unfolding(json_fields::specs::Fields::hash_in))]
+pub fn txid_at(place: usize, text: &str) -> Result<[u8; 32], WordFault>
+    ensures { result ≡ txid_at place text.now }
+{
+    let mut bytes = [0; 32];
+    match hex::decode_to_slice(text.as_bytes(), &mut bytes) {
+        Ok(()) => {
+            bytes.reverse();
+            Ok(bytes)
+        }
+        Err(_) => Err(WordFault::Txid(place)),
     }
 }
 

@@ -1,5 +1,5 @@
 -- How deep a request that is written nests, and that it has no number with a fraction.
-use Rattle.std.proofs.Common.{◌≡◌, ℕ, Bool, false, ◌||◌, ◌≤◌, List, [], ◌∷◌, refl, ap, ◌∙◌, arith, map}
+use Rattle.std.proofs.Common.{◌≡◌, ℕ, Bool, false, ◌||◌, ◌≤◌, List, [], ◌∷◌, Option, Some, None, refl, ap, ◌∙◌, arith, map}
 use Rattle.std.specs.Prelude.{String}
 use Rattle.std.specs.declared.alloc.Global.{Global}
 use Rattle.serde_json.specs.Data.{depth, items_depth}
@@ -24,7 +24,12 @@ coins_depth [] = omega arith
 coins_depth (c ∷ cs) = omega (arith, coins_depth cs)
 
 pub request_depth : (payments : List Payment) (coins : List (String Global)) (s : Settings) → depth (request_data payments coins s) ≤ 127
-request_depth payments coins s = omega (arith, payments_depth payments, coins_depth coins)
+request_depth payments coins s = by coins s.bump
+  where
+    by : (cs : List (String Global)) (bump : Option (List ℕ)) → depth (request_data payments cs (record s { bump = bump })) ≤ 127
+    by cs None = omega (arith, payments_depth payments, coins_depth cs)
+    by [] (Some txid) = omega (arith, payments_depth payments)
+    by (c ∷ cs) (Some txid) = omega (arith, payments_depth payments, coins_depth (c ∷ cs))
 
 payee_whole : (amount : ℕ) (to : Payee) → has_float (payee_data amount to) ≡ false
 payee_whole amount (payees.Address text) = refl
@@ -39,4 +44,9 @@ coins_whole [] = refl
 coins_whole (c ∷ cs) = coins_whole cs
 
 pub request_whole : (payments : List Payment) (coins : List (String Global)) (s : Settings) → has_float (request_data payments coins s) ≡ false
-request_whole payments coins s = rw (coins_whole coins, payments_whole payments)
+request_whole payments coins s = by coins s.bump
+  where
+    by : (cs : List (String Global)) (bump : Option (List ℕ)) → has_float (request_data payments cs (record s { bump = bump })) ≡ false
+    by cs None = rw (coins_whole cs, payments_whole payments)
+    by [] (Some txid) = rw (payments_whole payments)
+    by (c ∷ cs) (Some txid) = rw (coins_whole cs, payments_whole payments)

@@ -1,6 +1,6 @@
 -- The request that is asked for, or the first rule of requests that it breaks: in words of what was given, without the
 -- file that is written of it.
-use Rattle.std.specs.Prelude.{ℕ, ◌==◌, ◌||◌, nat_lt, nat_le, false, true, List, [], ◌∷◌, ◌++◌, length, codes, String, string_bytes, None, Result, Ok, Err, if◌then◌else◌, ⊤}
+use Rattle.std.specs.Prelude.{ℕ, ◌==◌, ◌||◌, nat_lt, nat_le, false, true, List, [], ◌∷◌, ◌++◌, length, codes, String, string_bytes, Option, Some, None, Result, Ok, Err, if◌then◌else◌, ⊤}
 use Rattle.std.specs.declared.alloc.Global.{Global}
 use Rattle.std.specs.Option.{ok_or}
 use Rattle.fund_base.specs.Cursor.{IsBytes}
@@ -9,7 +9,7 @@ use Rattle.fund_base.specs.declared.outpoint.OutPoint.{OutPoint}
 use Rattle.segwit_addr.specs.Reading.{decode_of}
 use Rattle.json_fields.specs.Fields.{coin_in}
 use Rattle.json_fields.specs.declared.fault.FieldFault.{FieldFault}
-use Rattle.json_fields.specs.declared.fault.FieldFault.TheVariants.{Kind}
+use Rattle.json_fields.specs.declared.fault.FieldFault.TheVariants.{Kind, Member}
 use Rattle.request_text.specs.PlainRequest.{PlainRequest, paid_to}
 use Rattle.request_text.specs.RequestText.{field, index_of, paid_at, repeat_behind, distinct_at}
 use Rattle.request_text.specs.declared.fault.Refusal.{Refusal}
@@ -80,10 +80,17 @@ coins_asked coins = do
   named ← field (coins_named [] coins)
   distinct_at named (repeat_behind [] named)
 
--- The whole: the first rule that is broken, in the order of the members of a request, or the request of exactly what is
--- asked.
+-- no coins are listed beside a payment that is replaced
+abbrev pub none_beside : Option (List ℕ) → List (String Global) → Result ⊤ FieldFault
+none_beside None coins = Ok tt
+none_beside (Some txid) [] = Ok tt
+none_beside (Some txid) (coin ∷ coins) = Err (Member (codes "coins"))
+
+-- The whole: the first rule that is broken, coins beside a payment that is replaced and then in the order of the members of a
+-- request; or the request of exactly what is asked.
 unfoldable pub asked_of : List Payment → List (String Global) → Settings → Result PlainRequest Refusal
 asked_of payments coins s = do
+  alone ← field (none_beside s.bump coins)
   recipients ← recipients_asked payments
   rate ← rate_asked (codes "rate") s.rate
   long_term ← rate_asked (codes "long_term") s.long_term
@@ -106,7 +113,7 @@ asked_of payments coins s = do
     include_unsafe = s.include_unsafe;
     group = s.group;
     coins = listed;
-    bump = None;
+    bump = s.bump;
     replaceable = s.replaceable;
     locktime = locktime;
     psbt = 0;
@@ -128,4 +135,5 @@ plain_settings rate method seed = record {
   group = false;
   replaceable = true;
   locktime = 0;
+  bump = None;
 }

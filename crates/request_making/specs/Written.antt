@@ -1,6 +1,6 @@
--- The JSON value of a request that is asked for: each member is written but `bump` and `psbt`, which are left out, in the
--- order of their names by bytes.
-use Rattle.std.specs.Prelude.{ℕ, Bool, List, map, codes, String, string_bytes, if◌then◌else◌}
+-- The JSON value of a request that is asked for: each member is written but `psbt`, in the order of their names by bytes. Where no
+-- payment is replaced `bump` is left out, and where one is, a list of no coins.
+use Rattle.std.specs.Prelude.{ℕ, Bool, true, false, List, [], ◌∷◌, map, reverse, codes, String, string_bytes, Option, Some, None, if◌then◌else◌}
 use Rattle.std.specs.declared.alloc.Global.{Global}
 use Rattle.hex.specs.Hex.{encode_lower}
 use Rattle.serde_json.specs.Data.{Data, boolean, number, unsigned, string, array, object, Members, no_members, member, put}
@@ -28,11 +28,29 @@ coin_data coin = string (string_bytes coin)
 abbrev pub take_word : Bool → List ℕ
 take_word take = if take then codes "take" else codes "stop"
 
+-- the payment that is replaced, by its txid as it is shown
+abbrev pub txid_data : List ℕ → Data
+txid_data txid = string (encode_lower (reverse txid))
+
+abbrev pub bump_member : Option (List ℕ) → Members → Members
+bump_member None ms = ms
+bump_member (Some txid) ms = member (codes "bump") (txid_data txid) ms
+
+-- the list of coins is written: beside a payment that is replaced only where there are some
+abbrev pub has_coins : Option (List ℕ) → List (String Global) → Bool
+has_coins None coins = true
+has_coins (Some txid) [] = false
+has_coins (Some txid) (coin ∷ coins) = true
+
+abbrev pub coins_member : Option (List ℕ) → List (String Global) → Members → Members
+coins_member bump coins ms = if has_coins bump coins then member (codes "coins") (array (items_of (map coin_data coins))) ms else ms
+
 -- the whole
 abbrev pub request_data : List Payment → List (String Global) → Settings → Data
 request_data payments coins s =
-    object (member (codes "change_target") (number (unsigned s.change_target))
-    (member (codes "coins") (array (items_of (map coin_data coins)))
+    object (bump_member s.bump
+    (member (codes "change_target") (number (unsigned s.change_target))
+    (coins_member s.bump coins
     (member (codes "discard") (number (unsigned s.discard))
     (member (codes "group") (boolean s.group)
     (member (codes "include_unsafe") (boolean s.include_unsafe)
@@ -45,7 +63,7 @@ request_data payments coins s =
     (member (codes "seed") (string (encode_lower s.seed))
     (member (codes "tries") (number (unsigned s.tries))
     (member (codes "when_unfinished") (string (take_word s.take))
-    (member (codes "zero_conf") (boolean s.zero_conf) no_members)))))))))))))))
+    (member (codes "zero_conf") (boolean s.zero_conf) no_members))))))))))))))))
 
 -- The bytes of the request file: that value as JSON on one line, without a blank outside of texts.
 unfoldable pub request_bytes : List Payment → List (String Global) → Settings → List ℕ
@@ -74,7 +92,12 @@ words_put s ms =
     (put (codes "when_unfinished") (string (take_word s.take))
     (put (codes "method") (string (word_of s.method)) ms))
 
-abbrev pub lists_put : List Payment → List (String Global) → Members → Members
-lists_put payments coins ms =
-    put (codes "coins") (array (items_of (map coin_data coins)))
-    (put (codes "recipients") (array (items_of (map payment_data payments))) ms)
+abbrev pub bump_put : Option (List ℕ) → Members → Members
+bump_put None ms = ms
+bump_put (Some txid) ms = put (codes "bump") (txid_data txid) ms
+
+abbrev pub coins_put : Option (List ℕ) → List (String Global) → Members → Members
+coins_put bump coins ms = if has_coins bump coins then put (codes "coins") (array (items_of (map coin_data coins))) ms else ms
+
+abbrev pub lists_put : List Payment → List (String Global) → Option (List ℕ) → Members → Members
+lists_put payments coins bump ms = coins_put bump coins (put (codes "recipients") (array (items_of (map payment_data payments))) ms)

@@ -34,6 +34,8 @@ pub struct Settings {
     pub replaceable: bool,
     /// The payment's lock time.
     pub locktime: u32,
+    /// The txid of the pending payment that is replaced (BIP 125), if one is. No coins are listed beside it.
+    pub bump: Option<[u8; 32]>,
 }
 
 impl Settings {
@@ -56,6 +58,7 @@ impl Settings {
             group: false,
             replaceable: true,
             locktime: 0,
+            bump: None,
         }
     }
 }

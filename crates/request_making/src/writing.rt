@@ -1,6 +1,6 @@
 //! Writing the request file.
 
-ghost use Rattle.std.specs.Prelude.{◌≡◌, IfOk, OnOk, All, Some, map, string_bytes};
+ghost use Rattle.std.specs.Prelude.{◌≡◌, IfOk, IfSome, OnOk, All, Some, map, reverse, string_bytes};
 ghost use Rattle.hex.specs.Hex.{encode_lower};
 ghost use Rattle.serde_json.specs.Data.{array, no_members, object};
 ghost use Rattle.serde_json.specs.View.{items_of, members_view, view};
@@ -8,7 +8,7 @@ ghost use Rattle.json_fields.specs.Fields.{IsHash, parsed};
 ghost use Rattle.request_text.specs.RequestText.{request_of};
 ghost use Rattle.request_text.specs.Rules.{word_of};
 ghost use Rattle.request_making.specs.Asked.{HasBytes, asked_of};
-ghost use Rattle.request_making.specs.Written.{coin_data, flags_put, lists_put, numbers_put, payment_data, request_bytes, request_data, take_word, words_put};
+ghost use Rattle.request_making.specs.Written.{bump_put, coin_data, coins_put, flags_put, has_coins, lists_put, numbers_put, payment_data, request_bytes, request_data, take_word, words_put};
 
 use crate::payment::{Payee, Payment};
 use crate::settings::Settings;
@@ -90,6 +90,63 @@ fn seed_text(alloc: Global, seed: &[u8; 32]) -> Result<String, Memory>
     Ok(hex::encode(alloc, seed.as_slice())?)
 }
 
+/// A txid in lower-case hex with its bytes reversed, as it is shown.
+fn txid_text(alloc: Global, txid: &[u8; 32]) -> Result<String, Memory>
+    ensures text { IfOk result (λ text. string_bytes text ≡ encode_lower (reverse txid.now)) }
+    ensures is { IfOk result (λ text. IsHash txid.now) }
+{
+    are_bytes(txid.as_slice());
+    let mut bytes = *txid;
+    bytes.reverse();
+    Ok(hex::encode(alloc, bytes.as_slice())?)
+}
+
+/// Puts the payment that is replaced into the members, if there is one.
+fn put_bump(
+    alloc: Global,
+    map: &mut Map<String, Value>,
+    bump: &Option<[u8; 32]>,
+) -> Result<(), Memory>
+    ensures made { OnOk result (members_view map.new.entries ≡ bump_put bump.now (members_view map.old.entries)) }
+    ensures txid { OnOk result (IfSome bump.now IsHash) }
+{
+    match bump {
+        Some(txid) => {
+            let text = txid_text(alloc, txid)?;
+            let txid = Value::try_from_str(alloc, text.as_str())?;
+            put(map, alloc, "bump", txid)?;
+            Ok(())
+        }
+        None => Ok(()),
+    }
+}
+
+/// Whether the list of coins is written: beside a payment that is replaced only where there are some.
+fn has_coins(bump: &Option<[u8; 32]>, coins: &[String]) -> bool
+    ensures { result ≡ has_coins bump.now coins.now }
+{
+    match bump {
+        Some(_) => !coins.is_empty(),
+        None => true,
+    }
+}
+
+/// Puts the coins into the members.
+fn put_coins(
+    alloc: Global,
+    map: &mut Map<String, Value>,
+    coins: &[String],
+    bump: &Option<[u8; 32]>,
+) -> Result<(), Memory>
+    ensures { OnOk result (members_view map.new.entries ≡ coins_put bump.now coins.now (members_view map.old.entries)) }
+{
+    if has_coins(bump, coins) {
+        let listed = coins_value(alloc, coins)?;
+        put(map, alloc, "coins", listed)?;
+    }
+    Ok(())
+}
+
 /// Puts the numbers of the settings into the members.
 fn put_numbers(
     alloc: Global,
@@ -149,14 +206,14 @@ fn put_lists(
     map: &mut Map<String, Value>,
     payments: &[Payment],
     coins: &[String],
+    bump: &Option<[u8; 32]>,
 ) -> Result<(), Memory>
-    ensures made { OnOk result (members_view map.new.entries ≡ lists_put payments.now coins.now (members_view map.old.entries)) }
+    ensures made { OnOk result (members_view map.new.entries ≡ lists_put payments.now coins.now bump.now (members_view map.old.entries)) }
     ensures bytes { OnOk result (All HasBytes payments.now) }
 {
     let recipients = payments_value(alloc, payments)?;
     put(map, alloc, "recipients", recipients)?;
-    let listed = coins_value(alloc, coins)?;
-    put(map, alloc, "coins", listed)?;
+    put_coins(alloc, map, coins, bump)?;
     Ok(())
 }
 
@@ -167,15 +224,17 @@ fn request_value(
     coins: &[String],
     settings: &Settings,
 ) -> Result<Value, Memory>
-    ensures made { IfOk result (λ v. view v ≡ object (lists_put payments.now coins.now (words_put settings.now (flags_put settings.now (numbers_put settings.now no_members))))) }
+    ensures made { IfOk result (λ v. view v ≡ object (lists_put payments.now coins.now settings.now.bump (bump_put settings.now.bump (words_put settings.now (flags_put settings.now (numbers_put settings.now no_members)))))) }
     ensures bytes { IfOk result (λ v. All HasBytes payments.now) }
     ensures seed { IfOk result (λ v. IsHash settings.now.seed) }
+    ensures txid { IfOk result (λ v. IfSome settings.now.bump IsHash) }
 {
     let mut map = Map::new(alloc);
     put_numbers(alloc, &mut map, settings)?;
     put_flags(alloc, &mut map, settings)?;
     put_words(alloc, &mut map, settings)?;
-    put_lists(alloc, &mut map, payments, coins)?;
+    put_bump(alloc, &mut map, &settings.bump)?;
+    put_lists(alloc, &mut map, payments, coins, &settings.bump)?;
     Ok(Value::Object(map))
 }
 
@@ -190,7 +249,7 @@ pub fn request_text(
 ) -> Result<String, Memory>
     // The file is read as what was asked, or refused for the first rule that this breaks.
     ensures read { IfOk result (λ text. request_of (string_bytes text) ≡ asked_of payments.now coins.now settings.now) }
-    // It is the JSON text of the members, each of which is written but `bump` and `psbt`.
+    // It is the JSON text of the members, each of which is written but `psbt`, and `bump` and `coins` as they are asked for.
     ensures whole { IfOk result (λ text. parsed (string_bytes text) ≡ Some (request_data payments.now coins.now settings.now)) }
     // Its bytes are that JSON value on one line, without a blank outside of texts.
     ensures bytes { IfOk result (λ text. string_bytes text ≡ request_bytes payments.now coins.now settings.now) }

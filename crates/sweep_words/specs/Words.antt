@@ -6,6 +6,8 @@ use Rattle.std.specs.declared.alloc.Global.{Global}
 use Rattle.hex.specs.Hex.{decode_of as hex_of}
 use Rattle.hex.specs.declared.error.FromHexError.{FromHexError}
 use Rattle.fee_rates.specs.Output.{dust_of}
+use Rattle.base58_addr.specs.Reading.{decode_of as base58_of}
+use Rattle.base58_addr.specs.declared.fault.Base58Fault.{Base58Fault}
 use Rattle.segwit_addr.specs.Reading.{decode_of}
 use Rattle.segwit_addr.specs.declared.fault.AddrFault.{AddrFault}
 use Rattle.pay_words.specs.Flags.{flag_word}
@@ -19,13 +21,18 @@ use Rattle.pay_words.specs.declared.flag.Flag.TheVariants as flags
 abbrev pub foreign_flags : List Flag
 foreign_flags =
     flags.LongTerm
+    ∷ flags.Discard
+    ∷ flags.ChangeTarget
     ∷ flags.Method
     ∷ flags.Coin
     ∷ flags.Tries
     ∷ flags.Seed
+    ∷ flags.Bump
     ∷ flags.Log
     ∷ flags.Group
     ∷ flags.Consolidate
+    ∷ flags.FeeFromAmount
+    ∷ flags.Stop
     ∷ []
 
 -- the word of one of them
@@ -65,8 +72,13 @@ abbrev pub by_script : Result (List ℕ) AddrFault → ℕ
 by_script (Ok script) = dust_of script
 by_script (Err e) = 0
 
+-- an address in base58 pays to its script, and another to a witness program
+abbrev pub by_base58 : List ℕ → Result (List ℕ) Base58Fault → ℕ
+by_base58 text (Ok script) = dust_of script
+by_base58 text (Err e) = by_script (decode_of text)
+
 abbrev pub least_to : List ℕ → ℕ
-least_to text = by_script (decode_of text)
+least_to text = by_base58 text (base58_of text)
 
 abbrev pub by_hex : Result (List ℕ) FromHexError → ℕ
 by_hex (Ok script) = dust_of script

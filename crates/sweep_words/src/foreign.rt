@@ -8,15 +8,20 @@ ghost use Rattle.sweep_words.specs.Words.{foreign_at, is_foreign, is_payee, paye
 use pay_words::{Flag, flag_word};
 
 /// The flags of `pay` that say nothing of a payment of all coins.
-const FOREIGN: [Flag; 8] = [
+const FOREIGN: [Flag; 13] = [
     Flag::LongTerm,
+    Flag::Discard,
+    Flag::ChangeTarget,
     Flag::Method,
     Flag::Coin,
     Flag::Tries,
     Flag::Seed,
+    Flag::Bump,
     Flag::Log,
     Flag::Group,
     Flag::Consolidate,
+    Flag::FeeFromAmount,
+    Flag::Stop,
 ];
 
 /// Whether one of these flags has this word.

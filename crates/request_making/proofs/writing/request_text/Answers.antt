@@ -16,7 +16,7 @@ returns-clause-read c =
     let utf8 = rw c.as_str-utf8.ensures.value at c.as_str-utf8.utf8 in
     (text_read (string_bytes c.in_ok-text.text) (view c.in_ok-value.value) utf8 (c.in_ok-text.ensures.reads_back deep)).0
     ∙ ap request_at made
-    ∙ made_read c.args.payments.now c.args.coins.now c.args.settings.now c.in_ok-value.ensures.bytes c.in_ok-value.ensures.seed
+    ∙ made_read c.args.payments.now c.args.coins.now c.args.settings.now c.in_ok-value.ensures.bytes c.in_ok-value.ensures.seed c.in_ok-value.ensures.txid
 
 pub returns-clause-whole : goal.returns-clause-whole
 returns-clause-whole c =
