@@ -5,3 +5,5 @@ pub mod Pieces
 mod ReadLaws
 pub mod RunLaws
 mod SavingLaws
+mod SharedMoneyLaws
+mod Shown

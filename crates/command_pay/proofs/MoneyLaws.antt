@@ -1,6 +1,6 @@
 -- The money of a payment goes where it is asked for.
-use Rattle.std.proofs.Common.{◌≡◌, ◌∙◌, ◌+◌, ℕ, Bool, true, false, List, [], ◌∷◌, ◌++◌, length, map, Option, Some, None, refl, sym, ap, subst, string_bytes, arith, append-nil, append_assoc}
-use Rattle.std.specs.Prelude.{◌==◌, ◌||◌, codes, nat_lt, nat_le, String, Result, Ok, Err, All, Contains, slice_index_or, sum_by, if◌then◌else◌}
+use Rattle.std.proofs.Common.{◌≡◌, ◌∙◌, ◌+◌, ℕ, Bool, true, false, List, [], ◌∷◌, ◌++◌, length, map, Option, Some, None, refl, sym, ap, subst, string_bytes, arith, inl, inr, append-nil, append_assoc}
+use Rattle.std.specs.Prelude.{◌==◌, ◌||◌, ◌⊎◌, ⊤, codes, nat_lt, nat_le, String, Result, Ok, Err, All, Contains, slice_index_or, sum_by, if◌then◌else◌}
 use Rattle.std.specs.List.{AllZip}
 use Rattle.std.specs.Option.{ok_or, option_map}
 use Rattle.std.specs.declared.alloc.Global.{Global}
@@ -20,7 +20,7 @@ use Rattle.request_text.specs.RequestText.{field, index_of, paid_at, repeat_behi
 use Rattle.request_text.specs.declared.fault.Refusal.{Refusal}
 use Rattle.request_text.specs.declared.fault.Refusal.TheVariants as refusals
 use Rattle.request_text.specs.declared.request.Recipient.{Recipient}
-use Rattle.request_making.specs.Asked.{asked_of, coins_asked, coins_named, number_asked, payee_paid, payment_asked, payments_asked, rate_asked, recipients_asked, tries_asked, whole_asked}
+use Rattle.request_making.specs.Asked.{asked_of, coins_asked, coins_named, none_beside, number_asked, payee_paid, payment_asked, payments_asked, rate_asked, recipients_asked, tries_asked, whole_asked}
 use Rattle.request_making.specs.declared.payment.Payee.{Payee}
 use Rattle.request_making.specs.declared.payment.Payee.TheVariants as payees
 use Rattle.request_making.specs.declared.payment.Payment.{Payment}
@@ -44,6 +44,7 @@ use Rattle.command_inputs.specs.Outcome.{bump_of, plan_of}
 use Rattle.pay_words.specs.declared.asked.Asked.{Asked}
 use Rattle.command_pay.specs.AsAsked.{IsAsAsked, tries_by}
 use Rattle.command_pay.specs.Money.{IsMoneyOf, IsPaidBy, IsScriptOf, IsSpentBy}
+use Rattle.command_pay.specs.declared.report.PaidReport.TheVariants.{Whole}
 
 -- ---- who is paid
 
@@ -140,13 +141,20 @@ coins_are words points is =
 pub record Parts (ps : List Payment) (words : List (String Global)) (r : PlainRequest) : Type 0 where
   pub recipients : AllZip IsPaidBy ps (map recipient_output r.recipients)
   pub coins : All (IsNamed r.coins) words
-  pub bump : r.bump ≡ None
+  -- no coin is listed beside a payment that is replaced
+  pub alone : (r.bump ≡ None) ⊎ (words ≡ [])
   pub psbt : r.psbt ≡ 0
+
+alone_by : (words : List (String Global)) (bump found : Option (List ℕ)) (none : ⊤) → bump ≡ found → field (none_beside bump words) ≡ Ok none → (found ≡ None) ⊎ (words ≡ [])
+alone_by words None found none same alone = inl (sym same)
+alone_by [] (Some txid) found none same alone = inr refl
+alone_by (word ∷ words) (Some txid) found none same alone = absurd cc
 
 pub parts_of : (ps : List Payment) (words : List (String Global)) (s : Settings) (r : PlainRequest) → asked_of ps words s ≡ Ok r → Parts ps words r
 unfolding asked_of
 parts_of ps words s r is =
-    let recipients = bind_ok (recipients_asked ps) _ r is in
+    let alone = bind_ok (field (none_beside s.bump words)) _ r is in
+    let recipients = bind_ok (recipients_asked ps) _ r alone.2 in
     let rate = bind_ok (rate_asked (codes "rate") s.rate) _ r recipients.2 in
     let long_term = bind_ok (rate_asked (codes "long_term") s.long_term) _ r rate.2 in
     let discard = bind_ok (rate_asked (codes "discard") s.discard) _ r long_term.2 in
@@ -156,12 +164,12 @@ parts_of ps words s r is =
     let locktime = bind_ok (number_asked (codes "locktime") 4_294_967_295 s.locktime) _ r listed.2 in
     let paid : recipients.0 ≡ r.recipients = ap (λ (x : Result PlainRequest Refusal). of_ok (λ (q : PlainRequest). q.recipients) recipients.0 x) locktime.2 in
     let coins : listed.0 ≡ r.coins = ap (λ (x : Result PlainRequest Refusal). of_ok (λ (q : PlainRequest). q.coins) listed.0 x) locktime.2 in
-    let bump : None ≡ r.bump = ap (λ (x : Result PlainRequest Refusal). of_ok (λ (q : PlainRequest). q.bump) None x) locktime.2 in
+    let bump : s.bump ≡ r.bump = ap (λ (x : Result PlainRequest Refusal). of_ok (λ (q : PlainRequest). q.bump) s.bump x) locktime.2 in
     let psbt : 0 ≡ r.psbt = ap (λ (x : Result PlainRequest Refusal). of_ok (λ (q : PlainRequest). q.psbt) 0 x) locktime.2 in
     record {
       recipients = subst (λ (x : List Recipient). AllZip IsPaidBy ps (map recipient_output x)) paid (recipients_are ps recipients.0 recipients.1);
       coins = subst (λ (x : List OutPoint). All (IsNamed x) words) coins (coins_are words listed.0 listed.1);
-      bump = sym bump;
+      alone = alone_by words s.bump r.bump alone.0 bump alone.1;
       psbt = sym psbt;
     }
   where
@@ -184,32 +192,38 @@ listed_spent p coins replaceable word listed all (point, there, is) =
     let c : (c : Candidate) × Contains (listed_in p) c × (c.coin ≡ point) = All-contains (λ (x : OutPoint). (c : Candidate) × Contains (listed_in p) c × (c.coin ≡ x)) p.request.coins point listed.all there in
     spent replaceable coins word c.0 (All-contains (Contains coins) (listed_in p) c.0 all c.1) (is ∙ ap Some (sym c.2))
 
-prevs : (replaceable : Bool) (coins : List Candidate) → map (λ (i : TxIn). i.prev) (map (unsigned_input replaceable) coins) ≡ map (λ (c : InLine). c.coin) (map line_of coins)
+pub prevs : (replaceable : Bool) (coins : List Candidate) → map (λ (i : TxIn). i.prev) (map (unsigned_input replaceable) coins) ≡ map (λ (c : InLine). c.coin) (map line_of coins)
 prevs replaceable [] = refl
 prevs replaceable (c ∷ coins) = ap (λ (x : List OutPoint). c.coin ∷ x) (prevs replaceable coins)
 
 presets_listed_in : (p : PlainPlan) (bump : Option PlainBump) → bump ≡ None → presets_by bump (listed_in p) ≡ listed_in p
 presets_listed_in p bump is = ap (λ (b : Option PlainBump). presets_by b (listed_in p)) is
 
-pub money_of : (a : Asked) (files : ShelfView) (f : reports.PlainFunded) (log : List ℕ) (k : IsAsAsked a files f log) → IsMoneyOf a k.wallet.change f
+pub planned_money : (a : Asked) (files : ShelfView) (f : reports.PlainFunded) (log : List ℕ) (k : IsAsAsked a files (Whole f) log) → IsMoneyOf a k.wallet.change (Whole f)
 unfolding payment_from psbt_of
-money_of a files f log k =
+planned_money a files f log k =
     let history : History = history_of k.wallet k.blocks in
     let plan : PlainPlan = plan_of (chain_from k.wallet k.blocks) k.request in
     let parts = parts_of a.payments.items a.coins.items a.settings k.request k.asks in
-    let sums = figures_agree plan k.funded k.pays in
-    let no_bump : plan.bump ≡ None = ap (λ (o : Option (List ℕ)). option_map bump_of (option_map (λ (txid : List ℕ). terms_of k.wallet (chain_from k.wallet k.blocks).book (chain_from k.wallet k.blocks).tip.height k.request) o)) parts.bump in
-    let listed : All (Contains k.funded.coins) (listed_in plan) = subst (λ (x : List Candidate). All (Contains k.funded.coins) x) (presets_listed_in plan plan.bump no_bump) k.pays.presets in
-    let worth : sum_by (λ (c : InLine). c.value) (map line_of k.funded.coins) ≡ value_of k.funded.coins = fold-map (λ (n : ℕ) (c : InLine). n + c.value) line_of 0 k.funded.coins in
-    let it : IsMoneyOf a k.wallet.change (reported history k.request k.wallet.change (tries_by a.way plan) k.funded) = record {
-      psbt = psbt_of history k.request k.wallet.change k.funded;
+    let sums = figures_agree plan k.paid.funded k.paid.pays in
+    let all_spent : All (IsSpentBy (map (unsigned_input k.request.replaceable) k.paid.funded.coins)) a.coins.items = elim parts.alone [
+      | inl none ↦
+          (let no_bump : plan.bump ≡ None = ap (λ (o : Option (List ℕ)). option_map bump_of (option_map (λ (txid : List ℕ). terms_of k.wallet (chain_from k.wallet k.blocks).book (chain_from k.wallet k.blocks).tip.height k.request) o)) none in
+          let listed : All (Contains k.paid.funded.coins) (listed_in plan) = subst (λ (x : List Candidate). All (Contains k.paid.funded.coins) x) (presets_listed_in plan plan.bump no_bump) k.paid.pays.presets in
+          λ n word within. listed_spent plan k.paid.funded.coins k.request.replaceable (slice_index_or a.coins.items n word) (presets_listed plan k.paid.plan.eligible) listed (parts.coins n word within))
+      | inr no_words ↦
+          subst (λ (words : List (String Global)). All (IsSpentBy (map (unsigned_input k.request.replaceable) k.paid.funded.coins)) words) (sym no_words) (All-nil (IsSpentBy (map (unsigned_input k.request.replaceable) k.paid.funded.coins)))
+    ] in
+    let worth : sum_by (λ (c : InLine). c.value) (map line_of k.paid.funded.coins) ≡ value_of k.paid.funded.coins = fold-map (λ (n : ℕ) (c : InLine). n + c.value) line_of 0 k.paid.funded.coins in
+    let it : IsMoneyOf a k.wallet.change (Whole (reported history k.request k.wallet.change (tries_by a.way plan) k.paid.funded)) = record {
+      psbt = psbt_of history k.request k.wallet.change k.paid.funded;
       paid = map recipient_output k.request.recipients;
-      is = k.psbt;
-      text = ap (λ (version : ℕ). psbt_text version (psbt_of history k.request k.wallet.change k.funded)) parts.psbt;
+      is = k.paid.psbt;
+      text = ap (λ (version : ℕ). psbt_text version (psbt_of history k.request k.wallet.change k.paid.funded)) parts.psbt;
       payments = parts.recipients;
       outputs = refl;
-      spends = prevs k.request.replaceable k.funded.coins;
-      listed = λ n word within. listed_spent plan k.funded.coins k.request.replaceable (slice_index_or a.coins.items n word) (presets_listed plan k.plan.eligible) listed (parts.coins n word within);
+      spends = prevs k.request.replaceable k.paid.funded.coins;
+      listed = all_spent;
       money = worth ∙ sums.money;
     } in
-    subst (λ (x : reports.PlainFunded). IsMoneyOf a k.wallet.change x) (sym k.report) it
+    subst (λ (x : reports.PlainFunded). IsMoneyOf a k.wallet.change (Whole x)) (sym k.paid.report) it

@@ -40,6 +40,7 @@ unread_by : (way : Way) (a : Asked) (request : List ℕ) (files shelf : ShelfVie
     → (file : File) × IsUnread (sources_of a) held_names file (beside files request) shelf
 unread_by ways.Fund a request files shelf sink ends = (ends.0, ends.1)
 unread_by ways.Wide a request files shelf sink ends = (ends.0, ends.1)
+unread_by ways.Share a request files shelf sink ends = (ends.0, ends.1)
 
 pub one_failed : (a : Asked) (files after : ShelfView) (said log : List ℕ) → IsRun (Unit {0}) a files after statuses.ReadFault said log
     → Rose (files.reads (string_bytes a.names.wallet)) (after.reads (string_bytes a.names.wallet)) ⊎ Rose (files.reads (string_bytes a.names.blocks)) (after.reads (string_bytes a.names.blocks))

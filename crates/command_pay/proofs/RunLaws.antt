@@ -25,6 +25,7 @@ use Rattle.command_pay.specs.Run.{IsRun, command_by, command_for, held_names, so
 of_verb : (way : Way) (w b r l : String Global) → of_four_names (verb_of way) (string_bytes w) (string_bytes b) (string_bytes r) (string_bytes l) ≡ where_stands (names_stand (sources w b) (payment r l)) (command_by way (sources w b) (payment r l))
 of_verb ways.Fund w b r l = refl
 of_verb ways.Wide w b r l = refl
+of_verb ways.Share w b r l = refl
 
 -- the words are the command, where its names stand
 pub words_are : (way : Way) (v w b r l : String Global) (s : Sources) (p : Payment) → string_bytes v ≡ verb_of way → string_bytes w ≡ s.wallet → string_bytes b ≡ s.blocks → string_bytes r ≡ p.request → string_bytes l ≡ p.log
@@ -46,10 +47,14 @@ lost_by told ways.Fund s shelf shelf' sink sink' keeper keeper' (report, log, is
 lost_by told ways.Wide s shelf shelf' sink sink' keeper keeper' (report, Some log, is, inl lost) = inl lost.0
 lost_by told ways.Wide s shelf shelf' sink sink' keeper keeper' (report, None, is, inl lost) = absurd lost.0
 lost_by told ways.Wide s shelf shelf' sink sink' keeper keeper' (report, log, is, inr lost) = inr lost.0
+lost_by told ways.Share s shelf shelf' sink sink' keeper keeper' (report, Some log, is, inl lost) = inl lost.0
+lost_by told ways.Share s shelf shelf' sink sink' keeper keeper' (report, None, is, inl lost) = absurd lost.0
+lost_by told ways.Share s shelf shelf' sink sink' keeper keeper' (report, log, is, inr lost) = inr lost.0
 
 pub writes_by : (told : Type 0) (way : Way) (s : Sources) → WritesHeld told (command_by way s held_names)
 writes_by told ways.Fund s = record { others = λ before now keeps. keeps; causes = lost_by told ways.Fund s }
 writes_by told ways.Wide s = record { others = λ before now keeps. keeps; causes = lost_by told ways.Wide s }
+writes_by told ways.Share s = record { others = λ before now keeps. keeps; causes = lost_by told ways.Share s }
 
 -- ---- the run
 

@@ -21,18 +21,19 @@ use Rattle.pay_words.specs.declared.way.Way.{Way}
 use Rattle.pay_words.specs.declared.way.Way.TheVariants as ways
 use Rattle.command_pay.specs.AsAsked.{ClaimsBy, IsAsAsked, tries_by}
 use Rattle.command_pay.specs.Saving.{IsSavingOf}
+use Rattle.command_pay.specs.declared.report.PaidReport.TheVariants.{Whole}
 
 -- at plain numbers
 saving_at : (waste : ℤ) (others fee spending : ℕ) → waste +ℤ pos others ≡ pos (fee + spending) → spending ≡ 0 → waste +ℤ pos others ≡ pos fee
 saving_at waste others fee spending e none = omega (arith, ints, e, none)
 
-pub saving_of : (a : Asked) (files : ShelfView) (f : reports.PlainFunded) (log : List ℕ) (k : IsAsAsked a files f log) → a.way ≡ ways.Wide → IsSavingOf k.wallet k.blocks k.request k.funded f
+pub saving_of : (a : Asked) (files : ShelfView) (f : reports.PlainFunded) (log : List ℕ) (k : IsAsAsked a files (Whole f) log) → a.way ≡ ways.Wide → IsSavingOf k.wallet k.blocks k.request k.paid.funded f
 saving_of a files f log k way =
     let plan : PlainPlan = plan_of (chain_from k.wallet k.blocks) k.request in
-    let l : PaymentLoad = load_for plan k.funded.row in
-    let claims = subst (λ (w : Way). ClaimsBy w plan k.funded) way k.claims in
-    let sum = figures_agree plan k.funded k.pays in
-    let spending : spending_of k.request l k.funded.change ≡ 0 = ap (spending_of k.request l) claims.change in
-    let told : reports.PlainFunded = reported (history_of k.wallet k.blocks) k.request k.wallet.change (tries_by a.way plan) k.funded in
-    subst (IsSavingOf k.wallet k.blocks k.request k.funded) {x = told} (sym k.report)
-    (saving_at k.funded.waste (fee_of k.request.rate (vsize_of (base_of l)) + fees_of k.request.long_term k.funded.coins + l.burden + raised_of k.request.rate l) told.fee (spending_of k.request l k.funded.change) sum.waste spending)
+    let l : PaymentLoad = load_for plan k.paid.funded.row in
+    let claims = subst (λ (w : Way). ClaimsBy w plan k.paid.funded) way k.paid.claims in
+    let sum = figures_agree plan k.paid.funded k.paid.pays in
+    let spending : spending_of k.request l k.paid.funded.change ≡ 0 = ap (spending_of k.request l) claims.change in
+    let told : reports.PlainFunded = reported (history_of k.wallet k.blocks) k.request k.wallet.change (tries_by a.way plan) k.paid.funded in
+    subst (IsSavingOf k.wallet k.blocks k.request k.paid.funded) {x = told} (sym k.paid.report)
+    (saving_at k.paid.funded.waste (fee_of k.request.rate (vsize_of (base_of l)) + fees_of k.request.long_term k.paid.funded.coins + l.burden + raised_of k.request.rate l) told.fee (spending_of k.request l k.paid.funded.change) sum.waste spending)

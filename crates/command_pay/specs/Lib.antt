@@ -3,6 +3,7 @@ pub mod Change
 pub mod Fees
 pub mod Lines
 pub mod Money
+pub mod Paid
 pub mod Pays
 pub mod Rates
 pub mod Run

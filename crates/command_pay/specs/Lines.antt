@@ -30,6 +30,7 @@ change_line (Some change) = codes "change  " ++ (money_text change ++ codes "\n"
 unfoldable pub best_sentence : Way → List ℕ
 best_sentence ways.Fund = codes "These coins are the best of what was searched, to its end, and the log proves it."
 best_sentence ways.Wide = codes "These coins waste least of all choices without change of their row, needed or not, and the log proves it."
+best_sentence ways.Share = codes "These coins are the lightest of their row that are worth the amounts, and the log proves it."
 
 -- what a mark promises of a payment by this command
 unfoldable pub mark_sentence : Way → Mark → List ℕ

@@ -41,3 +41,4 @@ saving_line long_term waste = saving_name waste ++ (money_text (amount_of waste)
 abbrev pub saving_text : Way → (long_term : ℕ) → ℤ → List ℕ
 saving_text ways.Fund long_term waste = []
 saving_text ways.Wide long_term waste = saving_line long_term waste
+saving_text ways.Share long_term waste = []

@@ -67,6 +67,8 @@ fn best_sentence(way: Way) -> &'static str
             "These coins are the best of what was searched, to its end, and the log proves it.",
         Way::Wide =>
             "These coins waste least of all choices without change of their row, needed or not, and the log proves it.",
+        Way::Share =>
+            "These coins are the lightest of their row that are worth the amounts, and the log proves it.",
     }
 }
 

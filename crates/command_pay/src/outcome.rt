@@ -1,7 +1,7 @@
 //! How a payment ends.
 
+use crate::report::PaidReport;
 use command_end::Status;
-use fund_report::FundedReport;
 
 /// A new file that is asked for.
 #[derive(Clone, Copy, PartialEq, Eq)]
@@ -16,7 +16,7 @@ pub enum NewFile {
 #[derive(Drop)]
 pub enum Ending {
     /// It is paid: its report and its log. The new files that are asked for are written.
-    Paid(FundedReport, Vec<u8>),
+    Paid(PaidReport, Vec<u8>),
     /// There is a payment, of which the first is the fee and the second the greatest that is taken, in satoshi. No file is
     /// written.
     FeeAboveMaximum(u64, u64),

@@ -1,13 +1,13 @@
 //! The lines of the table that are of recipients and of coins.
 
 ghost use Rattle.std.specs.Prelude.{◌≡◌, IfOk, string_bytes};
-ghost use Rattle.command_pay.specs.Table.{payee_text, pays_line, spends_line};
+ghost use Rattle.command_pay.specs.Table.{gets_line, payee_text, spends_line};
 
 use crate::lines::money_text;
 use command_end::{coin_text, shown_name};
 use fund_base::{Memory, are_bytes};
 use fund_report::InLine;
-use request_making::{Payee, Payment};
+use request_making::Payee;
 use std::alloc::Global;
 
 /// To whom is paid: the address as it was given, or the script in hex. It refuses only when out of memory.
@@ -26,14 +26,14 @@ pub fn payee_text(alloc: Global, to: &Payee) -> Result<String, Memory>
     }
 }
 
-/// The line of a recipient.
-#[tactic(auto, unfolding(crate::specs::Table::pays_line))]
-pub fn pays_line(alloc: Global, payment: &Payment) -> Result<String, Memory>
-    ensures { IfOk result (λ text. string_bytes text ≡ pays_line payment.now) }
+/// The line of a recipient and what it gets, in bitcoin and in satoshi. It refuses only when out of memory.
+#[tactic(auto, unfolding(crate::specs::Table::gets_line))]
+pub fn gets_line(alloc: Global, to: &Payee, amount: u64) -> Result<String, Memory>
+    ensures { IfOk result (λ text. string_bytes text ≡ gets_line to.now amount) }
 {
-    let money = money_text(alloc, payment.amount)?;
-    let to = payee_text(alloc, &payment.to)?;
-    Ok(format!(in alloc; "pays    {}  {}\n", money, to)?)
+    let money = money_text(alloc, amount)?;
+    let payee = payee_text(alloc, to)?;
+    Ok(format!(in alloc; "pays    {}  {}\n", money, payee)?)
 }
 
 /// The line of a coin that is spent.

@@ -1,6 +1,7 @@
 //! The command that pays.
 
 ghost use Rattle.std.specs.Prelude.{◌≡◌, ◌≤◌, ◌↔◌, Err, IfErr, IfOk, IsTrue};
+ghost use Rattle.amount_reports.specs.SharedText.{IsSharedText, PlainShared};
 ghost use Rattle.fund_base.specs.Parsing.{YieldsAll};
 ghost use Rattle.fund_report.specs.PlainFunded.{PlainFunded};
 ghost use Rattle.fund_report.specs.ReportText.{IsReportText};
@@ -10,13 +11,16 @@ ghost use Rattle.held_run.specs.Held.{KeepsFiles};
 ghost use Rattle.pay_words.specs.Asked.{asked_in, plain_asked};
 ghost use Rattle.pay_words.specs.Given.{BeginsWithFlag};
 ghost use Rattle.pay_words.specs.declared.fault.WordFault.TheVariants.{Memory as OutOfMemory};
+ghost use Rattle.command_pay.specs.Paid.{fee_in};
 ghost use Rattle.command_pay.specs.Pays.{HasTwoNames, Pays, greatest_fee};
-ghost use Rattle.command_pay.specs.Run.{IsReportBy};
+ghost use Rattle.command_pay.specs.Run.{IsReportBy, IsSomeReport};
 
 use crate::fees::{fee_ceiling, is_fee_taken};
 use crate::outcome::Ending;
+use crate::report::PaidReport;
 use crate::run::run_asked;
 use crate::written::{PutFault, put_files};
+use amount_reports::{AmountFault, SharedReport, read_shared};
 use command_end::Status;
 use fund_base::Memory;
 use fund_report::{FundedReport, Report, ReportFault, read_report};
@@ -52,14 +56,36 @@ fn wide_in(alloc: Global, said: &[u8]) -> Result<FundedReport, Memory>
     }
 }
 
+/// The payment by `share` of which these bytes are the report. It refuses only when out of memory.
+fn shared_in(alloc: Global, said: &[u8]) -> Result<SharedReport, Memory>
+    requires { (f : PlainShared) × IsSharedText said.now f }
+    ensures { IfOk result (λ f. IsSharedText said.now f) }
+{
+    match read_shared(alloc, said) {
+        Ok(report) => Ok(report),
+        Err(AmountFault::Form) => unreachable!(),
+        Err(AmountFault::Memory) => Err(Memory),
+    }
+}
+
 /// The payment of which these bytes are the report, as the command of this way prints it. It refuses only when out of memory.
-fn payment_in(alloc: Global, way: Way, said: &[u8]) -> Result<FundedReport, Memory>
-    requires { (f : PlainFunded) × IsReportBy way said.now f }
+fn payment_in(alloc: Global, way: Way, said: &[u8]) -> Result<PaidReport, Memory>
+    requires { IsSomeReport way said.now }
     ensures { IfOk result (λ f. IsReportBy way said.now f) }
 {
     match way {
-        Way::Fund => funded_in(alloc, said),
-        Way::Wide => wide_in(alloc, said),
+        Way::Fund => {
+            let report = funded_in(alloc, said)?;
+            Ok(PaidReport::Whole(report))
+        }
+        Way::Wide => {
+            let report = wide_in(alloc, said)?;
+            Ok(PaidReport::Whole(report))
+        }
+        Way::Share => {
+            let report = shared_in(alloc, said)?;
+            Ok(PaidReport::Shared(report))
+        }
     }
 }
 
@@ -71,17 +97,17 @@ fn is_done(status: Status) -> bool
 }
 
 /// Whether the fee of a payment is taken.
-fn accepts_fee(asked: &Asked, report: &FundedReport) -> bool
-    ensures { IsTrue result ↔ (report.now.fee ≤ greatest_fee asked.now) }
+fn accepts_fee(asked: &Asked, report: &PaidReport) -> bool
+    ensures { IsTrue result ↔ (fee_in report.now ≤ greatest_fee asked.now) }
 {
-    is_fee_taken(report.fee, asked.max_fee, &asked.payments)
+    is_fee_taken(report.fee(), asked.max_fee, &asked.payments)
 }
 
 /// That the fee of a payment is too high: the fee, and the greatest that is taken.
-fn high_fee(asked: &Asked, report: &FundedReport) -> Ending
-    ensures { result ≡ Ending.FeeAboveMaximum report.now.fee (greatest_fee asked.now) }
+fn high_fee(asked: &Asked, report: &PaidReport) -> Ending
+    ensures { result ≡ Ending.FeeAboveMaximum (fee_in report.now) (greatest_fee asked.now) }
 {
-    Ending::FeeAboveMaximum(report.fee, fee_ceiling(asked.max_fee, &asked.payments))
+    Ending::FeeAboveMaximum(report.fee(), fee_ceiling(asked.max_fee, &asked.payments))
 }
 
 /// Pays what is asked. The wallet and the blocks are read at `files`, which is answered too: no file of it is changed. Where the

@@ -21,6 +21,7 @@ fn verb_of(way: Way) -> &'static str
     match way {
         Way::Fund => "fund",
         Way::Wide => "wide",
+        Way::Share => "share",
     }
 }
 

@@ -42,12 +42,12 @@ fn saving_line(alloc: Global, long_term: u64, waste: i128) -> Result<String, Mem
     )?)
 }
 
-/// The line of what a payment by `wide` saves beside spending its coins later at the long-term rate; nothing for one by `fund`.
+/// The line of what a payment by `wide` saves beside spending its coins later at the long-term rate; nothing for another.
 pub fn saving_text(alloc: Global, way: Way, long_term: u64, waste: i128) -> Result<String, Memory>
     ensures { IfOk result (λ text. string_bytes text ≡ saving_text way long_term waste) }
 {
     match way {
-        Way::Fund => Ok(String::new(alloc)),
+        Way::Fund | Way::Share => Ok(String::new(alloc)),
         Way::Wide => saving_line(alloc, long_term, waste),
     }
 }

@@ -5,7 +5,7 @@ ghost use Rattle.command_pay.specs.Pays.{HasBoth, HasTwoNames, PutStops};
 ghost use Rattle.command_pay.specs.Written.{HasFileIf, IsStill, IsUnwritten};
 
 use crate::outcome::NewFile;
-use fund_report::FundedReport;
+use crate::report::PaidReport;
 use fund_shelf::{Fault, Shelf};
 use pay_words::Asked;
 
@@ -34,7 +34,7 @@ pub fn put_if<N: Shelf>(new_files: &mut N, name: &Option<String>, bytes: &[u8]) 
 /// Writes the new files of a payment: its log and then its PSBT, each where it is asked for. They have two names.
 pub fn put_files<N: Shelf>(
     asked: &Asked,
-    report: &FundedReport,
+    report: &PaidReport,
     log: &[u8],
     new_files: &mut N,
 ) -> Result<(), PutFault>
@@ -47,7 +47,7 @@ pub fn put_files<N: Shelf>(
         Err(Fault::Failed) => return Err(PutFault::Unwritten(NewFile::Log)),
         Err(Fault::Memory) => return Err(PutFault::Memory),
     }
-    match put_if(new_files, &asked.names.psbt, &report.text) {
+    match put_if(new_files, &asked.names.psbt, report.psbt()) {
         Ok(()) => Ok(()),
         Err(Fault::Failed) => Err(PutFault::Unwritten(NewFile::Psbt)),
         Err(Fault::Memory) => Err(PutFault::Memory),

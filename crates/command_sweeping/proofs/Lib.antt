@@ -1,4 +1,3 @@
 mod MoneyLaws
 mod PaymentLaws
-mod ReportLaws
 pub mod RunLaws

@@ -20,11 +20,12 @@ use Rattle.tx_codec.specs.declared.tx.TxOut.{TxOut}
 use Rattle.command_amounts.specs.Amounts.{given}
 use Rattle.command_amounts.specs.Signing.{psbt_from}
 use Rattle.command_pay.specs.Money.{IsPaidBy, IsScriptOf}
-use Rattle.command_pay.proofs.MoneyLaws.{parts_of}
+use Rattle.command_pay.proofs.MoneyLaws.{parts_of, prevs}
 use Rattle.command_sweep.specs.Outcome.{swept_request}
 use Rattle.pay_words.specs.declared.asked.Asked.{Asked}
 use Rattle.amount_reports.specs.SweptText.{PlainSwept}
-use Rattle.command_sweeping.specs.AsAsked.{IsAsAsked, IsMoneyOf, reported}
+use Rattle.amount_laws.specs.Told.{swept_told}
+use Rattle.command_sweeping.specs.AsAsked.{IsAsAsked, IsMoneyOf}
 
 -- the one payment that is asked for, and the script that it names
 pub record IsOne (ps : List Payment) (rs : List Recipient) (amount : ℕ) : Type 0 where
@@ -42,10 +43,6 @@ one_of [] (q ∷ []) amount one paid = absurd paid
 one_of (p ∷ o ∷ ps) (q ∷ []) amount one paid = absurd paid.1
 one_of (p ∷ []) (q ∷ []) amount one paid = record { asked = p; output = record { value = amount; script = q.script }; one = refl; outputs = refl; amount_is = refl; script = paid.0.script }
 
-prevs : (replaceable : Bool) (coins : List Candidate) → map (λ (i : TxIn). i.prev) (map (unsigned_input replaceable) coins) ≡ map (λ (c : InLine). c.coin) (map line_of coins)
-prevs replaceable [] = refl
-prevs replaceable (c ∷ coins) = ap (λ (x : List OutPoint). c.coin ∷ x) (prevs replaceable coins)
-
 whole : (amount worth fee : ℕ) → amount ≤ worth → fee ≡ worth - amount → worth ≡ amount + fee
 whole amount worth fee within is = omega (arith, within, is)
 
@@ -56,7 +53,7 @@ money_of a files r k =
     let paying : PlainRequest = swept_request k.request k.amount in
     let one = one_of a.payments.items k.request.recipients k.amount k.taken.one parts.recipients in
     let worth : sum_by (λ (c : InLine). c.value) (map line_of k.coins) ≡ value_of k.coins = fold-map (λ (n : ℕ) (c : InLine). n + c.value) line_of 0 k.coins in
-    let it : IsMoneyOf a (reported (chain_from k.wallet k.blocks) k.request k.coins k.amount) = record {
+    let it : IsMoneyOf a (swept_told (chain_from k.wallet k.blocks) k.request k.coins k.amount) = record {
       psbt = psbt_from (history_of k.wallet k.blocks) paying k.wallet.change k.coins None;
       asked = one.asked;
       output = one.output;

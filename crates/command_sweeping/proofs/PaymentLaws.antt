@@ -6,6 +6,8 @@ use Rattle.fund_files.specs.Contents.{HasChain}
 use Rattle.command_end.specs.declared.status.Status.{Status}
 use Rattle.command_end.specs.declared.status.Status.TheVariants as statuses
 use Rattle.command_sweep.specs.Asked.{asked_by}
+use Rattle.command_end.specs.Names.{Sources}
+use Rattle.command_inputs.specs.Names.{Payment}
 use Rattle.command_sweep.specs.Results.{IsSwept}
 use Rattle.held_run.specs.Held.{IsOther, request_name}
 use Rattle.held_run.specs.Run.{beside}
@@ -13,21 +15,31 @@ use Rattle.held_run.proofs.RunLaws.{other_file}
 use Rattle.pay_words.specs.declared.asked.Asked.{Asked}
 use Rattle.amount_reports.specs.SweptText.{IsSweptText, PlainSwept}
 use Rattle.amount_reports.proofs.SweptLaws.{one_swept}
+use Rattle.amount_laws.specs.Told.{swept_told}
+use Rattle.amount_laws.proofs.SweptLaws.{sweep_reads}
 use Rattle.command_pay.specs.Run.{sources_of}
 use Rattle.command_sweeping.specs.AsAsked.{IsAsAsked}
 use Rattle.command_sweeping.specs.Run.{IsPayment, IsRun}
-use Rattle.command_sweeping.proofs.ReportLaws.{sweep_reads, told_of}
 
 -- the files beside a request
 abbrev files_of : ShelfView → List ℕ → List ℕ → List ℕ
 files_of files request = (beside files request).files
+
+-- what is reported of a sweep of files
+abbrev told_of : (told : Type 0) (files : List ℕ → List ℕ) (s : Sources) (p : Payment) (report : List ℕ) → IsSwept told files s p report → PlainSwept
+told_of told files s p report k = swept_told (chain_from k.wallet k.blocks) k.asked k.coins k.amount
+
+-- and its text is a report of it
+reads_of : (told : Type 0) (files : List ℕ → List ℕ) (s : Sources) (p : Payment) (report : List ℕ) (k : IsSwept told files s p report) → IsSweptText report (told_of told files s p report k)
+reads_of told files s p report k =
+    subst (λ (t : List ℕ). IsSweptText t (told_of told files s p report k)) (sym k.reports) (sweep_reads (chain_from k.wallet k.blocks) k.asked k.coins k.amount k.sweeps k.fit k.psbt)
 
 pub report_of_run : (told : Type 0) (a : Asked) (files after : ShelfView) (said : List ℕ) → IsRun told a files after statuses.Done said → (r : PlainSwept) × IsSweptText said r
 report_of_run told a files after said run =
     let ends = run.run.ends (λ e. cc) in
     let swept : IsSwept told (files_of files run.request) (sources_of a) (asked_by request_name) ends.0 = ends.1 in
     let r : PlainSwept = told_of told (files_of files run.request) (sources_of a) (asked_by request_name) ends.0 swept in
-    (r, subst (λ (t : List ℕ). IsSweptText t r) (sym (run.run.said_is ∙ ends.2 tt)) (sweep_reads told (files_of files run.request) (sources_of a) (asked_by request_name) ends.0 swept))
+    (r, subst (λ (t : List ℕ). IsSweptText t r) (sym (run.run.said_is ∙ ends.2 tt)) (reads_of told (files_of files run.request) (sources_of a) (asked_by request_name) ends.0 swept))
 
 -- a run that is done came to the payment that was read from what it printed
 pub is_payment : (told : Type 0) (a : Asked) (files after : ShelfView) (status : Status) (r : PlainSwept) (said bytes : List ℕ) → IsRun told a files after status said → status ≡ statuses.Done → bytes ≡ said → IsSweptText bytes r → IsPayment told a files after r
@@ -67,5 +79,5 @@ as_asked a files after r wallet_other blocks_other payment =
       sweeps = k.sweeps;
       fit = k.fit;
       psbt = k.psbt;
-      report = one_swept ends.0 r told read (sweep_reads (Unit {0}) (files_of files run.request) (sources_of a) (asked_by request_name) ends.0 k);
+      report = one_swept ends.0 r told read (reads_of (Unit {0}) (files_of files run.request) (sources_of a) (asked_by request_name) ends.0 k);
     }

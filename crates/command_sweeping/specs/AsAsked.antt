@@ -1,17 +1,13 @@
 -- That what is swept is what was asked for.
-use Rattle.std.specs.Prelude.{ℕ, ◌≡◌, ◌+◌, ◌-◌, List, [], ◌∷◌, map, sum_by, None, Ok, string_bytes}
+use Rattle.std.specs.Prelude.{ℕ, ◌≡◌, ◌+◌, List, [], ◌∷◌, map, sum_by, None, Ok, string_bytes}
 use Rattle.block_feed.specs.Block.{ChainBlock}
 use Rattle.coin_candidates.specs.declared.candidate.Candidate.{Candidate}
 use Rattle.amount_reports.specs.SweptText.{PlainSwept}
-use Rattle.fee_rates.specs.Fee.{vsize_of}
-use Rattle.fee_sharing.specs.Sweep.{sweep_weight}
 use Rattle.fund_shelf.specs.Causes.{ShelfView}
 use Rattle.fund_files.specs.Chain.{chain_from, history_of}
 use Rattle.fund_files.specs.Contents.{HasChain}
-use Rattle.fund_files.specs.declared.chain.Chain.{Chain}
-use Rattle.fund_payment.specs.Report.{line_of}
 use Rattle.fund_report.specs.declared.report.InLine.{InLine}
-use Rattle.fund_steps.specs.Amounts.{AreWithin, value_of}
+use Rattle.fund_steps.specs.Amounts.{AreWithin}
 use Rattle.psbt_codec.specs.PartialTransaction.{PartialTransaction}
 use Rattle.psbt_codec.specs.Psbt.{IsPsbt}
 use Rattle.psbt_codec.specs.Text.{psbt_text}
@@ -21,23 +17,13 @@ use Rattle.request_text.specs.PlainRequest.{PlainRequest}
 use Rattle.tx_codec.specs.declared.tx.TxIn.{TxIn}
 use Rattle.tx_codec.specs.declared.tx.TxOut.{TxOut}
 use Rattle.wallet_text.specs.PlainWallet.{PlainWallet}
-use Rattle.command_amounts.specs.Signing.{psbt_from, psbt_text_from}
+use Rattle.amount_laws.specs.Told.{swept_told}
+use Rattle.command_amounts.specs.Signing.{psbt_from}
 use Rattle.command_pay.specs.Money.{IsScriptOf}
 use Rattle.command_sweep.specs.Asked.{IsForSweep}
 use Rattle.command_sweep.specs.Outcome.{swept_request}
 use Rattle.command_sweep.specs.Results.{SweepsAll}
 use Rattle.pay_words.specs.declared.asked.Asked.{Asked}
-
--- what is reported of a payment of these coins, of which the recipient gets this amount
-abbrev pub reported : Chain → PlainRequest → List Candidate → (amount : ℕ) → PlainSwept
-reported k r coins amount = record {
-  amount = amount;
-  coins = map line_of coins;
-  weight = sweep_weight r coins;
-  vsize = vsize_of (sweep_weight r coins);
-  fee = value_of coins - amount;
-  psbt = psbt_text_from k.book (swept_request r amount) k.wallet.change coins None;
-}
 
 -- A wallet and blocks that the files hold, and exactly the request that is asked for, which a sweep takes. The payment is that of all
 -- coins that the last row of the ladder takes, each within its bounds. The recipient gets what they are worth less the fees of
@@ -54,7 +40,7 @@ pub record IsAsAsked (a : Asked) (files : ShelfView) (r : PlainSwept) : Type 0 w
   pub sweeps : SweepsAll (chain_from wallet blocks) request coins amount
   pub fit : AreWithin coins
   pub psbt : IsPsbt (psbt_from (history_of wallet blocks) (swept_request request amount) wallet.change coins None)
-  pub report : r ≡ reported (chain_from wallet blocks) request coins amount
+  pub report : r ≡ swept_told (chain_from wallet blocks) request coins amount
 
 -- Where the money of such a payment goes. Its PSBT is of version 0 (BIP 174). It is that of a transaction with one output, to the
 -- one recipient that is asked for, of the amount that is reported. Its inputs spend the coins that are reported. What these are

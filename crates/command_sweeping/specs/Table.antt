@@ -1,17 +1,12 @@
 -- A payment of all coins as a table of lines.
-use Rattle.std.specs.Prelude.{ℕ, List, [], ◌∷◌, ◌++◌, codes}
+use Rattle.std.specs.Prelude.{ℕ, List, [], ◌∷◌, ◌++◌}
 use Rattle.std.specs.List.{flat_map}
 use Rattle.amount_reports.specs.SweptText.{PlainSwept}
-use Rattle.request_making.specs.declared.payment.Payee.{Payee}
 use Rattle.request_making.specs.declared.payment.Payment.{Payment}
-use Rattle.command_pay.specs.Lines.{fee_line, money_text}
-use Rattle.command_pay.specs.Table.{payee_text, spends_line}
+use Rattle.command_pay.specs.Lines.{fee_line}
+use Rattle.command_pay.specs.Table.{gets_line, spends_line}
 
--- the line of what a recipient gets
-unfoldable pub gets_line : Payee → (amount : ℕ) → List ℕ
-gets_line to amount = codes "pays    " ++ (money_text amount ++ (codes "  " ++ (payee_text to ++ codes "\n")))
-
--- that of the first of them
+-- the line of what the first of the recipients gets
 abbrev pub gets_text : List Payment → (amount : ℕ) → List ℕ
 gets_text [] amount = []
 gets_text (p ∷ others) amount = gets_line p.to amount

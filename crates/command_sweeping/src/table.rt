@@ -1,23 +1,13 @@
 //! A payment of all coins as a table.
 
 ghost use Rattle.std.specs.Prelude.{◌≡◌, IfOk, string_bytes};
-ghost use Rattle.command_sweeping.specs.Table.{gets_line, gets_text, sweep_table};
+ghost use Rattle.command_sweeping.specs.Table.{gets_text, sweep_table};
 
 use amount_reports::SweptReport;
-use command_pay::{fee_line, money_text, payee_text, put_coins};
+use command_pay::{fee_line, gets_line, put_coins};
 use fund_base::Memory;
-use request_making::{Payee, Payment};
+use request_making::Payment;
 use std::alloc::Global;
-
-/// The line of what the recipient gets.
-#[tactic(auto, unfolding(crate::specs::Table::gets_line))]
-fn gets_line(alloc: Global, to: &Payee, amount: u64) -> Result<String, Memory>
-    ensures { IfOk result (λ text. string_bytes text ≡ gets_line to.now amount) }
-{
-    let money = money_text(alloc, amount)?;
-    let payee = payee_text(alloc, to)?;
-    Ok(format!(in alloc; "pays    {}  {}\n", money, payee)?)
-}
 
 /// The line of what the first of the recipients gets; nothing where there is none.
 fn gets_text(alloc: Global, payments: &[Payment], amount: u64) -> Result<String, Memory>

@@ -26,19 +26,24 @@ No file that is there is written over. The status is 0 where it is done, and els
 const PAY: &str = "ninelace pay --wallet FILE --blocks FILE --to ADDRESS=AMOUNT --fee-rate RATE
 
 Makes a payment and shows it as a table, with its PSBT for a signer. An amount is
-150000, 150000sat or 0.0015BTC; a rate is in satoshi per virtual byte.
+150000, 150000sat or 0.0015BTC; a rate is in satoshi per virtual byte. A flag and its
+value are two words, or one as --fee-rate=12.
 
   --wallet FILE          the wallet file
   --blocks FILE          the block file
   --to ADDRESS=AMOUNT    who is paid and how much; as often as you like
-  --to-script HEX=AMOUNT the same by a script in hex, as for a base58 address
+  --to-script HEX=AMOUNT the same by a script in hex
   --fee-rate RATE        the fee rate; below 1 it wants --allow-low-rate
   --allow-low-rate       a fee rate below 1 is taken, which nodes do not relay
   --long-term RATE       the rate at which coins are thought to be spent later: 10
+  --discard RATE         the rate at which change would be spent: 10
+  --change-target AMOUNT the change that is aimed at: 50000
   --method METHOD        auto, changeless, weight, draw or manual: auto
   --coin TXID:INDEX      a coin that is spent in any case; as often as you like
   --tries NUMBER         how many tries the searches have: 100000
   --seed HEX             what draws are made from, 64 digits: drawn anew each time
+  --bump TXID            the pending payment that is replaced, by its coins
+  --locktime NUMBER      the lock time, a height or from 500000000 on a time: 0
   --max-fee AMOUNT       the greatest fee: the less of 1000000sat and a tenth of
                          what is paid
   --psbt FILE            the PSBT goes into this new file
@@ -46,6 +51,9 @@ Makes a payment and shows it as a table, with its PSBT for a signer. An amount i
   --group                the coins of one script are spent together
   --consolidate          with --method changeless: coins that are not needed are
                          spent too, where spending them later would cost more
+  --fee-from-amount      the recipients bear the fee; the method is weight
+  --stop                 nothing is paid where the tries end before the search
+  --no-replace           the payment does not signal that it may be replaced
   --zero-conf            own outputs that wait for a block may be spent
   --unsafe               outputs that a stranger may take back may be spent
   --show-request         the request file is shown
@@ -65,12 +73,14 @@ table, with its PSBT for a signer. There is no change.
   --wallet FILE          the wallet file
   --blocks FILE          the block file
   --to ADDRESS           who gets all; ADDRESS=AMOUNT pays nothing below that amount
-  --to-script HEX        the same by a script in hex, as for a base58 address
+  --to-script HEX        the same by a script in hex
   --fee-rate RATE        the fee rate; below 1 it wants --allow-low-rate
   --allow-low-rate       a fee rate below 1 is taken, which nodes do not relay
   --max-fee AMOUNT       the greatest fee: the less of 1000000sat and a tenth of
                          what is paid
   --psbt FILE            the PSBT goes into this new file
+  --locktime NUMBER      the lock time, a height or from 500000000 on a time: 0
+  --no-replace           the payment does not signal that it may be replaced
   --zero-conf            own outputs that wait for a block go too
   --unsafe               beside --zero-conf: outputs that a stranger may take back
                          go too

@@ -3,9 +3,9 @@
 use amount_reports::SweptReport;
 use closing_log::Worded;
 use command_end::{coin_text, shown_hash};
-use command_pay::{mark_sentence, rate_of};
+use command_pay::{PaidReport, mark_sentence, rate_of};
 use fund_base::Memory;
-use fund_report::{FundedReport, InLine};
+use fund_report::InLine;
 use pay_words::{Asked, Way};
 use request_making::{Payee, Payment};
 use serde_json::{Map, Value};
@@ -129,13 +129,38 @@ fn recipient_value(alloc: Global, to: &Payee, amount: u64) -> Result<Value, Memo
     Ok(Value::Object(object))
 }
 
-/// The recipients, in their order.
-fn recipients_value(alloc: Global, payments: &[Payment]) -> Result<Value, Memory> {
+/// The recipients, in their order, each with what is asked for.
+fn asked_recipients(alloc: Global, payments: &[Payment]) -> Result<Value, Memory> {
     let mut list = Vec::new(alloc);
     for payment in payments {
         list.push(recipient_value(alloc, &payment.to, payment.amount)?)?;
     }
     Ok(Value::Array(list))
+}
+
+/// The recipients, in their order, each with the amount of its place.
+fn shared_recipients(
+    alloc: Global,
+    payments: &[Payment],
+    amounts: &[u64],
+) -> Result<Value, Memory> {
+    let mut list = Vec::new(alloc);
+    for (payment, amount) in payments.iter().zip(amounts.iter()) {
+        list.push(recipient_value(alloc, &payment.to, *amount)?)?;
+    }
+    Ok(Value::Array(list))
+}
+
+/// The recipients, in their order, each with what it gets.
+fn recipients_value(
+    alloc: Global,
+    payments: &[Payment],
+    report: &PaidReport,
+) -> Result<Value, Memory> {
+    match report {
+        PaidReport::Whole(_) => asked_recipients(alloc, payments),
+        PaidReport::Shared(report) => shared_recipients(alloc, payments, &report.amounts),
+    }
 }
 
 /// A coin that is spent, and its value.
@@ -161,15 +186,15 @@ fn put_sides(
     alloc: Global,
     object: &mut Map<String, Value>,
     asked: &Asked,
-    report: &FundedReport,
+    report: &PaidReport,
 ) -> Result<(), Memory> {
     put(
         alloc,
         object,
         "recipients",
-        recipients_value(alloc, &asked.payments)?,
+        recipients_value(alloc, &asked.payments, report)?,
     )?;
-    put(alloc, object, "coins", coins_value(alloc, &report.coins)?)
+    put(alloc, object, "coins", coins_value(alloc, report.coins())?)
 }
 
 /// What is seen of a payment in the files once more, each where they can be read again: what it paid for ancestors, and whether
@@ -186,14 +211,14 @@ pub struct Seen {
 fn put_figures(
     alloc: Global,
     object: &mut Map<String, Value>,
-    report: &FundedReport,
+    report: &PaidReport,
     seen: &Seen,
 ) -> Result<(), Memory> {
-    put(alloc, object, "fee", Value::from(report.fee))?;
+    put(alloc, object, "fee", Value::from(report.fee()))?;
     put(alloc, object, "parents", Value::from(seen.parents))?;
-    put(alloc, object, "weight", Value::from(report.weight))?;
-    put(alloc, object, "vsize", Value::from(report.vsize))?;
-    put(alloc, object, "change", Value::from(report.change))?;
+    put(alloc, object, "weight", Value::from(report.weight()))?;
+    put(alloc, object, "vsize", Value::from(report.vsize()))?;
+    put(alloc, object, "change", Value::from(report.change()))?;
     put(
         alloc,
         object,
@@ -202,14 +227,22 @@ fn put_figures(
     )
 }
 
-/// What a payment by `wide` saves in satoshi, below 0 where it costs; none for one by `fund`.
-fn saved(asked: &Asked, report: &FundedReport) -> Option<i64> {
-    match asked.way {
-        Way::Fund => None,
-        Way::Wide => match i64::try_from(report.waste) {
-            Ok(waste) => waste.checked_neg(),
-            Err(_) => None,
+/// What is saved by this waste, in satoshi, below 0 where it costs.
+fn saved_by(waste: i128) -> Option<i64> {
+    match i64::try_from(waste) {
+        Ok(waste) => waste.checked_neg(),
+        Err(_) => None,
+    }
+}
+
+/// What a payment by `wide` saves in satoshi, below 0 where it costs; none for another.
+fn saved(asked: &Asked, report: &PaidReport) -> Option<i64> {
+    match report {
+        PaidReport::Whole(report) => match asked.way {
+            Way::Wide => saved_by(report.waste),
+            Way::Fund | Way::Share => None,
         },
+        PaidReport::Shared(_) => None,
     }
 }
 
@@ -218,17 +251,17 @@ fn put_choice(
     alloc: Global,
     object: &mut Map<String, Value>,
     asked: &Asked,
-    report: &FundedReport,
+    report: &PaidReport,
 ) -> Result<(), Memory> {
-    put_text(alloc, object, "mark", report.mark.word())?;
+    put_text(alloc, object, "mark", report.mark().word())?;
     put_text(
         alloc,
         object,
         "choice",
-        mark_sentence(asked.way, report.mark),
+        mark_sentence(asked.way, report.mark()),
     )?;
     put(alloc, object, "saved", Value::from(saved(asked, report)))?;
-    put(alloc, object, "tries", Value::from(report.tries))?;
+    put(alloc, object, "tries", Value::from(report.tries()))?;
     let seed = hex::encode(alloc, &asked.settings.seed)?;
     put_text(alloc, object, "seed", seed.as_str())
 }
@@ -238,7 +271,7 @@ fn put_choice(
 pub fn payment_value(
     alloc: Global,
     asked: &Asked,
-    report: &FundedReport,
+    report: &PaidReport,
     seen: &Seen,
     psbt: &str,
 ) -> Result<Value, Memory> {

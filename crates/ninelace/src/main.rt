@@ -10,7 +10,9 @@ mod settle;
 mod sweep;
 
 use command_end::Status;
+use fund_base::Memory;
 use pay::pay;
+use pay_words::spread_words;
 use plain::{by_words, coins, complete, explain, is_given, show, tell};
 use settle::settle;
 use std::io::ErrorKind;
@@ -45,11 +47,25 @@ fn help_whole(rt: &HostRuntime, status: Status) -> io::Result<u8> {
     Ok(status.code())
 }
 
+/// The same words, with two in place of each that is a flag with its value behind `=`.
+fn spread(rt: &HostRuntime, words: &[String]) -> io::Result<Vec<String>> {
+    match spread_words(rt.alloc(), words) {
+        Ok(words) => Ok(words),
+        Err(Memory) => Err(io::Error::from(ErrorKind::OutOfMemory)),
+    }
+}
+
 /// Does a command.
 fn command(rt: &HostRuntime, words: &[String], verb: &str, rest: &[String]) -> io::Result<u8> {
     match verb {
-        "pay" => pay(rt, rest),
-        "sweep" => sweep(rt, rest),
+        "pay" => {
+            let words = spread(rt, rest)?;
+            pay(rt, words.as_slice())
+        }
+        "sweep" => {
+            let words = spread(rt, rest)?;
+            sweep(rt, words.as_slice())
+        }
         "coins" => coins(rt, words),
         "check" => by_words(
             rt,
@@ -81,7 +97,7 @@ fn act(rt: &HostRuntime, words: &[String]) -> io::Result<u8> {
                 Ok(Status::Done.code())
             }
             name => match help::of_command(name) {
-                Some(text) if is_given(rest, "--help") => {
+                Some(text) if is_given(rest, "--help") || is_given(rest, "-h") => {
                     rt.print(text)?;
                     Ok(Status::Done.code())
                 }

@@ -5,14 +5,14 @@ use crate::plain::{files_told, is_given, show, tell};
 use crate::prices::{paid_for_parents, parents_line};
 use command_end::{Sources, Status};
 use command_pay::{
-    Ending, NewFile, NewFileShelf, change_warning, high_fee_text, is_change_listed, table_text,
-    unread_warning, unwritten_text,
+    Ending, NewFile, NewFileShelf, PaidReport, change_warning, high_fee_text, is_change_listed,
+    table_text, unread_warning, unwritten_text,
 };
 use fault_lines::line_sentence;
 use fund_files::WALLET_LIMIT;
-use fund_report::{FundedReport, InLine};
+use fund_report::InLine;
 use fund_shelf::{FileShelf, Shelf, read_whole};
-use pay_words::{Asked, WordFault, flag_about, flag_word, word_place, word_sentence};
+use pay_words::{Asked, WordFault, flag_about, flag_word, letter_about, word_place, word_sentence};
 use std::alloc::Global;
 use std::io;
 use std::random::RandomSource;
@@ -40,7 +40,14 @@ pub fn refuse_words(rt: &HostRuntime, words: &[String], fault: &WordFault) -> io
     };
     let json = is_given(words, "--json");
     let about = word_about(words, fault);
-    tell(rt, json, status, about, Some(word_sentence(fault)))
+    match letter_about(fault) {
+        Some(letter) => {
+            let number = letter.wrapping_add(1);
+            let about = format!(in rt.alloc(); "{}: letter {}", about, number)?;
+            tell(rt, json, status, about.as_str(), Some(word_sentence(fault)))
+        }
+        None => tell(rt, json, status, about, Some(word_sentence(fault))),
+    }
 }
 
 /// Whether the wallet watches the script to which it has change paid; none where its file can't be read any more.
@@ -106,20 +113,15 @@ pub fn show_psbt(rt: &HostRuntime, asked: &Asked, psbt: &str) -> io::Result<()> 
 }
 
 /// Shows a payment as a table, and its PSBT where no file is given for it.
-fn show_table(
-    rt: &HostRuntime,
-    asked: &Asked,
-    report: &FundedReport,
-    psbt: &str,
-) -> io::Result<u8> {
+fn show_table(rt: &HostRuntime, asked: &Asked, report: &PaidReport, psbt: &str) -> io::Result<u8> {
     let text = match table_text(rt.alloc(), asked, report) {
         Ok(text) => text,
         Err(_) => return show(rt, false, Status::Memory, b"fault memory\n"),
     };
     show_request(rt, asked)?;
     rt.print(text.as_str())?;
-    show_parents(rt, parents_of(rt, asked, &report.coins))?;
-    if report.change.is_some() {
+    show_parents(rt, parents_of(rt, asked, report.coins()))?;
+    if report.change().is_some() {
         warn_of_change(rt, is_listed(rt, asked.names.wallet.as_str()))?;
     }
     show_psbt(rt, asked, psbt)?;
@@ -127,20 +129,20 @@ fn show_table(
 }
 
 /// Shows a payment whose fee is taken.
-fn show_payment(rt: &HostRuntime, asked: &Asked, report: &FundedReport) -> io::Result<u8> {
-    let psbt = match str::from_utf8(&report.text) {
+fn show_payment(rt: &HostRuntime, asked: &Asked, report: &PaidReport) -> io::Result<u8> {
+    let psbt = match str::from_utf8(report.psbt()) {
         Ok(psbt) => psbt,
         Err(_) => "",
     };
     if !asked.json {
         return show_table(rt, asked, report, psbt);
     }
-    let listed = match report.change {
+    let listed = match report.change() {
         Some(_) => is_listed(rt, asked.names.wallet.as_str()),
         None => None,
     };
     let seen = Seen {
-        parents: parents_of(rt, asked, &report.coins),
+        parents: parents_of(rt, asked, report.coins()),
         change_listed: listed,
     };
     match payment_value(rt.alloc(), asked, report, &seen, psbt) {

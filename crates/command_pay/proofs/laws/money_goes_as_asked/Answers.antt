@@ -1,4 +1,4 @@
-use Rattle.command_pay.proofs.MoneyLaws.{money_of}
+use Rattle.command_pay.proofs.SharedMoneyLaws.{money_of}
 use Rattle.command_pay.proofs.PaymentLaws.{as_asked}
 use Rattle.command_pay.proofs.laws.money_goes_as_asked.Goals as goal
 

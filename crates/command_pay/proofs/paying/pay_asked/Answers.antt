@@ -2,12 +2,13 @@ use Rattle.std.proofs.Common.{◌≡◌, ◌<◌, ℕ, List, inr, refl, sym, sub
 use Rattle.std.specs.Prelude.{IfOk, Result}
 use Rattle.std.proofs.Math.Nat.{lt_of_not-le}
 use Rattle.fund_base.specs.declared.memory.Memory.{Memory}
-use Rattle.fund_report.specs.PlainFunded.{PlainFunded}
 use Rattle.command_end.specs.declared.status.Status.{Status}
 use Rattle.command_end.specs.declared.status.Status.TheVariants as statuses
+use Rattle.command_pay.specs.Paid.{fee_in}
 use Rattle.command_pay.specs.Pays.{HasLogAtMost, Pays, PutStops, greatest_fee}
-use Rattle.command_pay.specs.Run.{IsPayment, IsReportBy, IsRun}
+use Rattle.command_pay.specs.Run.{IsPayment, IsRun, IsSomeReport}
 use Rattle.command_pay.specs.declared.outcome.Ending.{Ending}
+use Rattle.command_pay.specs.declared.report.PaidReport.{PaidReport}
 use Rattle.held_run.specs.declared.run.Run.{Run}
 use Rattle.command_pay.specs.declared.written.PutFault.{PutFault}
 use Rattle.command_pay.proofs.PaymentLaws.{is_payment, report_of_run}
@@ -19,22 +20,22 @@ payment_in-requires g c =
     let done : c.in-Ok.run'.status ≡ statuses.Done = c.is_done.ensures.0 c.if-not-is_done.false in
     let run : IsRun g.H.Shelf.tells c.args.asked.now (g.H.Shelf.view c.args.files) (g.H.Shelf.view c.run_asked-ended.result.1) statuses.Done c.in-Ok.run'.said.items c.in-Ok.run'.log.items = subst (λ (s : Status). IsRun g.H.Shelf.tells c.args.asked.now (g.H.Shelf.view c.args.files) (g.H.Shelf.view c.run_asked-ended.result.1) s c.in-Ok.run'.said.items c.in-Ok.run'.log.items) done ran in
     let found = report_of_run g.H.Shelf.tells c.args.asked.now (g.H.Shelf.view c.args.files) (g.H.Shelf.view c.run_asked-ended.result.1) c.in-Ok.run'.said.items c.in-Ok.run'.log.items run in
-    (found.0, subst (λ (t : List ℕ). IsReportBy c.args.asked.now.way t found.0) (sym c.deref.ensures.value) found.1)
+    subst (λ (t : List ℕ). IsSomeReport c.args.asked.now.way t) (sym c.deref.ensures.value) found
 
 pub returns-then-not-accepts_fee-clause-pays : goal.returns-then-not-accepts_fee-clause-pays
 returns-then-not-accepts_fee-clause-pays g c =
     let ran : IsRun g.H.Shelf.tells c.args.asked.now (g.H.Shelf.view c.args.files) (g.H.Shelf.view c.run_asked-ended.result.1) c.in-Ok.run'.status c.in-Ok.run'.said.items c.in-Ok.run'.log.items = subst (λ (x : Result Run Memory). IfOk x (λ r. IsRun g.H.Shelf.tells c.args.asked.now (g.H.Shelf.view c.args.files) (g.H.Shelf.view c.run_asked-ended.result.1) r.status r.said.items r.log.items)) c.in-Ok.is c.run_asked-ended.ensures.run in
-    let f : PlainFunded = c.in-Ok-payment_in.report in
+    let f : PaidReport = c.in-Ok-payment_in.report in
     let log : List ℕ = c.in-Ok.run'.log.items in
     let done : c.in-Ok.run'.status ≡ statuses.Done = c.is_done.ensures.0 c.if-not-is_done.false in
     let payment : IsPayment g.H.Shelf.tells c.args.asked.now (g.H.Shelf.view c.args.files) (g.H.Shelf.view c.run_asked-ended.result.1) f log = is_payment _ _ _ _ c.in-Ok.run'.status f c.in-Ok.run'.said.items c.deref.result.now log ran done c.deref.ensures.value c.in-Ok-payment_in.ensures in
-    let less : greatest_fee c.args.asked.now < f.fee = lt_of_not-le (λ h. let yes = c.accepts_fee.ensures.1 h in let no = c.if-not-accepts_fee.true in cc) in
+    let less : greatest_fee c.args.asked.now < fee_in f = lt_of_not-le (λ h. let yes = c.accepts_fee.ensures.1 h in let no = c.if-not-accepts_fee.true in cc) in
     subst (λ (e : Ending). Pays g.H.Shelf.tells g.N.Shelf.tells c.args.asked.now (g.H.Shelf.view c.args.files) (g.H.Shelf.view c.run_asked-ended.result.1) (g.N.Shelf.view c.args.new_files.now) (g.N.Shelf.view c.args.new_files.now) e) (sym c.high_fee.ensures) (f, log, payment, refl, refl, less, refl)
 
 pub returns-clause-pays : goal.returns-clause-pays
 returns-clause-pays g c =
     let ran : IsRun g.H.Shelf.tells c.args.asked.now (g.H.Shelf.view c.args.files) (g.H.Shelf.view c.run_asked-ended.result.1) c.in-Ok.run'.status c.in-Ok.run'.said.items c.in-Ok.run'.log.items = subst (λ (x : Result Run Memory). IfOk x (λ r. IsRun g.H.Shelf.tells c.args.asked.now (g.H.Shelf.view c.args.files) (g.H.Shelf.view c.run_asked-ended.result.1) r.status r.said.items r.log.items)) c.in-Ok.is c.run_asked-ended.ensures.run in
-    let f : PlainFunded = c.in-Ok-payment_in.report in
+    let f : PaidReport = c.in-Ok-payment_in.report in
     let log : List ℕ = c.in-Ok.run'.log.items in
     let done : c.in-Ok.run'.status ≡ statuses.Done = c.is_done.ensures.0 c.if-not-is_done.false in
     let payment : IsPayment g.H.Shelf.tells c.args.asked.now (g.H.Shelf.view c.args.files) (g.H.Shelf.view c.run_asked-ended.result.1) f log = is_payment _ _ _ _ c.in-Ok.run'.status f c.in-Ok.run'.said.items c.deref.result.now log ran done c.deref.ensures.value c.in-Ok-payment_in.ensures in
