@@ -4,13 +4,14 @@
 use fund_base::Memory;
 use log_checker::{Checker, LogFault};
 use pick_problem::{Item, Kind, Problem, are_items};
+use row_columns::{Answer, column, number_in, places_in};
 use std::alloc::Global;
 use std::rc::Rc;
 use std::time::Instant;
 use std::{fs, io};
 
 /// The greatest number of items.
-const MOST: u32 = 10_000;
+const MOST: u64 = 10_000;
 
 /// An item that looks like none before it.
 fn item(n: u32) -> Item {
@@ -37,37 +38,27 @@ fn items(alloc: Global, count: u32) -> Result<Vec<Item>, Memory> {
     Ok(items)
 }
 
-/// The places, with blanks between them.
-fn places(alloc: Global, text: &str) -> Result<Vec<u32>, Memory> {
-    let mut places = Vec::new(alloc);
-    for word in text.split(' ') {
-        if let Ok(place) = word.parse() {
-            places.push(place)?;
-        }
-    }
-    Ok(places)
-}
-
-/// The problem of a head.
-fn problem(alloc: Global, head: &str) -> Result<Option<Problem>, Memory> {
-    let mut words = head.split(' ');
-    let kind = match words.next() {
-        Some("changeless") => Kind::Changeless,
-        _ => Kind::Lean,
-    };
-    let lo = words.next().unwrap_or("").parse().unwrap_or(0);
-    let hi = words.next().unwrap_or("").parse().unwrap_or(0);
-    let limit = words.next().unwrap_or("").parse().unwrap_or(0);
-    let count = words.next().unwrap_or("").parse().unwrap_or(0);
-    let items = items(alloc, MOST.min(count))?;
-    if !are_items(items.as_slice()) || lo < 1 || lo > hi {
+/// The problem of these items and of the words of a head. `None` where there can't be one.
+fn problem_of(alloc: Global, items: Vec<Item>, words: &[&str]) -> Result<Option<Problem>, Memory> {
+    let lo = number_in(column(words, 1), 0);
+    let hi = number_in(column(words, 2), 0);
+    let limit = number_in(column(words, 3), 0);
+    if !are_items(&items) || lo < 1 || lo > hi {
         return Ok(None);
     }
     let items = Rc::new(alloc, items)?;
-    Ok(match kind {
-        Kind::Changeless => Some(Problem::new(items, lo, hi, limit, kind)),
-        Kind::Lean => Some(Problem::new(items, lo, lo, limit, kind)),
-    })
+    Ok(Some(match column(words, 0) {
+        "changeless" => Problem::new(items, lo, hi, limit, Kind::Changeless),
+        _ => Problem::new(items, lo, lo, limit, Kind::Lean),
+    }))
+}
+
+/// The problem of a head. `None` where there can't be one.
+fn problem(alloc: Global, head: &str) -> Result<Option<Problem>, Memory> {
+    let words: Vec<&str> = head.split(' ').collect(alloc)?;
+    let count = number_in(column(&words, 4), 0).min(MOST) as u32;
+    let items = items(alloc, count)?;
+    problem_of(alloc, items, &words)
 }
 
 /// What a checker says of letters.
@@ -77,36 +68,65 @@ fn check(alloc: Global, problem: &Problem, answer: &[u32], letters: &[u8]) -> Re
     checker.end()
 }
 
-/// Checks a log and prints what is said of it; if asked to, how long that took too.
-fn run(rt: &HostRuntime, text: &str, timed: bool) -> io::Result<bool> {
-    let mut lines = text.split('\n');
-    let head = lines.next().unwrap_or("");
-    let Ok(Some(problem)) = problem(rt.alloc(), head) else {
-        println!(rt; "there is no problem")?;
-        return Ok(false);
-    };
-    let Ok(answer) = places(rt.alloc(), lines.next().unwrap_or("")) else {
-        println!(rt; "out of memory")?;
-        return Ok(false);
-    };
-    let letters = lines.next().unwrap_or("").as_bytes();
+/// Puts what is said of letters; if asked to, how long that took too.
+fn put_said(
+    rt: &HostRuntime,
+    out: &mut Answer,
+    problem: &Problem,
+    answer: &[u32],
+    letters: &[u8],
+    timed: bool,
+) -> io::Result<()> {
     let start = Instant::now(rt)?;
-    let said = check(rt.alloc(), &problem, answer.as_slice(), letters);
+    let said = check(out.alloc, problem, answer, letters);
     let time = start.elapsed(rt)?;
-    let word = match said {
+    out.number("", letters.len() as u64);
+    out.word(" letters: ");
+    out.word(match said {
         Ok(()) => "ok",
         Err(LogFault::Open) => "open",
         Err(_) => "refused",
-    };
-    println!(rt; "{} letters: {}", letters.len(), word)?;
+    });
     if timed {
-        println!(rt; "{} ms", time.as_millis())?;
+        out.large("\n", time.as_millis());
+        out.word(" ms");
     }
+    out.word("\n");
+    Ok(())
+}
+
+/// The problem and the answer of the first two lines; `None` where there is no problem.
+fn question(alloc: Global, lines: &[&str]) -> Result<Option<(Problem, Vec<u32>)>, Memory> {
+    let answer = places_in(alloc, column(lines, 1))?;
+    match problem(alloc, column(lines, 0))? {
+        Some(problem) => Ok(Some((problem, answer))),
+        None => Ok(None),
+    }
+}
+
+/// Checks the log of three lines, and puts what is said of it.
+fn run(rt: &HostRuntime, out: &mut Answer, lines: &[&str], timed: bool) -> io::Result<bool> {
+    let Ok(question) = question(out.alloc, lines) else {
+        out.lack();
+        return Ok(false);
+    };
+    let Some((problem, answer)) = question else {
+        out.word("there is no problem\n");
+        return Ok(false);
+    };
+    let letters = column(lines, 2).as_bytes();
+    put_said(rt, out, &problem, &answer, letters, timed)?;
     Ok(true)
 }
 
-/// Checks the log of a file, and prints how many letters it has and what the checker says.
-pub fn check_file(rt: &HostRuntime, name: &str, timed: bool) -> io::Result<bool> {
+/// Checks the log of a file, and puts how many letters it has and what the checker says.
+pub(crate) fn check_file(
+    rt: &HostRuntime,
+    out: &mut Answer,
+    name: &str,
+    timed: bool,
+) -> io::Result<bool> {
     let text = fs::read_to_string(rt, name)?;
-    run(rt, text.as_str(), timed)
+    let lines: Vec<&str> = text.split('\n').collect(out.alloc)?;
+    run(rt, out, &lines, timed)
 }

@@ -2,8 +2,8 @@
 
 use block_feed::{Feed, FeedFault};
 use fund_shelf::{FileShelf, Shelf};
+use row_columns::Answer;
 use std::alloc::Global;
-use std::io;
 
 /// How many blocks were read, and how many transactions are in them.
 #[derive(Clone, Copy)]
@@ -27,15 +27,18 @@ fn counts_of<H: Shelf>(alloc: Global, shelf: &mut H, name: &str) -> Result<Count
     Ok(Counts { blocks, txs })
 }
 
-/// Prints how many blocks and transactions a block file has, or that it has a fault.
-pub fn read_blocks(rt: &HostRuntime, name: &str) -> io::Result<bool> {
-    let mut shelf = FileShelf::new(rt);
-    match counts_of(rt.alloc(), &mut shelf, name) {
-        Ok(counts) => println!(rt; "{} blocks, {} transactions", counts.blocks, counts.txs)?,
+/// Puts how many blocks and transactions a block file has, or that it has a fault.
+pub(crate) fn read_blocks(rt: &HostRuntime, out: &mut Answer, name: &str) -> bool {
+    match counts_of(out.alloc, &mut FileShelf::new(rt), name) {
+        Ok(counts) => {
+            out.number("", counts.blocks);
+            out.number(" blocks, ", counts.txs);
+            out.word(" transactions\n");
+            true
+        }
         Err(_) => {
-            println!(rt; "there is no such block file")?;
-            return Ok(false);
+            out.word("there is no such block file\n");
+            false
         }
     }
-    Ok(true)
 }

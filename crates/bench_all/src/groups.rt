@@ -6,13 +6,14 @@ ghost use Rattle.coin_candidates.specs.Candidates.{AreCandidates};
 use coin_candidates::Candidate;
 use fund_base::{Memory, OutPoint, Script, Txid};
 use output_groups::{Groups, ladder, pool};
+use row_columns::{Answer, number_in};
 use std::alloc::Global;
 use std::cmp::Reverse;
 use std::io;
 use std::time::Instant;
 
 /// The greatest number of coins.
-const MOST: u32 = 100_000;
+const MOST: u64 = 100_000;
 
 /// A number that looks like none before it.
 fn mixed(n: u32) -> u32 {
@@ -63,23 +64,41 @@ fn coins(alloc: Global, count: u32) -> Result<Vec<Candidate>, Memory>
     Ok(coins)
 }
 
-/// Sorts the coins by script, and as many keys of groups as there are scripts.
-fn sort(alloc: Global, mut coins: Vec<Candidate>) -> Result<usize, Memory> {
+/// The keys of as many groups as there are scripts.
+fn keys(
+    alloc: Global,
+    coins: &[Candidate],
+) -> Result<Vec<(Reverse<u64>, u64, i64, OutPoint)>, Memory> {
     let mut keys = Vec::new(alloc);
     for coin in coins.iter().step_by(10) {
         keys.push((Reverse(coin.value), coin.weight, 0, coin.coin))?;
     }
+    Ok(keys)
+}
+
+/// Sorts the coins by script, and as many keys of groups as there are scripts.
+fn sort(alloc: Global, mut coins: Vec<Candidate>) -> Result<usize, Memory> {
+    let mut keys = keys(alloc, &coins)?;
     coins.sort_by(|a, b| a.script.bytes().cmp(b.script.bytes()))?;
     keys.sort_unstable();
     Ok(keys.len())
 }
 
-/// Prints how long it takes to sort the same keys, in microseconds, after how long the pool took.
-fn compare(rt: &HostRuntime, coins: Vec<Candidate>, pool_time: u128) -> io::Result<()> {
+/// Puts how long it takes to sort the same keys, in microseconds, after how long the pool took.
+fn compare(
+    rt: &HostRuntime,
+    out: &mut Answer,
+    coins: Vec<Candidate>,
+    pool_time: u128,
+) -> io::Result<()> {
     let start = Instant::now(rt)?;
-    let keys = sort(rt.alloc(), coins).unwrap_or(0);
+    let keys = sort(out.alloc, coins).unwrap_or(0);
     let sort_time = start.elapsed(rt)?.as_micros();
-    println!(rt; "pool {pool_time} us, sort {sort_time} us, {keys} keys")
+    out.large("pool ", pool_time);
+    out.large(" us, sort ", sort_time);
+    out.number(" us, ", keys as u64);
+    out.word(" keys\n");
+    Ok(())
 }
 
 /// How many groups the seven rows keep together, of groups that are formed once.
@@ -95,52 +114,78 @@ fn row_groups(alloc: Global, coins: &[Candidate]) -> Option<usize>
     Some(sum)
 }
 
-/// Prints how long it takes to form the groups once and to list the items of seven rows, in microseconds.
-fn time_rows(rt: &HostRuntime, coins: &[Candidate]) -> io::Result<()>
+/// Puts how long it takes to form the groups once and to list the items of seven rows, in microseconds.
+fn time_rows(rt: &HostRuntime, out: &mut Answer, coins: &[Candidate]) -> io::Result<()>
     requires { AreCandidates coins.now }
 {
     let start = Instant::now(rt)?;
-    let kept = row_groups(rt.alloc(), coins).unwrap_or(0);
+    let kept = row_groups(out.alloc, coins).unwrap_or(0);
     let time = start.elapsed(rt)?.as_micros();
-    println!(rt; "rows {time} us, {kept} items")
+    out.large("rows ", time);
+    out.number(" us, ", kept as u64);
+    out.word(" items\n");
+    Ok(())
 }
 
-/// Finds the pool and prints how many groups it has; if asked to, forms groups for seven rows and sorts the same
-/// keys too, and prints the times.
-fn find_pool(rt: &HostRuntime, count: u32, timed: bool) -> io::Result<bool>
-    requires { count ≤ 100_000 }
+/// How many groups the pool has; `None` where there is no pool.
+fn pool_groups(alloc: Global, coins: &[Candidate]) -> Option<usize>
+    requires { AreCandidates coins.now }
 {
-    let Ok(coins) = coins(rt.alloc(), count) else {
-        println!(rt; "there wasn't enough memory")?;
-        return Ok(false);
-    };
+    let pool = pool(alloc, coins, &ladder(false, false)[0], 10_000, 10_000, true).ok()?;
+    Some(pool.groups.len())
+}
+
+/// Finds the pool and puts how many groups it has. Gives how many microseconds that took; `None` where there is no pool.
+fn find_pool(rt: &HostRuntime, out: &mut Answer, coins: &[Candidate]) -> io::Result<Option<u128>>
+    requires { AreCandidates coins.now }
+{
     let start = Instant::now(rt)?;
-    let Ok(pool) = pool(
-        rt.alloc(),
-        &coins,
-        &ladder(false, false)[0],
-        10_000,
-        10_000,
-        true,
-    ) else {
-        println!(rt; "there is no pool")?;
-        return Ok(false);
+    let Some(groups) = pool_groups(out.alloc, coins) else {
+        out.word("there is no pool\n");
+        return Ok(None);
     };
     let pool_time = start.elapsed(rt)?.as_micros();
-    println!(rt; "{} groups", pool.groups.len())?;
+    out.number("", groups as u64);
+    out.word(" groups\n");
+    Ok(Some(pool_time))
+}
+
+/// Finds the pool of the coins and puts how many groups it has; if asked to, forms groups for seven rows and sorts the same
+/// keys too, and puts the times.
+fn find_groups(
+    rt: &HostRuntime,
+    out: &mut Answer,
+    coins: Vec<Candidate>,
+    timed: bool,
+) -> io::Result<bool>
+    requires { AreCandidates coins.items }
+{
+    let Some(pool_time) = find_pool(rt, out, &coins)? else {
+        return Ok(false);
+    };
     if timed {
-        time_rows(rt, &coins)?;
-        compare(rt, coins, pool_time)?;
+        time_rows(rt, out, &coins)?;
+        compare(rt, out, coins, pool_time)?;
     }
     Ok(true)
 }
 
-/// Finds the pool of as many coins as the word says, and prints how many groups it has.
-pub fn find(rt: &HostRuntime, word: &str, timed: bool) -> io::Result<bool> {
-    match word.parse::<u32>() {
-        Ok(count) if count <= MOST => find_pool(rt, count, timed),
-        _ => {
-            println!(rt; "up to 100000 coins can be made")?;
+/// Finds the pool of as many coins as the word says, and puts how many groups it has.
+pub(crate) fn find(
+    rt: &HostRuntime,
+    out: &mut Answer,
+    word: &str,
+    timed: bool,
+) -> io::Result<bool> {
+    let count = number_in(word, u64::MAX);
+    if count > MOST {
+        out.word("up to 100000 coins can be made\n");
+        return Ok(false);
+    }
+    match coins(out.alloc, count as u32) {
+        Ok(coins) => find_groups(rt, out, coins, timed),
+        Err(_) => {
+            out.lack();
             Ok(false)
         }
     }

@@ -9,7 +9,7 @@
 //! - `check FILE` checks the log of a file, and with `timed` after it prints how long that took;
 //! - `groups COUNT` finds the pool of made-up coins, and with `timed` after it prints the times too.
 //!
-//! Commands are parted by the word `then`. The status is 1 where one of them failed.
+//! Commands are parted by the word `then`. A word that is no number is read as 0. The status is 1 where one of them failed.
 #![tactic(auto)]
 
 mod checker;
@@ -20,42 +20,63 @@ mod logs;
 mod turns;
 mod walk;
 
+use row_columns::Answer;
 use std::process::ExitCode;
 use std::{env, io};
 
-/// Does a command, and tells whether it went well.
-fn act(rt: &HostRuntime, command: &[&str]) -> io::Result<bool> {
-    match command {
-        ["feed", blocks] => feed::read_blocks(rt, blocks),
-        ["walk", file, tries, rounds] => walk::walk_file(rt, file, tries, rounds, false),
-        ["wide", file, tries, rounds] => walk::walk_file(rt, file, tries, rounds, true),
-        ["run", file, tries, turn] => turns::run_file(rt, file, tries, turn),
-        ["log"] => logs::write_and_read(rt, false),
-        ["log", "timed"] => logs::write_and_read(rt, true),
-        ["draw", items, kept, seeds] => draws::draw_words(rt, items, kept, seeds, false),
-        ["draw", items, kept, seeds, "timed"] => draws::draw_words(rt, items, kept, seeds, true),
-        ["check", file] => checker::check_file(rt, file, false),
-        ["check", file, "timed"] => checker::check_file(rt, file, true),
-        ["groups", count] => groups::find(rt, count, false),
-        ["groups", count, "timed"] => groups::find(rt, count, true),
+/// The word of this number; empty where there is none.
+fn word(words: &[String], number: usize) -> &str {
+    match words.get(number) {
+        Some(word) => word.as_str(),
+        None => "",
+    }
+}
+
+/// Does a command, and tells whether it went well. The error is of a file or of the clock.
+fn done(rt: &HostRuntime, out: &mut Answer, words: &[String]) -> io::Result<bool> {
+    let (name, second, third) = (word(words, 1), word(words, 2), word(words, 3));
+    match word(words, 0) {
+        "feed" => Ok(feed::read_blocks(rt, out, name)),
+        "walk" => walk::walk_file(rt, out, name, second, third, false),
+        "wide" => walk::walk_file(rt, out, name, second, third, true),
+        "run" => turns::run_file(rt, out, name, second, third),
+        "log" => logs::write_and_read(rt, out, name == "timed"),
+        "draw" => draws::draw_words(rt, out, name, second, third, word(words, 4) == "timed"),
+        "check" => checker::check_file(rt, out, name, second == "timed"),
+        "groups" => groups::find(rt, out, name, second == "timed"),
         _ => {
-            println!(rt; "feed BLOCKS | groups COUNT [timed]")?;
-            println!(rt; "walk FILE TRIES ROUNDS | wide FILE TRIES ROUNDS")?;
-            println!(rt; "run FILE TRIES TURN | check FILE [timed]")?;
-            println!(rt; "log [timed] | draw ITEMS KEPT SEEDS [timed]")?;
+            out.word("feed BLOCKS | groups COUNT [timed]\n");
+            out.word("walk FILE TRIES ROUNDS | wide FILE TRIES ROUNDS\n");
+            out.word("run FILE TRIES TURN | check FILE [timed]\n");
+            out.word("log [timed] | draw ITEMS KEPT SEEDS [timed]\n");
             Ok(false)
         }
     }
 }
 
-fn main(rt: HostRuntime) -> io::Result<ExitCode> {
-    let words: Vec<String> = env::args(&rt)?.skip(1).collect(rt.alloc())?;
-    let words: Vec<&str> = words.iter().map(|word| word.as_str()).collect(rt.alloc())?;
-    let mut went_well = true;
-    for command in words.as_slice().split(|word| *word == "then") {
-        went_well = act(&rt, command)? && went_well;
+/// Does a command, prints what it counted, and tells whether it went well.
+fn act(rt: &HostRuntime, words: &[String]) -> io::Result<bool> {
+    let mut out = Answer::new(rt.alloc());
+    let went_well = done(rt, &mut out, words)?;
+    out.print(rt)?;
+    Ok(went_well)
+}
+
+/// Does the commands of the words behind the program's name, and tells whether all of them went well.
+fn act_all(rt: &HostRuntime, words: &[String]) -> io::Result<bool> {
+    let (mut first, mut went_well) = (1, true);
+    for place in 0..words.len() {
+        if word(words, place) == "then" {
+            went_well = act(rt, words.get(first..place).unwrap_or(&[]))? && went_well;
+            first = place.saturating_add(1);
+        }
     }
-    Ok(if went_well {
+    Ok(act(rt, words.get(first..).unwrap_or(&[]))? && went_well)
+}
+
+fn main(rt: HostRuntime) -> io::Result<ExitCode> {
+    let words: Vec<String> = env::args(&rt)?.collect(rt.alloc())?;
+    Ok(if act_all(&rt, &words)? {
         ExitCode::SUCCESS
     } else {
         ExitCode::FAILURE

@@ -1,40 +1,28 @@
 //! A run over one search in turns: each turn asks where the run stands and what it comes to.
 
-ghost use Rattle.std.specs.Prelude.{◌≡◌, ◌≤◌, IfOk, IsTrue};
+ghost use Rattle.std.specs.Prelude.{◌≡◌, ◌≤◌, IfOk};
 ghost use Rattle.std.specs.List.{AllByRecursion};
 ghost use Rattle.search_run.specs.Step.{AreSteps};
 
+use crate::walk::{problem_of, put_ended};
 use closing_log::Stage;
 use fund_base::Memory;
 use pick_problem::{Kind, Problem};
-use row_columns::problem_in;
+use row_columns::{Answer, number_in};
 use search_run::{End, SearchRun, Step};
 use std::alloc::Global;
 use std::rc::Rc;
 use std::{fs, io};
 
-/// What a run comes to: its tries, how many letters its log has, and whether it is over.
-#[derive(Drop)]
-struct Told {
-    tries: u64,
-    letters: usize,
-    over: bool,
-}
-
 /// One coin at each of so many places.
-fn ones(alloc: Global, places: usize) -> Result<Vec<u8>, Memory> {
+fn ones(alloc: Global, places: usize) -> Result<Vec<u8>, Memory>
+    ensures { IfOk result (λ v. AllByRecursion (λ n. n ≤ 100) v.items) }
+{
     let mut sizes = Vec::new(alloc);
     for _ in 0..places {
         sizes.push(1)?;
     }
     Ok(sizes)
-}
-
-/// Whether no place has more than 100 coins.
-fn are_few(sizes: &[u8]) -> bool
-    ensures { IsTrue result → AllByRecursion (λ n. n ≤ 100) sizes.now }
-{
-    sizes.iter().all(|size| *size <= 100)
 }
 
 /// The stage of a kind of problem.
@@ -55,7 +43,7 @@ fn steps_of(alloc: Global, problem: Problem) -> Result<Vec<Step>, Memory>
     let mut steps = Vec::new(alloc);
     let items = problem.items().len();
     let sizes = ones(alloc, items)?;
-    if sizes.len() != items || !are_few(sizes.as_slice()) {
+    if sizes.len() != items {
         return Ok(steps);
     }
     let stage = stage_of(problem.kind());
@@ -99,65 +87,43 @@ fn letters_in(run: &SearchRun) -> Result<usize, Memory> {
     Ok(letters)
 }
 
-/// The problem of a text; `None` where it holds none.
-fn problem_of(alloc: Global, text: &str) -> Result<Option<Problem>, Memory> {
-    let columns: Vec<&str> = text.lines().collect(alloc)?;
-    problem_in(alloc, &columns)
-}
-
-/// What a run comes to after so many tries in turns of so many.
-fn told_of(run: &mut SearchRun, tries: u64, turn: u64) -> Result<Told, Memory> {
+/// Puts what a run comes to after so many tries in turns of so many: its tries, how many letters its log has, and whether it is
+/// over. The error is out of memory.
+fn put_run(out: &mut Answer, run: &mut SearchRun, tries: u64, turn: u64) -> Result<(), Memory> {
     turns_on(run, tries / turn.max(1), turn)?;
     let letters = letters_in(run)?;
-    Ok(Told {
-        tries: run.tries(),
-        letters,
-        over: run.is_over(),
-    })
+    out.number("", run.tries());
+    out.number(" tries, ", letters as u64);
+    out.flag(" letters, over ", run.is_over());
+    out.word("\n");
+    Ok(())
 }
 
-/// The same of a run over this problem.
-fn told_over(alloc: Global, problem: Problem, tries: u64, turn: u64) -> Result<Told, Memory> {
-    let steps = steps_of(alloc, problem)?;
-    let mut run = SearchRun::new(alloc, [0; 32], steps);
-    told_of(&mut run, tries, turn)
+/// Puts that of a run over this problem. The error is out of memory.
+fn put_runs(out: &mut Answer, problem: Problem, tries: u64, turn: u64) -> Result<(), Memory> {
+    let steps = steps_of(out.alloc, problem)?;
+    let mut run = SearchRun::new(out.alloc, [0; 32], steps);
+    put_run(out, &mut run, tries, turn)
 }
 
-/// What a run over the problem of a text comes to after so many tries in turns of so many; `None` where it holds none.
-fn outcome_of_turns(
-    alloc: Global,
-    text: &str,
-    tries: u64,
-    turn: u64,
-) -> Result<Option<Told>, Memory> {
-    match problem_of(alloc, text)? {
-        Some(problem) => Ok(Some(told_over(alloc, problem, tries, turn)?)),
-        None => Ok(None),
+/// Puts that of a run over the problem of a text. It tells whether there is a problem.
+fn put_turns(out: &mut Answer, text: &str, tries: u64, turn: u64) -> Result<bool, Memory> {
+    match problem_of(out.alloc, text)? {
+        Some(problem) => put_runs(out, problem, tries, turn)?,
+        None => return Ok(false),
     }
+    Ok(true)
 }
 
-/// Prints what a run over the problem of a file comes to after so many tries, in turns of so many.
-pub fn run_file(rt: &HostRuntime, name: &str, tries: &str, turn: &str) -> io::Result<bool> {
+/// Puts what a run over the problem of a file comes to after so many tries, in turns of so many.
+pub(crate) fn run_file(
+    rt: &HostRuntime,
+    out: &mut Answer,
+    name: &str,
+    tries: &str,
+    turn: &str,
+) -> io::Result<bool> {
     let text = fs::read_to_string(rt, name)?;
-    let (Ok(tries), Ok(turn)) = (tries.parse(), turn.parse()) else {
-        println!(rt; "no numbers")?;
-        return Ok(false);
-    };
-    match outcome_of_turns(rt.alloc(), text.as_str(), tries, turn) {
-        Ok(Some(told)) => {
-            println!(rt;
-                "{} tries, {} letters, over {}",
-                told.tries, told.letters, told.over
-            )?;
-            Ok(true)
-        }
-        Ok(None) => {
-            println!(rt; "no problem")?;
-            Ok(false)
-        }
-        Err(_) => {
-            println!(rt; "out of memory")?;
-            Ok(false)
-        }
-    }
+    let ended = put_turns(out, text.as_str(), number_in(tries, 0), number_in(turn, 0));
+    Ok(put_ended(out, ended))
 }

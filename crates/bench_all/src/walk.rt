@@ -2,23 +2,13 @@
 
 ghost use Rattle.std.specs.Prelude.{◌≡◌};
 
-use bnb_search::Bnb;
-use coin_grinder::Grinder;
 use fund_base::Memory;
 use pick_problem::{Kind, Problem};
-use row_columns::{places_text, problem_in};
+use row_columns::{Answer, number_in, problem_in};
+use search_keep::Walk;
 use std::alloc::Global;
 use std::{fs, io};
 use wide_search::Wide;
-
-/// What is printed of a walk: its tries, how many letters it has, their sum in 64 bits, and its best places.
-#[derive(Drop)]
-struct Walked {
-    tries: u64,
-    letters: usize,
-    sum: u64,
-    best: String,
-}
 
 /// The sum of letters, each time 31 times what it was and the letter.
 fn sum_of(letters: &[u8]) -> u64 {
@@ -29,78 +19,36 @@ fn sum_of(letters: &[u8]) -> u64 {
     sum
 }
 
-fn best_text(alloc: Global, best: Option<&[u32]>) -> Result<String, Memory> {
-    match best {
-        Some(places) => places_text(alloc, places),
-        None => Ok(String::from_str(alloc, "none")?),
-    }
+/// Puts the tries of a walk, how many letters it has, their sum in 64 bits, and its best places.
+fn put_walked(out: &mut Answer, tries: u64, letters: &[u8], best: Option<&[u32]>) {
+    out.number("tries ", tries);
+    out.number("\nletters ", letters.len() as u64);
+    out.number(" ", sum_of(letters));
+    out.best("\nbest ", best);
+    out.word("\n");
 }
 
-fn counted(
-    alloc: Global,
-    tries: u64,
-    letters: &[u8],
-    best: Option<&[u32]>,
-) -> Result<Walked, Memory> {
-    Ok(Walked {
-        tries,
-        letters: letters.len(),
-        sum: sum_of(letters),
-        best: best_text(alloc, best)?,
-    })
-}
-
-/// A changeless walk with room for these tries.
-fn changeless(alloc: Global, problem: &Problem, tries: u64) -> Result<Bnb, Memory>
-    requires { problem.now.kind ≡ Kind.Changeless }
-{
-    let mut walk = Bnb::new(alloc, problem)?;
+/// A walk by the problem's kind with room for these tries, which it makes.
+fn walked(alloc: Global, problem: &Problem, tries: u64) -> Result<Walk, Memory> {
+    let mut walk = Walk::new(alloc, problem)?;
     walk.reserve(tries)?;
     walk.advance(tries);
     Ok(walk)
 }
 
-/// A lean walk with room for these tries.
-fn lean(alloc: Global, problem: &Problem, tries: u64) -> Result<Grinder, Memory>
-    requires { problem.now.kind ≡ Kind.Lean }
-{
-    let mut walk = Grinder::new(alloc, problem)?;
-    walk.reserve(tries)?;
-    walk.advance(tries);
-    Ok(walk)
-}
-
-/// The last of so many changeless walks, of which there is one at least.
-fn changeless_walks(
-    alloc: Global,
-    problem: &Problem,
-    tries: u64,
-    rounds: u64,
-) -> Result<Walked, Memory>
-    requires { problem.now.kind ≡ Kind.Changeless }
-{
-    let mut walk = changeless(alloc, problem, tries)?;
+/// Makes so many walks, of which there is one at least, and puts the last.
+fn put_walks(out: &mut Answer, problem: &Problem, tries: u64, rounds: u64) -> Result<(), Memory> {
     for _ in 1..rounds {
-        walk = changeless(alloc, problem, tries)?;
+        walked(out.alloc, problem, tries)?;
     }
-    let made = walk.position(alloc)?.tries;
-    counted(alloc, made, walk.tokens(), walk.best())
+    let walk = walked(out.alloc, problem, tries)?;
+    let made = walk.position(out.alloc)?.tries;
+    put_walked(out, made, walk.tokens(), walk.best());
+    Ok(())
 }
 
-/// The last of so many lean walks, of which there is one at least.
-fn lean_walks(alloc: Global, problem: &Problem, tries: u64, rounds: u64) -> Result<Walked, Memory>
-    requires { problem.now.kind ≡ Kind.Lean }
-{
-    let mut walk = lean(alloc, problem, tries)?;
-    for _ in 1..rounds {
-        walk = lean(alloc, problem, tries)?;
-    }
-    let made = walk.position(alloc)?.tries;
-    counted(alloc, made, walk.tokens(), walk.best())
-}
-
-/// A wide walk with room for these tries.
-fn wide(alloc: Global, problem: &Problem, tries: u64) -> Result<Wide, Memory>
+/// A wide walk with room for these tries, which it makes.
+fn widely_walked(alloc: Global, problem: &Problem, tries: u64) -> Result<Wide, Memory>
     requires { problem.now.kind ≡ Kind.Changeless }
 {
     let mut walk = Wide::new(alloc, problem)?;
@@ -109,64 +57,69 @@ fn wide(alloc: Global, problem: &Problem, tries: u64) -> Result<Wide, Memory>
     Ok(walk)
 }
 
-/// The last of so many wide walks, of which there is one at least.
-fn wide_walks(alloc: Global, problem: &Problem, tries: u64, rounds: u64) -> Result<Walked, Memory>
+/// Makes so many wide walks, of which there is one at least, and puts the last.
+fn put_wide_walks(
+    out: &mut Answer,
+    problem: &Problem,
+    tries: u64,
+    rounds: u64,
+) -> Result<(), Memory>
     requires { problem.now.kind ≡ Kind.Changeless }
 {
-    let mut walk = wide(alloc, problem, tries)?;
     for _ in 1..rounds {
-        walk = wide(alloc, problem, tries)?;
+        widely_walked(out.alloc, problem, tries)?;
     }
-    counted(alloc, walk.tries(), walk.tokens(), walk.best())
+    let walk = widely_walked(out.alloc, problem, tries)?;
+    put_walked(out, walk.tries(), walk.tokens(), walk.best());
+    Ok(())
 }
 
-/// Walks the problem of a file so many times, by its kind or as a wide search; `None` where the file holds none.
+/// The problem of a text, whose lines are its columns; `None` where it holds none.
+pub(crate) fn problem_of(alloc: Global, text: &str) -> Result<Option<Problem>, Memory> {
+    let columns: Vec<&str> = text.split('\n').collect(alloc)?;
+    problem_in(alloc, &columns)
+}
+
+/// Walks the problem of a text so many times, by its kind or as a wide search. It tells whether there is such a problem.
 fn walks(
-    alloc: Global,
+    out: &mut Answer,
     text: &str,
     tries: u64,
     rounds: u64,
     is_wide: bool,
-) -> Result<Option<Walked>, Memory> {
-    let columns: Vec<&str> = text.lines().collect(alloc)?;
-    let Some(problem) = problem_in(alloc, &columns)? else {
-        return Ok(None);
+) -> Result<bool, Memory> {
+    let Some(problem) = problem_of(out.alloc, text)? else {
+        return Ok(false);
     };
     match problem.kind() {
-        Kind::Changeless if is_wide => Ok(Some(wide_walks(alloc, &problem, tries, rounds)?)),
-        Kind::Changeless => Ok(Some(changeless_walks(alloc, &problem, tries, rounds)?)),
-        Kind::Lean if is_wide => Ok(None),
-        Kind::Lean => Ok(Some(lean_walks(alloc, &problem, tries, rounds)?)),
+        Kind::Changeless if is_wide => put_wide_walks(out, &problem, tries, rounds)?,
+        Kind::Lean if is_wide => return Ok(false),
+        _ => put_walks(out, &problem, tries, rounds)?,
     }
+    Ok(true)
 }
 
-/// Prints what the last of so many walks of a file's problem comes to, each with so many tries.
-pub fn walk_file(
+/// Puts what comes of a problem that may not be there, and tells whether it is. The error was out of memory.
+pub(crate) fn put_ended(out: &mut Answer, ended: Result<bool, Memory>) -> bool {
+    match ended {
+        Ok(true) => return true,
+        Ok(false) => out.word("no problem\n"),
+        Err(_) => out.lack(),
+    }
+    false
+}
+
+/// Puts what the last of so many walks of a file's problem comes to, each with so many tries.
+pub(crate) fn walk_file(
     rt: &HostRuntime,
+    out: &mut Answer,
     name: &str,
     tries: &str,
     rounds: &str,
     is_wide: bool,
 ) -> io::Result<bool> {
     let text = fs::read_to_string(rt, name)?;
-    let (Ok(tries), Ok(rounds)) = (tries.parse(), rounds.parse()) else {
-        println!(rt; "no numbers")?;
-        return Ok(false);
-    };
-    match walks(rt.alloc(), text.as_str(), tries, rounds, is_wide) {
-        Ok(Some(walked)) => {
-            println!(rt; "tries {}", walked.tries)?;
-            println!(rt; "letters {} {}", walked.letters, walked.sum)?;
-            println!(rt; "best {}", walked.best)?;
-            Ok(true)
-        }
-        Ok(None) => {
-            println!(rt; "no problem")?;
-            Ok(false)
-        }
-        Err(Memory) => {
-            println!(rt; "out of memory")?;
-            Ok(false)
-        }
-    }
+    let (tries, rounds) = (number_in(tries, 0), number_in(rounds, 0));
+    let ended = walks(out, text.as_str(), tries, rounds, is_wide);
+    Ok(put_ended(out, ended))
 }

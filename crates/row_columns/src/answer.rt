@@ -112,6 +112,14 @@ impl Answer {
         }
     }
 
+    /// Puts a text that was written of what was read, where it isn't the text that this was read from.
+    pub fn again(&mut self, read: &[u8], written: &[u8]) {
+        if written != read {
+            self.word("\nwritten ");
+            self.put(written);
+        }
+    }
+
     /// Puts a word, and places with blanks between them; `-` where there are none.
     pub fn places(&mut self, word: &str, places: &[u32]) {
         self.word(word);
@@ -148,23 +156,28 @@ impl Answer {
         self.text.as_slice()
     }
 
-    /// The text, in which each line has its end. The error is out of memory.
-    pub fn lines(&mut self) -> Result<&[u8], Memory> {
+    /// Ends the last line of the text, where it has no end.
+    pub fn end_line(&mut self) {
         if self.text.last() != Some(&b'\n') {
             self.word("\n");
         }
+    }
+
+    /// The text, in which each line has its end. The error is out of memory.
+    pub fn lines(&mut self) -> Result<&[u8], Memory> {
+        self.end_line();
         if self.is_short {
             return Err(Memory);
         }
         Ok(self.text.as_slice())
     }
 
-    /// Prints the text, in which each line has its end. The error is out of memory, or of an output that takes no more.
-    pub fn print(&mut self, rt: &HostRuntime) -> io::Result<()> {
-        let Ok(lines) = self.lines() else {
+    /// Prints the text. The error is out of memory, or of an output that takes no more.
+    pub fn print(&self, rt: &HostRuntime) -> io::Result<()> {
+        if self.is_short {
             return Err(io::Error::from(ErrorKind::OutOfMemory));
-        };
-        match put_all(&mut StdSink::new(rt), lines) {
+        }
+        match put_all(&mut StdSink::new(rt), &self.text) {
             Ok(()) => Ok(()),
             Err(Fault::Memory) => Err(io::Error::from(ErrorKind::OutOfMemory)),
             Err(Fault::Failed) => Err(io::Error::from(ErrorKind::BrokenPipe)),

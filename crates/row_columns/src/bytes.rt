@@ -34,17 +34,3 @@ pub fn unescaped(alloc: Global, line: &[u8]) -> Result<Vec<u8>, Memory> {
     }
     Ok(bytes)
 }
-
-/// The column that stands for the bytes of a text, in which only line feeds and backslashes have to be escaped. The error is
-/// out of memory.
-pub fn escaped(alloc: Global, bytes: &[u8]) -> Result<String, Memory> {
-    let mut line = String::new(alloc);
-    for byte in bytes {
-        match *byte {
-            b'\n' => line.push_str("\\n")?,
-            b'\\' => line.push_str("\\\\")?,
-            byte => line.push(byte as char)?,
-        }
-    }
-    Ok(line)
-}

@@ -1,6 +1,6 @@
 //! What single columns stand for. Numbers are decimal.
 
-ghost use Rattle.std.specs.Prelude.{◌≤◌};
+ghost use Rattle.std.specs.Prelude.{◌≤◌, IfSome};
 
 use crate::problems::places_in;
 use fund_base::{Memory, OutPoint, Places, Script, Txid, read_decimal};
@@ -16,9 +16,16 @@ pub fn column<'a>(columns: &[&'a str], number: usize) -> &'a str {
     }
 }
 
+/// The number of at most so much that a text is. It has what a caller of this crate needs of the reader of numbers, and no more.
+pub(crate) fn whole_in(text: &[u8], most: u64) -> Option<u64>
+    ensures { IfSome result (λ n. n ≤ most) }
+{
+    read_decimal(text, most)
+}
+
 /// The number that a column is; another where it is none of 64 bits.
 pub fn number_in(column: &str, other: u64) -> u64 {
-    match read_decimal(column.as_bytes(), u64::MAX) {
+    match whole_in(column.as_bytes(), u64::MAX) {
         Some(number) => number,
         None => other,
     }
@@ -28,7 +35,7 @@ pub fn number_in(column: &str, other: u64) -> u64 {
 pub fn number_within(column: &str, most: u64) -> u64
     ensures { result ≤ most }
 {
-    match read_decimal(column.as_bytes(), most) {
+    match whole_in(column.as_bytes(), most) {
         Some(number) => number,
         None => 0,
     }

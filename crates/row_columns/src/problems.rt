@@ -1,19 +1,34 @@
 //! Problems with their items, and places. Numbers are decimal; the items of a problem are words `VALUE/WEIGHT/COST`, in
 //! satoshi, weight units and satoshi.
 
+use crate::columns::{column, number_within, whole_in};
 use fund_base::{Memory, Places};
 use pick_problem::{Item, Kind, Problem, are_items};
 use std::alloc::Global;
 use std::rc::Rc;
 
+/// The number of at most 63 bits that a text is.
+fn plain_in(text: &[u8]) -> Option<i64> {
+    let number = whole_in(text, 9_223_372_036_854_775_807)?;
+    Some(number as i64)
+}
+
+/// The number that a word is, with a `-` before its digits where it is below 0.
+fn signed_in(word: &str) -> Option<i64> {
+    match word.split_once('-') {
+        Some((_, digits)) => Some(plain_in(digits.as_bytes())?.wrapping_neg()),
+        None => plain_in(word.as_bytes()),
+    }
+}
+
 /// The item of a word `VALUE/WEIGHT/COST`.
 fn item(word: &str) -> Option<Item> {
-    let mut words = word.split('/');
-    let (value, weight, cost) = (words.next()?, words.next()?, words.next()?);
+    let (value, rest) = word.split_once('/')?;
+    let (weight, cost) = rest.split_once('/')?;
     Some(Item {
-        value: value.parse().ok()?,
-        weight: weight.parse().ok()?,
-        cost: cost.parse().ok()?,
+        value: whole_in(value.as_bytes(), u64::MAX)?,
+        weight: whole_in(weight.as_bytes(), u64::MAX)?,
+        cost: signed_in(cost)?,
     })
 }
 
@@ -55,18 +70,23 @@ fn problem_of(
 }
 
 /// The problem of five columns: `changeless` or `lean`, the least and the greatest value, the limit of weight, the
-/// items with blanks between them (`-` for none). `None` where there can't be one.
+/// items with blanks between them (`-` for none). A word that is no number is read as 0. `None` where there can't be one.
 pub fn problem_in(alloc: Global, columns: &[&str]) -> Result<Option<Problem>, Memory> {
-    let [kind, lo, hi, most_weight, items] = columns else {
+    let Some(items) = items_in(alloc, column(columns, 4))? else {
         return Ok(None);
     };
-    let (Ok(lo), Ok(hi), Ok(most_weight)) = (lo.parse(), hi.parse(), most_weight.parse()) else {
-        return Ok(None);
-    };
-    let Some(items) = items_in(alloc, items)? else {
-        return Ok(None);
-    };
-    problem_of(alloc, items, kind, lo, hi, most_weight)
+    let lo = number_within(column(columns, 1), u64::MAX);
+    let hi = number_within(column(columns, 2), u64::MAX);
+    let most_weight = number_within(column(columns, 3), u64::MAX);
+    problem_of(alloc, items, column(columns, 0), lo, hi, most_weight)
+}
+
+/// The place that a word is; the greatest `u32` where it is none.
+fn place_in(word: &str) -> u32 {
+    match whole_in(word.as_bytes(), 4_294_967_295) {
+        Some(place) => place as u32,
+        None => u32::MAX,
+    }
 }
 
 /// The places of a column, with blanks between them; `-` is none. A word that is no place is read as the greatest
@@ -77,25 +97,9 @@ pub fn places_in(alloc: Global, column: &str) -> Result<Vec<u32>, Memory> {
         return Ok(places);
     }
     for word in column.split(' ') {
-        places.push(word.parse().unwrap_or(u32::MAX))?;
+        places.push(place_in(word))?;
     }
     Ok(places)
-}
-
-/// Places with blanks between them; `-` for none.
-pub fn places_text(alloc: Global, places: &[u32]) -> Result<String, Memory> {
-    let mut text = String::new(alloc);
-    for place in places {
-        if !text.is_empty() {
-            text.push(' ')?;
-        }
-        let word = format!(in alloc; "{place}")?;
-        text.push_str(word.as_str())?;
-    }
-    if text.is_empty() {
-        text.push('-')?;
-    }
-    Ok(text)
 }
 
 /// Places that may be there, as a slice.

@@ -4,17 +4,21 @@
 #![tactic(auto)]
 
 mod bytes;
+mod coins;
 mod fees;
+mod keepers;
 mod outside;
+mod plans;
+mod pools;
+mod reports;
 mod sharing;
 mod shelves;
 mod sinks;
 mod wide;
 
 use fund_base::Memory;
-use row_columns::Answer;
+use row_columns::{Answer, Rows, answer_rows};
 use std::io;
-use std::io::{BufRead, BufReader};
 
 /// Answers a row. The error is out of memory.
 fn row(
@@ -28,37 +32,35 @@ fn row(
         "fees" => fees::row(out, verb, columns),
         "bytes" => bytes::row(out, verb, columns),
         "outside" => outside::row(rt, out, verb),
-        "wide" => wide::row(out, verb, columns)?,
-        "shares" => sharing::row(out, columns)?,
+        "keeper" => return keepers::row(out, verb, columns),
+        "wide" => return wide::row(out, verb, columns),
+        "shares" => return sharing::row(out, columns),
+        "coins" => return pools::row(out, verb, columns),
+        "report" => return reports::row(out, verb, columns),
         _ => out.word("no such family"),
     }
     Ok(())
 }
 
-/// Answers a line. The error is out of memory.
-fn line(rt: &HostRuntime, out: &mut Answer, text: &str) -> Result<(), Memory> {
-    let columns: Vec<&str> = text.split('\t').collect(rt.alloc())?;
-    match columns.as_slice() {
-        [family, verb, columns @ ..] => row(rt, out, family, verb, columns),
-        _ => {
-            out.word(text);
-            Ok(())
-        }
-    }
-}
+/// What answers the rows of this program.
+#[derive(Clone, Copy)]
+struct Families;
 
-/// Answers a line, and prints the answer.
-fn show(rt: &HostRuntime, text: &str) -> io::Result<()> {
-    let mut out = Answer::new(rt.alloc());
-    let ended = line(rt, &mut out, text);
-    out.end(ended);
-    out.print(rt)
+impl Rows for Families {
+    fn put_row(&mut self, rt: &HostRuntime, out: &mut Answer, columns: &[&str]) -> io::Result<()> {
+        match columns {
+            [family, verb, columns @ ..] => {
+                let ended = row(rt, out, family, verb, columns);
+                out.end(ended);
+            }
+            [text] => out.word(text),
+            [] => {}
+        }
+        out.end_line();
+        Ok(())
+    }
 }
 
 fn main(rt: HostRuntime) -> io::Result<()> {
-    let alloc = rt.alloc();
-    for text in BufReader::new(alloc, rt.reader())?.lines(alloc) {
-        show(&rt, text?.as_str())?;
-    }
-    Ok(())
+    answer_rows(&rt, &mut Families)
 }

@@ -46,7 +46,7 @@ pub(crate) fn row(out: &mut Answer, columns: &[&str]) -> Result<(), Memory> {
             out.word("ok");
             put_amounts(out, &list);
         }
-        Err(ShareFault::ShareDust(place)) => out.number("fault ShareDust ", place as u64),
+        Err(ShareFault::ShareDust(index)) => { out.number("fault ShareDust ", u64::from(index)) }
         Err(ShareFault::Memory) => out.lack(),
     }
     Ok(())

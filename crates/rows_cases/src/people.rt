@@ -1,8 +1,10 @@
 //! What is shown to people: payments, what words ask for, and sentences.
 
 use crate::shown::{show, show_column, show_count, show_line, show_number};
+use amount_reports::read_shared;
 use command_pay::{
-    Ending, NewFile, fee_ceiling, high_fee_text, is_fee_taken, table_text, unwritten_text,
+    Ending, NewFile, PaidReport, fee_ceiling, high_fee_text, is_fee_taken, table_text,
+    unwritten_text,
 };
 use command_sweeping::{Ending as SweepEnding, sweep_table};
 use fault_lines::line_sentence;
@@ -15,11 +17,34 @@ use row_columns::{column, number_in, unescaped, words_behind};
 use std::alloc::Global;
 use wide_report::read_wide_report;
 
-/// Prints the report of a payment, and its log.
-fn show_payment(rt: &HostRuntime, report: FundedReport, log: &[u8]) -> Result<(), Memory> {
+/// Prints the report of a payment.
+fn show_funded(rt: &HostRuntime, report: FundedReport) -> Result<(), Memory> {
     let text = write_report(rt.alloc(), &Report::Funded(report))?;
-    show(rt, b"paid\n");
     show(rt, &text);
+    Ok(())
+}
+
+/// Prints the table of a payment whose recipients bear the fee, and its PSBT.
+fn show_shared(rt: &HostRuntime, asked: &Asked, report: &PaidReport) -> Result<(), Memory> {
+    show(rt, table_text(rt.alloc(), asked, report)?.as_bytes());
+    show(rt, b"psbt ");
+    show(rt, report.psbt());
+    show(rt, b"\n");
+    Ok(())
+}
+
+/// Prints a payment, and its log.
+fn show_payment(
+    rt: &HostRuntime,
+    asked: &Asked,
+    report: PaidReport,
+    log: &[u8],
+) -> Result<(), Memory> {
+    show(rt, b"paid\n");
+    match report {
+        PaidReport::Whole(report) => show_funded(rt, report)?,
+        PaidReport::Shared(report) => show_shared(rt, asked, &PaidReport::Shared(report))?,
+    }
     show(rt, log);
     Ok(())
 }
@@ -41,9 +66,9 @@ fn show_high(rt: &HostRuntime, fee: u64, most: u64) {
 }
 
 /// Prints how a payment ended.
-fn show_ending(rt: &HostRuntime, ending: Ending) -> Result<(), Memory> {
+fn show_ending(rt: &HostRuntime, asked: &Asked, ending: Ending) -> Result<(), Memory> {
     match ending {
-        Ending::Paid(report, log) => return show_payment(rt, report, &log),
+        Ending::Paid(report, log) => return show_payment(rt, asked, report, &log),
         Ending::NotPaid(status, said) => show_unpaid(rt, status.code(), &said),
         Ending::FeeAboveMaximum(fee, most) => show_high(rt, fee, most),
         Ending::Unwritten(NewFile::Log) => show(rt, b"log not written\n"),
@@ -59,10 +84,7 @@ pub(crate) fn show_paid(
     ended: Result<(Asked, Ending), WordFault>,
 ) -> Result<(), Memory> {
     match ended {
-        Ok((asked, ending)) => {
-            drop(asked);
-            show_ending(rt, ending)
-        }
+        Ok((asked, ending)) => show_ending(rt, &asked, ending),
         Err(fault) => {
             show_line(rt, word_sentence(&fault));
             Ok(())
@@ -153,19 +175,23 @@ pub(crate) fn fee(rt: &HostRuntime, columns: &[&str]) -> Result<(), Memory> {
 }
 
 /// The payment of a report by `fund`.
-fn funded_in(alloc: Global, report: &[u8]) -> Option<FundedReport> {
+fn funded_in(alloc: Global, report: &[u8]) -> Option<PaidReport> {
     match read_report(alloc, report) {
-        Ok(Report::Funded(report)) => Some(report),
+        Ok(Report::Funded(report)) => Some(PaidReport::Whole(report)),
         _ => None,
     }
 }
 
 /// The payment of a report by the command of this way.
-fn payment_in(alloc: Global, way: Way, report: &[u8]) -> Option<FundedReport> {
+fn payment_in(alloc: Global, way: Way, report: &[u8]) -> Option<PaidReport> {
     match way {
         Way::Fund => funded_in(alloc, report),
         Way::Wide => match read_wide_report(alloc, report) {
-            Ok(report) => Some(report),
+            Ok(report) => Some(PaidReport::Whole(report)),
+            Err(_) => None,
+        },
+        Way::Share => match read_shared(alloc, report) {
+            Ok(report) => Some(PaidReport::Shared(report)),
             Err(_) => None,
         },
     }

@@ -7,11 +7,11 @@
 
 use command_end::coin_text;
 use fund_base::OutPoint;
+use json::{Scratch, Value};
 use json_fields::{
-    FieldFault, coin_of, entries_of, flag_of, hex_of, member_of, number_of, object_of, parse,
+    FieldFault, coin_of, flag_of, hex_of, items_in, member_of, number_of, object_of, parse,
 };
 use row_columns::{Answer, column};
-use serde_json::Value;
 
 /// Puts the fault of this name, and the name that it tells.
 fn put_named(out: &mut Answer, fault: &str, name: &str) {
@@ -79,9 +79,9 @@ fn put_entries(out: &mut Answer, entries: &[Value]) {
 }
 
 fn list(out: &mut Answer, value: &Value) {
-    match entries_of(value, "list") {
-        Ok(entries) => put_entries(out, entries),
-        Err(fault) => put_fault(out, &fault),
+    match items_in(value) {
+        Some(entries) => put_entries(out, entries),
+        None => put_fault(out, &FieldFault::kind("list")),
     }
 }
 
@@ -97,7 +97,8 @@ fn put_value(out: &mut Answer, verb: &str, value: &Value) {
 }
 
 pub(crate) fn row(out: &mut Answer, verb: &str, columns: &[&str]) {
-    match parse(out.alloc, column(columns, 0).as_bytes()) {
+    let mut scratch = Scratch::new(out.alloc);
+    match parse(out.alloc, column(columns, 0).as_bytes(), &mut scratch) {
         Ok(value) => put_value(out, verb, &value),
         Err(fault) => put_fault(out, &fault),
     }

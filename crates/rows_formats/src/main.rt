@@ -4,6 +4,7 @@
 #![tactic(auto)]
 
 mod addresses;
+mod base58;
 mod books;
 mod bumps;
 mod candidates;
@@ -34,6 +35,7 @@ fn row(out: &mut Answer, family: &str, verb: &str, columns: &[&str]) {
         "psbt" => psbts::row(out, verb, columns),
         "feed" => feeds::row(out, verb, columns),
         "address" => addresses::row(out, verb, columns),
+        "base58" => base58::row(out, verb, columns),
         "json" => fields::row(out, verb, columns),
         "file" => files::row(out, verb, columns),
         "words" => words::row(out, verb, columns),
@@ -57,6 +59,7 @@ fn show(rt: &HostRuntime, text: &str) -> io::Result<()> {
     let mut out = Answer::new(rt.alloc());
     let ended = line(&mut out, text);
     out.end(ended);
+    out.end_line();
     out.print(rt)
 }
 

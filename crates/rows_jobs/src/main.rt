@@ -65,6 +65,7 @@ fn show<'a>(rt: &'a HostRuntime, keepers: &mut Keepers<'a>, line: &str) -> io::R
     if out.text().is_empty() {
         return Ok(());
     }
+    out.end_line();
     out.print(rt)
 }
 

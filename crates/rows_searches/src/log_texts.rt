@@ -1,6 +1,5 @@
 //! Logs, in words and as texts.
 
-use crate::readings::put_written;
 use closing_log::{
     LogText, LogTextFault, OpenSection, Section, Stage, Worded, read_sections, write_sections,
     write_tail,
@@ -44,7 +43,7 @@ fn put_read(out: &mut Answer, bytes: &[u8], log: &LogText) -> Result<(), Memory>
         None => out.word("end"),
     }
     let text = write_sections(out.alloc, log)?;
-    put_written(out, bytes, &text);
+    out.again(bytes, &text);
     if !log.ended {
         let from = (text.len() as u64).saturating_sub(3);
         out.bytes("\ntail ", write_tail(out.alloc, log, from));

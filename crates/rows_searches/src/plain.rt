@@ -4,11 +4,7 @@
 //! - `positions`: a position, and whether what may be the matter with one is told apart
 //! - `tokens`: the letters of the tokens of letters, and what those of F and of a letter of none are
 //! - `before PLACES PLACES`: whether the first list comes before the second
-//! - `ladder ZERO_CONF INCLUDE_UNSAFE`: the numbers of the rows
-//! - `wide`: what is written of a run that stands at the stage `wide`, and below it what reading that comes to
 
-use crate::pools::put_ladder;
-use crate::report_texts::wide;
 use fund_base::{Memory, Places};
 use pick_problem::{Ending, Position, Progress, Reason, RestoreFault, Token, before, waste};
 use row_columns::{Answer, column, places_in};
@@ -64,8 +60,6 @@ pub(crate) fn plain_row(out: &mut Answer, columns: &[&str]) -> Result<(), Memory
         "positions" => put_positions(out),
         "tokens" => put_tokens(out),
         "before" => return put_before(out, columns),
-        "ladder" => put_ladder(out, column(columns, 1), column(columns, 2)),
-        "wide" => return wide(out),
         _ => out.word("no such row"),
     }
     Ok(())

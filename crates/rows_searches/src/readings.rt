@@ -6,11 +6,10 @@
 //! - `log`: the log, or where the text leaves the grammar and how many sections stand before that place; after a log the text
 //!   that is written of it, where that is another one, and the last three bytes of a log that goes on, written as what stands
 //!   after the others
-//! - `report` and `saved`: the report or the saved position, and below it what is written of it, where that is another text; or
-//!   where the text leaves the grammar
+//! - `saved`: the saved position, and below it what is written of it, where that is another text; or where the text leaves the
+//!   grammar
 
 use crate::log_texts::log;
-use crate::report_texts::report;
 use crate::saved_texts::saved;
 use closing_log::{
     LineFault, Stage, Worded, read_choice, read_digest, read_number, read_places, read_word,
@@ -104,14 +103,6 @@ fn put_places(out: &mut Answer, bytes: &[u8]) -> Result<(), Memory> {
     Ok(())
 }
 
-/// Puts what is written, where that is another text than what was read.
-pub(crate) fn put_written(out: &mut Answer, bytes: &[u8], written: &[u8]) {
-    if written != bytes {
-        out.word("\nwritten ");
-        out.put(written);
-    }
-}
-
 /// Puts what a verb comes to at a text. The error is out of memory.
 fn at_text(out: &mut Answer, verb: &str, bytes: &[u8]) -> Result<(), Memory> {
     match verb {
@@ -121,7 +112,6 @@ fn at_text(out: &mut Answer, verb: &str, bytes: &[u8]) -> Result<(), Memory> {
         "digest" => return put_digest(out, bytes),
         "places" => return put_places(out, bytes),
         "log" => return log(out, bytes),
-        "report" => return report(out, bytes),
         _ => return saved(out, bytes),
     }
     Ok(())

@@ -43,15 +43,19 @@ fn put_in(
     Ok(true)
 }
 
-/// The selections of the columns behind the first as results of a step; `None` where one isn't admissible.
-fn results_in(alloc: Global, step: &Step, columns: &[&str]) -> Result<Option<Vec<Found>>, Memory> {
-    let mut results = Vec::new(alloc);
+/// Puts the selections of the columns behind the first after others as results of a step. It answers whether all are admissible.
+fn put_all_in(
+    alloc: Global,
+    results: &mut Vec<Found>,
+    step: &Step,
+    columns: &[&str],
+) -> Result<bool, Memory> {
     for number in 1..columns.len() {
-        if !put_in(alloc, &mut results, step, column(columns, number))? {
-            return Ok(None);
+        if !put_in(alloc, results, step, column(columns, number))? {
+            return Ok(false);
         }
     }
-    Ok(Some(results))
+    Ok(true)
 }
 
 /// Puts the result that is taken, and those that it beats.
@@ -64,18 +68,34 @@ fn put_taken(out: &mut Answer, taken: &Found, results: &[Found]) {
     }
 }
 
-/// Puts which of these selections is taken, and which of them it beats. The error is out of memory.
-pub(crate) fn put_chosen(out: &mut Answer, step: &Step, columns: &[&str]) -> Result<(), Memory> {
-    let Some(results) = results_in(out.alloc, step, columns)? else {
-        out.word("not admissible");
-        return Ok(());
-    };
-    match choose(&results) {
+/// Puts which of these results is taken. The error is out of memory.
+fn put_choice(out: &mut Answer, results: &[Found]) -> Result<(), Memory> {
+    match choose(results) {
         Some(taken) => {
             let taken = taken.copy(out.alloc)?;
-            put_taken(out, &taken, &results);
+            put_taken(out, &taken, results);
         }
         None => out.word("taken none"),
     }
     Ok(())
+}
+
+/// Puts these selections into a list, and puts which of them is taken. The error is out of memory.
+fn put_among(
+    out: &mut Answer,
+    results: &mut Vec<Found>,
+    step: &Step,
+    columns: &[&str],
+) -> Result<(), Memory> {
+    if !put_all_in(out.alloc, results, step, columns)? {
+        out.word("not admissible");
+        return Ok(());
+    }
+    put_choice(out, results.as_slice())
+}
+
+/// Puts which of these selections is taken, and which of them it beats. The error is out of memory.
+pub(crate) fn put_chosen(out: &mut Answer, step: &Step, columns: &[&str]) -> Result<(), Memory> {
+    let mut results = Vec::new(out.alloc);
+    put_among(out, &mut results, step, columns)
 }

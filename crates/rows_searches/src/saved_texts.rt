@@ -1,6 +1,5 @@
 //! Saved positions, in words and as texts.
 
-use crate::readings::put_written;
 use closing_log::Worded;
 use fund_base::Memory;
 use row_columns::{Answer, places_of};
@@ -42,7 +41,7 @@ pub(crate) fn saved(out: &mut Answer, bytes: &[u8]) -> Result<(), Memory> {
         Ok(saved) => {
             put_saved(out, &saved);
             let text = write_saved(out.alloc, &saved)?;
-            put_written(out, bytes, &text);
+            out.again(bytes, &text);
         }
         Err(fault) => put_saved_fault(out, fault),
     }

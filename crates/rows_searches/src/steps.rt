@@ -34,23 +34,18 @@ fn fits(stage: Stage, problem: &Problem) -> bool
     }
 }
 
-/// How many coins stand at each place, of a column; `-` is none. A word that is no such number is read as 0.
-fn sizes_in(alloc: Global, column: &str) -> Result<Vec<u8>, Memory> {
+/// How many coins stand at each place, at most 100, of a column; `-` is none. A word that is no such number is read as 0.
+fn sizes_in(alloc: Global, column: &str) -> Result<Vec<u8>, Memory>
+    ensures { IfOk result (λ v. AllByRecursion (λ n. n ≤ 100) v.items) }
+{
     let mut sizes = Vec::new(alloc);
     if column == "-" {
         return Ok(sizes);
     }
     for word in column.split(' ') {
-        sizes.push(number_within(word, 255) as u8)?;
+        sizes.push(number_within(word, 100) as u8)?;
     }
     Ok(sizes)
-}
-
-/// Whether no place has more than 100 coins.
-fn are_few(sizes: &[u8]) -> bool
-    ensures { IsTrue result → AllByRecursion (λ n. n ≤ 100) sizes.now }
-{
-    sizes.iter().all(|size| *size <= 100)
 }
 
 /// The step of these words, a problem and the coins at each place. `None` where there can't be one.
@@ -59,7 +54,9 @@ fn step_of(
     words: &[&str],
     problem: Problem,
     sizes: Vec<u8>,
-) -> Result<Option<Step>, Memory> {
+) -> Result<Option<Step>, Memory>
+    requires { AllByRecursion (λ n. n ≤ 100) sizes.items }
+{
     let (stage, ending) = (
         stage_in(column(words, 1)),
         number_in(column(words, 2), u64::MAX),
@@ -67,7 +64,7 @@ fn step_of(
     if !fits(stage, &problem) || ending > 1_000_000_000_000_000_000 {
         return Ok(None);
     }
-    if sizes.len() != problem.items().len() || !are_few(sizes.as_slice()) {
+    if sizes.len() != problem.items().len() {
         return Ok(None);
     }
     let row = number_within(column(words, 0), 255) as u8;

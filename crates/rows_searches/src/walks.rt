@@ -57,6 +57,15 @@ fn put_end(out: &mut Answer, problem: &Problem, walk: &Walk) -> Result<(), Memor
     Ok(())
 }
 
+/// Whether a walk without room, which makes these tries, stands then where the whole one stands.
+fn ends_alike(walk: &mut Walk, tries: u64, all: &Walk) -> Result<bool, Memory> {
+    if walk.spare() != 0 {
+        return Ok(false);
+    }
+    make(walk, tries)?;
+    Ok(walk.tokens() == all.tokens() && walk.best() == all.best())
+}
+
 /// Whether a walk that is restored at a position, and makes these tries, stands where the whole one stands.
 fn goes_on(
     alloc: Global,
@@ -66,26 +75,29 @@ fn goes_on(
     tries: u64,
     all: &Walk,
 ) -> Result<bool, Memory> {
-    let mut again = match Walk::restore(alloc, problem, position, walk.tokens()) {
-        Ok(again) => again,
-        Err(RestoreFault::IllFormed) => return Ok(false),
-        Err(RestoreFault::Memory) => return Err(Memory),
-    };
-    if again.spare() != 0 {
-        return Ok(false);
+    match Walk::restore(alloc, problem, position, walk.tokens()) {
+        Ok(mut again) => ends_alike(&mut again, tries, all),
+        Err(RestoreFault::IllFormed) => Ok(false),
+        Err(RestoreFault::Memory) => Err(Memory),
     }
-    make(&mut again, tries)?;
-    Ok(again.tokens() == all.tokens() && again.best() == all.best())
 }
 
-/// Puts where a walk stands to which so many tries are granted. It answers that position.
-fn put_piece(out: &mut Answer, walk: &Walk, granted: u64) -> Result<Position, Memory> {
+/// Puts where a walk stands to which so many tries are granted. It answers whether a walk that is restored there, and makes the
+/// tries that are left, goes on as the whole one does.
+fn put_piece(
+    out: &mut Answer,
+    problem: &Problem,
+    walk: &Walk,
+    granted: u64,
+    left: u64,
+    all: &Walk,
+) -> Result<bool, Memory> {
     let position = walk.position(out.alloc)?;
     out.number("\n", granted);
     out.word(if position.done { " done" } else { " open" });
     put_position(out, &position);
     out.number(", tokens ", walk.tokens().len() as u64);
-    Ok(position)
+    goes_on(out.alloc, problem, &position, walk, left, all)
 }
 
 /// Grants tries to a walk up to each of these numbers in turn, and puts where it stands then. It answers at how many of these
@@ -102,9 +114,8 @@ fn put_pieces(
     for budget in budgets {
         make(walk, budget.saturating_sub(granted))?;
         granted = *budget;
-        let position = put_piece(out, walk, granted)?;
         let left = most.saturating_sub(granted);
-        if goes_on(out.alloc, problem, &position, walk, left, all)? {
+        if put_piece(out, problem, walk, granted, left, all)? {
             same = same.saturating_add(1);
         }
     }

@@ -1,4 +1,5 @@
-//! Rows of coins: `coins VERB COINS`, and what the verb needs.
+//! Coins and what payments choose of them: `ladder ZERO_CONF INCLUDE_UNSAFE`, the numbers of the rows; and else behind a verb the
+//! coins, and what the verb needs.
 //!
 //! - `pool ROW RATE GROUP`: the item of each group of the row's pool, how many coins it has, and the first coin's txid
 //! - `kept ROW RATE GROUP`: how many groups there are
@@ -12,50 +13,65 @@ use crate::plans::plan;
 use coin_candidates::Candidate;
 use fund_base::Memory;
 use output_groups::{PoolFault, RowPool, ladder, meets, pool};
+use pick_problem::Item;
 use row_columns::{Answer, column, number_in};
 
 /// Puts the numbers of the rows of a ladder.
-pub(crate) fn put_ladder(out: &mut Answer, zero_conf: &str, unsafe_too: &str) {
+fn put_ladder(out: &mut Answer, zero_conf: &str, unsafe_too: &str) {
     out.word("rows");
     for row in ladder(zero_conf == "true", unsafe_too == "true") {
         out.number(" ", u64::from(row.number));
     }
 }
 
-/// Puts each group of a pool by its item, how many coins it has, and the first one's txid; and how many there are.
+/// Puts the item of a group, how many coins it has, and the first one's txid.
+fn put_group(out: &mut Answer, item: &Item, coins: &[Candidate]) {
+    out.number("", item.value);
+    out.number("/", item.weight);
+    out.signed("/", i128::from(item.cost));
+    out.number(" ", coins.len() as u64);
+    let txid = match coins.first() {
+        Some(candidate) => candidate.coin.txid.bytes()[0],
+        None => 0,
+    };
+    out.number("*", u64::from(txid));
+    out.word("; ");
+}
+
+/// Puts each group of a pool, and how many there are.
 fn put_groups(out: &mut Answer, pool: &RowPool) {
-    for (item, group) in pool.items.iter().zip(pool.groups.iter()) {
-        let coins = group.as_slice();
-        out.number("", item.value);
-        out.number("/", item.weight);
-        out.signed("/", i128::from(item.cost));
-        out.number(" ", coins.len() as u64);
-        let txid = match coins.first() {
-            Some(candidate) => candidate.coin.txid.bytes()[0],
-            None => 0,
-        };
-        out.number("*", u64::from(txid));
-        out.word("; ");
+    for number in 0..pool.items.len() {
+        if let Some(group) = pool.groups.get(number) {
+            put_group(out, &pool.items[number], group.as_slice());
+        }
     }
     out.number("", pool.items.len() as u64);
     out.number(" items, ", pool.groups.len() as u64);
     out.word(" groups");
 }
 
+/// Puts a pool, or the number of its groups alone.
+fn put_formed(out: &mut Answer, pool: &RowPool, counts: bool) {
+    if counts {
+        out.number("", pool.groups.len() as u64);
+    } else {
+        put_groups(out, pool);
+    }
+}
+
 /// Puts the pool of these coins, or the number of its groups alone, at a rate which is the long-term rate too.
 fn put_pool(out: &mut Answer, coins: &[Candidate], columns: &[&str], counts: bool)
     requires { AreCandidates coins.now }
 {
-    let row = number_in(column(columns, 2), 0) as usize;
-    let rate = number_in(column(columns, 3), u64::MAX);
+    let row = number_in(column(columns, 1), 0) as usize;
+    let rate = number_in(column(columns, 2), u64::MAX);
     let rows = ladder(true, true);
     if row < 1 || row > rows.len() || rate > 100_000_000 {
         return out.word("no such row");
     }
-    let group = column(columns, 4) == "true";
+    let group = column(columns, 3) == "true";
     match pool(out.alloc, coins, &rows[row - 1], rate, rate, group) {
-        Ok(found) if counts => out.number("", found.groups.len() as u64),
-        Ok(found) => put_groups(out, &found),
+        Ok(found) => put_formed(out, &found, counts),
         Err(PoolFault::TooMany(groups)) => out.number("TooMany ", groups),
         Err(PoolFault::Memory) => out.lack(),
     }
@@ -86,15 +102,23 @@ fn at_coins(out: &mut Answer, verb: &str, coins: &[Candidate], columns: &[&str])
 }
 
 /// Puts what a row of coins comes to. The error is out of memory.
-pub(crate) fn coins_row(out: &mut Answer, columns: &[&str]) -> Result<(), Memory> {
-    let verb = column(columns, 0);
-    let Some(coins) = candidates_in(out.alloc, column(columns, 1))? else {
+fn put_coins(out: &mut Answer, verb: &str, columns: &[&str]) -> Result<(), Memory> {
+    let Some(coins) = candidates_in(out.alloc, column(columns, 0))? else {
         out.word("no coins");
         return Ok(());
     };
     if verb == "plan" {
-        return plan(out, column(columns, 2), coins);
+        return plan(out, column(columns, 1), coins);
     }
     at_coins(out, verb, &coins, columns);
     Ok(())
+}
+
+/// Puts what a row comes to. The error is out of memory.
+pub(crate) fn row(out: &mut Answer, verb: &str, columns: &[&str]) -> Result<(), Memory> {
+    if verb == "ladder" {
+        put_ladder(out, column(columns, 0), column(columns, 1));
+        return Ok(());
+    }
+    put_coins(out, verb, columns)
 }

@@ -1,10 +1,10 @@
-//! Reports, in words and as texts.
+//! Reports as texts: `report text TEXT`, which is the report and, where that is another text, what is written of it, or where the
+//! text leaves the grammar; `report wide`: what is written of a run that stands at the stage `wide`, and what reading that comes to.
 
-use crate::readings::put_written;
 use closing_log::{Stage, Worded};
 use fund_base::Memory;
 use fund_report::{FundedReport, Report, ReportFault, read_report, write_report};
-use row_columns::Answer;
+use row_columns::{Answer, column, unescaped};
 
 /// Puts the weight, the size, the fee and the waste of a payment.
 pub(crate) fn put_figures(out: &mut Answer, weight: u64, vsize: u64, fee: u64, waste: i128) {
@@ -44,12 +44,15 @@ fn put_read(out: &mut Answer, bytes: &[u8], report: &Report) -> Result<(), Memor
         } => out.word("unfinished"),
     }
     let text = write_report(out.alloc, report)?;
-    put_written(out, bytes, &text);
+    if text.as_slice() != bytes {
+        out.again(bytes, &text);
+        out.word("\n");
+    }
     Ok(())
 }
 
 /// Reads a report. The error is out of memory.
-pub(crate) fn report(out: &mut Answer, bytes: &[u8]) -> Result<(), Memory> {
+fn report(out: &mut Answer, bytes: &[u8]) -> Result<(), Memory> {
     match read_report(out.alloc, bytes) {
         Ok(report) => return put_read(out, bytes, &report),
         Err(ReportFault::Form(place)) => out.number("Form ", place),
@@ -59,7 +62,7 @@ pub(crate) fn report(out: &mut Answer, bytes: &[u8]) -> Result<(), Memory> {
 }
 
 /// Puts what is written of a run that stands at the wide search, and what that is read as. The error is out of memory.
-pub(crate) fn wide(out: &mut Answer) -> Result<(), Memory> {
+fn wide(out: &mut Answer) -> Result<(), Memory> {
     let written = write_report(
         out.alloc,
         &Report::Unfinished {
@@ -71,4 +74,13 @@ pub(crate) fn wide(out: &mut Answer) -> Result<(), Memory> {
     out.word("written ");
     out.put(&written);
     report(out, &written)
+}
+
+/// Puts what a row comes to. The error is out of memory.
+pub(crate) fn row(out: &mut Answer, verb: &str, columns: &[&str]) -> Result<(), Memory> {
+    if verb == "wide" {
+        return wide(out);
+    }
+    let bytes = unescaped(out.alloc, column(columns, 0).as_bytes())?;
+    report(out, &bytes)
 }

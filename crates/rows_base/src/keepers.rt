@@ -1,4 +1,4 @@
-//! Rows of jobs that are kept in memory: `keeper LOADS PARTS SAVES CALL ..`, a line for each call. The loads, parts and saves of
+//! Jobs that are kept in memory: `keeper LOADS PARTS SAVES CALL ..`, a line for each call. The loads, parts and saves of
 //! these numbers, counted from 0 with blanks between them, fail; where all three are `sure`, nothing can fail. The words of a
 //! call have `=` between them.
 //!
@@ -56,25 +56,25 @@ fn call<K: Keeper>(out: &mut Answer, keeper: &mut K, columns: &[&str]) {
     }
 }
 
-/// Does the calls of the columns behind the first three, and puts what they answered, a line each. The error is out of memory.
+/// Does the calls of the columns behind the first two, and puts what they answered, a line each. The error is out of memory.
 fn put_calls<K: Keeper>(out: &mut Answer, keeper: &mut K, columns: &[&str]) -> Result<(), Memory> {
-    for number in 3..columns.len() {
-        out.word(if number > 3 { "\n" } else { "" });
+    for number in 2..columns.len() {
+        out.word(if number > 2 { "\n" } else { "" });
         let words: Vec<&str> = column(columns, number).split('=').collect(out.alloc)?;
         call(out, keeper, &words);
     }
     Ok(())
 }
 
-/// Puts what a row of kept jobs comes to. The error is out of memory.
-pub(crate) fn keeper_row(out: &mut Answer, columns: &[&str]) -> Result<(), Memory> {
-    if column(columns, 0) == "sure" {
+/// Puts what a row comes to in which the loads of these numbers fail. The error is out of memory.
+pub(crate) fn row(out: &mut Answer, loads: &str, columns: &[&str]) -> Result<(), Memory> {
+    if loads == "sure" {
         let mut keeper = SureKeeper::new(out.alloc);
         return put_calls(out, &mut keeper, columns);
     }
-    let loads = numbers_in(out.alloc, column(columns, 0))?;
-    let parts = numbers_in(out.alloc, column(columns, 1))?;
-    let saves = numbers_in(out.alloc, column(columns, 2))?;
+    let loads = numbers_in(out.alloc, loads)?;
+    let parts = numbers_in(out.alloc, column(columns, 0))?;
+    let saves = numbers_in(out.alloc, column(columns, 1))?;
     let mut keeper = MemKeeper::new(out.alloc, loads, parts, saves);
     put_calls(out, &mut keeper, columns)
 }

@@ -5,7 +5,7 @@ ghost use Rattle.coin_candidates.specs.Candidates.{AreCandidates};
 ghost use Rattle.fund_plan.specs.Answer.{HasSelection, IsSelection};
 ghost use Rattle.wallet_text.specs.WalletRules.{IsWatch};
 
-use crate::report_texts::put_figures;
+use crate::reports::put_figures;
 use coin_candidates::Candidate;
 use fund_base::{Memory, Script};
 use fund_plan::{Figures, Funded, Outcome, Plan, unsigned};
