@@ -37,7 +37,7 @@ def content(path):
 
 
 # The files of each row: those of the commands, payments and settlements of rows_cases, and the examples of fund_cli.
-FILES = stored_files("files", "pay", "settled")
+FILES = stored_files("files", "pay", "settled", "borne")
 FILES.update((name, content(os.path.join(TOP, "crates/fund_cli/data", name))) for name in os.listdir(os.path.join(TOP, "crates/fund_cli/data")))
 FILES["report.txt"] = content(os.path.join(TOP, "crates/fund_cli/stdout"))
 

@@ -64,7 +64,7 @@ ALONE = {
 # the same, of a report without a payment
 REPORTS = {"none_sentence": "none", "unfinished_sentence": "unfinished"}
 # what comes before the name of a fault of words, by the definition that has its sentence
-OF_WORDS = {"word_sentence": "", "amount_sentence": "Amount ", "rate_sentence": "Rate "}
+OF_WORDS = {"word_sentence": "", "amount_sentence": "Amount ", "rate_sentence": "Rate ", "base58_sentence": "Base58 ", "network_sentence": "Foreign "}
 # the faults of words whose sentence stands in the other file too, with their line there
 SAME = {"Method": "fault input request Kind method", "Seed": "fault input request Kind seed", "Memory": "fault memory"}
 # of a field its place in the line, as the pages write it
