@@ -47,9 +47,10 @@ status_of (Funded report log) = statuses.Done
 -- recipient exactly, and at least the fee, with the Pending payments that its coins rest on too. Where the request names a
 -- payment, it replaces that by the rules of BIP 125. What a signer gets is a PSBT (BIP 174, or BIP 370 in version 2) of which
 -- each input shows the value and the script of its coin.
--- An exhausted payment is proved to be the best, by the log. The report and the log tell of it; the log's bytes are a
--- text of it, which says that it is ended. The searches and draws of its plan keep their rules. Where the files are told, they
--- hold this wallet, these blocks and this request.
+-- An exhausted payment is proved to be the best of its row and stage, by the log: without change among the choices in the
+-- window of which no group can be left out. The report and the log tell of it; the log's bytes are a text of it, which says that
+-- it is ended. The searches and draws of its plan keep their rules. Where the files are told, they hold this wallet, these
+-- blocks and this request.
 pub record IsFunded (told_files : Type 0) (files : List ℕ → List ℕ) (s : Sources) (p : Payment) (report log : List ℕ) : Type 0 where
   pub wallet : PlainWallet
   pub blocks : List ChainBlock

@@ -21,7 +21,7 @@ fees_of rate coins = sum_by (λ (c : Candidate). input_fee_of rate c.weight) coi
 abbrev pub charges_of : ℕ → List Candidate → ℕ
 charges_of rate coins = sum_by (charge_of rate) coins
 
--- their prices together, in satoshi
+-- Their prices added up, in satoshi: an ancestor that several of them have counts for each.
 abbrev pub prices_of : List Candidate → ℕ
 prices_of coins = sum_by (λ (c : Candidate). c.price) coins
 

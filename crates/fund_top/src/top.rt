@@ -86,13 +86,13 @@ fn act<H: Shelf, O: Sink, K: Keeper>(
 /// - `share WALLET BLOCKS REQUEST LOG` reads three files, and funds the payment of the request so that its recipients bear the
 ///   fee in equal shares. Its coins are the lightest choice of row 1, or else of row 2, that is worth the amounts. It writes the
 ///   log, and then prints the report.
-/// - `sweep WALLET BLOCKS REQUEST` reads three files, and pays all coins of the last row to the one recipient of the request. It
-///   prints the report, and writes no file.
+/// - `sweep WALLET BLOCKS REQUEST` reads three files, and pays all coins of the last row that are worth more than their input's
+///   fee and their price to the one recipient of the request. It prints the report, and writes no file.
 /// - `settle WALLET REQUEST REPORT TX` reads four files, and prints of the signed transaction what it is and pays, where it is
 ///   the payment of the report and pays the request's rate by what it truly weighs. No signature is checked.
 ///
-/// Whatever the files and the keeper hold, a payment of `fund` or `resume` spends only coins that may be spent,
-/// and pays each recipient exactly and at least the fee. Where its request names a payment, it replaces that one by the rules of
+/// Whatever the files and the keeper hold, a payment of `fund` or `resume` spends only coins that may be spent or that the payment
+/// which it replaces spends, and pays each recipient exactly and at least the fee. Where its request names a payment, it replaces that one by the rules of
 /// BIP 125 ('Implementation Details', 1 to 5), and spends what that one spends. One that is marked exhausted is the best of
 /// all that are admissible in its row and stage, and its log is accepted. No selection means that no search of the request
 /// has an admissible choice, no draw finds one, and the listed coins alone don't pay. Unfinished comes only where the tries
@@ -119,16 +119,17 @@ pub fn run<H: Shelf, O: Sink, K: Keeper>(
     // What stays: the files but the log, and the jobs but the one that is named.
     ensures stays { LeavesOthers (outside H.tells O.tells K.tells (H.view shelf.old) (H.view shelf.new) (O.view out.old) (O.view out.new) (K.view keeper.old) (K.view keeper.new)) (command_of words.now.items) result }
 
-    // What is read: the files that the words name, and those that a desk's script names; in their order, none again behind another.
+    // What is read: the files that the words name, and those that a desk's script names; in their order, each at its place.
     ensures reads { ReadsInOrder (outside H.tells O.tells K.tells (H.view shelf.old) (H.view shelf.new) (O.view out.old) (O.view out.new) (K.view keeper.old) (K.view keeper.new)) (command_of words.now.items) }
 
-    // Going on with a job gives the answer of a run without a stop.
+    // Going on with a job, as unfinished runs of the same files left it, gives the answer of a run without a stop.
     ensures uninterrupted { GoesOn (outside H.tells O.tells K.tells (H.view shelf.old) (H.view shelf.new) (O.view out.old) (O.view out.new) (K.view keeper.old) (K.view keeper.new)) (command_of words.now.items) result }
 
-    // What the files call for is refused, even if the sink fails.
+    // What the files, the job, or a report or transaction that is judged call for is refused, or memory wanted, where no read failed,
+    // even if the sink fails.
     ensures refused { RefusesFirst (outside H.tells O.tells K.tells (H.view shelf.old) (H.view shelf.new) (O.view out.old) (O.view out.new) (K.view keeper.old) (K.view keeper.new)) (command_of words.now.items) result }
 
-    // Where nothing fails, the status is the one that is due.
+    // Where nothing fails, the status is the one that is due, or out of memory.
     ensures complete { TellsDue (outside H.tells O.tells K.tells (H.view shelf.old) (H.view shelf.new) (O.view out.old) (O.view out.new) (K.view keeper.old) (K.view keeper.new)) (command_of words.now.items) result }
 {
     match parse(words.as_slice()) {

@@ -76,7 +76,8 @@ abbrev pub share_at : PlainWallet → History → (rate : ℕ) → ℕ → ℕ
 share_at w h rate j = missing_of rate h w.pending (tx_at (view_of w h) j)
 
 -- The price of what the transaction at this place makes, in satoshi: what raises each Pending one among it and its ancestors
--- to the rate, each by itself and each once; at most 21,000,000 bitcoin.
+-- to the rate, each by itself and each once for this coin; at most 21,000,000 bitcoin. Coins that have an ancestor in common
+-- each pay for it.
 unfoldable pub price_at : PlainWallet → History → (rate : ℕ) → ℕ → ℕ
 price_at w h rate i = min 2_100_000_000_000_000 (sum_by (share_at w h rate) (filter (is_pending (view_of w h)) (kin_of (view_of w h) i)))
 
