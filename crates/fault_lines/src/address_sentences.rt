@@ -21,7 +21,7 @@ pub fn address_sentence(fault: &AddrFault) -> &'static str
         AddrFault::Checksum =>
             "A letter of the address is mistyped, or bitcoin: stands before it: copy it again, without bitcoin: and what follows a question mark.",
         AddrFault::Network =>
-            "This is an address of a test network: ask for one of the main network.",
+            "This is an address of another network, as tb1 and bcrt1 are of test networks, ltc1 of Litecoin and ex1 of Liquid: ask for one that begins with bc1.",
         AddrFault::Version =>
             "The address has a version or a checksum that does not belong to it: ask for another.",
         AddrFault::Length =>

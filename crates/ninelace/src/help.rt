@@ -33,6 +33,10 @@ value are two words, or one as --fee-rate=12.
   --blocks FILE          the block file
   --to ADDRESS=AMOUNT    who is paid and how much; as often as you like
   --to-script HEX=AMOUNT the same by a script in hex
+                         =max with --method manual and each --coin: all that these
+                         coins are worth less the fee, to one recipient alone
+  --pay-file FILE        the lines ADDRESS,AMOUNT of this file are paid too, behind
+                         the recipients of the words
   --fee-rate RATE        the fee rate; below 1 it wants --allow-low-rate
   --allow-low-rate       a fee rate below 1 is taken, which nodes do not relay
   --long-term RATE       the rate at which coins are thought to be spent later: 10
@@ -149,11 +153,13 @@ For example:
 /// The command that explains a line.
 const EXPLAIN: &str = "ninelace explain LINE
 
-Says what may be the cause of a line that stops a command, and what to do.
+Says what may be the cause of a line that stops a command, and what to do; or what the
+status of this number means.
 
 For example:
 
   ninelace explain 'fault input wallet NotJson'
+  ninelace explain 11
 ";
 
 /// What the program says of each command.

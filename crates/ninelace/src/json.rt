@@ -205,6 +205,8 @@ pub struct Seen {
     pub parents: Option<u64>,
     /// Whether the wallet watches the script of the change; none without change.
     pub change_listed: Option<bool>,
+    /// The lines that warn of scripts.
+    pub warnings: String,
 }
 
 /// Puts what a payment comes to.
@@ -280,6 +282,12 @@ pub fn payment_value(
     put_sides(alloc, &mut object, asked, report)?;
     put_figures(alloc, &mut object, report, seen)?;
     put_choice(alloc, &mut object, asked, report)?;
+    put(
+        alloc,
+        &mut object,
+        "warnings",
+        lines(alloc, seen.warnings.as_str())?,
+    )?;
     put(alloc, &mut object, "request", request_value(alloc, asked)?)?;
     put_text(alloc, &mut object, "psbt", psbt)?;
     Ok(Value::Object(object))
@@ -353,19 +361,34 @@ fn put_swept(
     put(alloc, object, "vsize", Value::from(report.vsize))
 }
 
-/// A payment of all coins: who gets what, what it spends and comes to, what it has paid for ancestors, and its PSBT.
+/// What is seen of a payment of all coins beside its report.
+#[derive(Drop)]
+pub struct SweptSeen {
+    /// What the payment has paid for the ancestors of its coins; none where the files couldn't be read again.
+    pub parents: Option<u64>,
+    /// The lines that warn of the script that gets all.
+    pub warnings: String,
+}
+
+/// A payment of all coins: who gets what, what it spends and comes to, what is seen of it beside that, and its PSBT.
 pub fn sweep_value(
     alloc: Global,
     asked: &Asked,
     report: &SweptReport,
-    parents: Option<u64>,
+    seen: &SweptSeen,
     psbt: &str,
 ) -> Result<Value, Memory> {
     let mut object = Map::new(alloc);
     put(alloc, &mut object, "status", Value::from(0_u8))?;
     let recipients = swept_recipients(alloc, &asked.payments, report.amount)?;
     put(alloc, &mut object, "recipients", recipients)?;
-    put_swept(alloc, &mut object, report, parents)?;
+    put_swept(alloc, &mut object, report, seen.parents)?;
+    put(
+        alloc,
+        &mut object,
+        "warnings",
+        lines(alloc, seen.warnings.as_str())?,
+    )?;
     put(alloc, &mut object, "request", request_value(alloc, asked)?)?;
     put_text(alloc, &mut object, "psbt", psbt)?;
     Ok(Value::Object(object))

@@ -3,6 +3,8 @@
 
 mod help;
 mod json;
+mod listed;
+mod most;
 mod pay;
 mod plain;
 mod prices;
@@ -13,7 +15,8 @@ use command_end::Status;
 use fund_base::Memory;
 use pay::pay;
 use pay_words::spread_words;
-use plain::{by_words, coins, complete, explain, is_given, show, tell};
+use people_advice::{is_other_command, is_psbt_text, other_command_sentence, psbt_text_sentence};
+use plain::{by_words, coins, complete, explain, is_given, refuse, show, tell};
 use settle::settle;
 use std::io::ErrorKind;
 use std::process::ExitCode;
@@ -55,12 +58,22 @@ fn spread(rt: &HostRuntime, words: &[String]) -> io::Result<Vec<String>> {
     }
 }
 
+/// Whether the text of a PSBT is among the words.
+fn has_psbt_text(words: &[String]) -> bool {
+    for word in words {
+        if is_psbt_text(word.as_str()) {
+            return true;
+        }
+    }
+    false
+}
+
 /// Does a command.
 fn command(rt: &HostRuntime, words: &[String], verb: &str, rest: &[String]) -> io::Result<u8> {
     match verb {
         "pay" => {
             let words = spread(rt, rest)?;
-            pay(rt, words.as_slice())
+            pay(rt, words)
         }
         "sweep" => {
             let words = spread(rt, rest)?;
@@ -73,15 +86,15 @@ fn command(rt: &HostRuntime, words: &[String], verb: &str, rest: &[String]) -> i
             6,
             "check takes five names: WALLET BLOCKS REQUEST REPORT LOG.",
         ),
+        "complete" | "settle" if has_psbt_text(rest) => refuse(rt, words, psbt_text_sentence()),
         "complete" => complete(rt, rest),
         "settle" => settle(rt, rest),
         "explain" => explain(rt, rest),
-        _ => tell(
+        _ if is_other_command(verb) => refuse(rt, words, other_command_sentence()),
+        _ => refuse(
             rt,
-            is_given(words, "--json"),
-            Status::Usage,
-            "",
-            Some("These words are no command: ninelace --help shows the commands with examples."),
+            words,
+            "These words are no command: ninelace --help shows the commands with examples.",
         ),
     }
 }
@@ -92,7 +105,7 @@ fn act(rt: &HostRuntime, words: &[String]) -> io::Result<u8> {
         [] => help_whole(rt, Status::Usage),
         [verb, rest @ ..] => match verb.as_str() {
             "--help" | "-h" | "help" => help_whole(rt, Status::Done),
-            "--version" => {
+            "--version" | "version" => {
                 rt.println(help::VERSION)?;
                 Ok(Status::Done.code())
             }

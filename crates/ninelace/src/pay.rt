@@ -1,7 +1,9 @@
 //! The command that pays, as people see it.
 
 use crate::json::{Seen, payment_value, print, refusal_value};
-use crate::plain::{files_told, is_given, show, tell};
+use crate::listed::{Listed, line_at, lines_in, refused_line};
+use crate::most::{filled, refuse_most};
+use crate::plain::{files_told, is_given, show, tell, text_made};
 use crate::prices::{paid_for_parents, parents_line};
 use command_end::{Sources, Status};
 use command_pay::{
@@ -9,13 +11,18 @@ use command_pay::{
     table_text, unread_warning, unwritten_text,
 };
 use fault_lines::line_sentence;
+use fund_base::Memory;
 use fund_files::WALLET_LIMIT;
 use fund_report::InLine;
 use fund_shelf::{FileShelf, Shelf, read_whole};
-use pay_words::{Asked, WordFault, flag_about, flag_word, letter_about, word_place, word_sentence};
+use pay_words::{
+    Asked, Flag, WordFault, flag_about, flag_word, letter_about, value_in, word_place,
+    word_sentence,
+};
+use people_advice::{none_advice, there_text, warnings_text};
 use std::alloc::Global;
-use std::io;
 use std::random::RandomSource;
+use std::{fs, io};
 use wallet_text::read_wallet;
 
 /// The word or the flag that a fault is about; nothing where it is about none.
@@ -32,14 +39,15 @@ fn word_about<'a>(words: &'a [String], fault: &WordFault) -> &'a str {
     }
 }
 
-/// Says why the words ask for no payment: the word or the flag that it is about, and the sentence.
-pub fn refuse_words(rt: &HostRuntime, words: &[String], fault: &WordFault) -> io::Result<u8> {
-    let status = match fault {
-        WordFault::Memory => Status::Memory,
-        _ => Status::Usage,
-    };
+/// Says why words ask for no payment: what it is about, the letter of it if it is about one, and the sentence.
+fn tell_fault(
+    rt: &HostRuntime,
+    words: &[String],
+    status: Status,
+    about: &str,
+    fault: &WordFault,
+) -> io::Result<u8> {
     let json = is_given(words, "--json");
-    let about = word_about(words, fault);
     match letter_about(fault) {
         Some(letter) => {
             let number = letter.wrapping_add(1);
@@ -47,6 +55,36 @@ pub fn refuse_words(rt: &HostRuntime, words: &[String], fault: &WordFault) -> io
             tell(rt, json, status, about.as_str(), Some(word_sentence(fault)))
         }
         None => tell(rt, json, status, about, Some(word_sentence(fault))),
+    }
+}
+
+/// Says why the words ask for no payment: the word or the flag that it is about, and the sentence.
+pub fn refuse_words(rt: &HostRuntime, words: &[String], fault: &WordFault) -> io::Result<u8> {
+    let status = match fault {
+        WordFault::Memory => Status::Memory,
+        _ => Status::Usage,
+    };
+    tell_fault(rt, words, status, word_about(words, fault), fault)
+}
+
+/// Says why words ask for no payment, behind which may stand those of a file's lines: the line or the word that it is about, and the
+/// sentence.
+pub fn refuse_fault(
+    rt: &HostRuntime,
+    words: &[String],
+    listed: Option<&Listed>,
+    fault: &WordFault,
+) -> io::Result<u8> {
+    let Some(listed) = listed else {
+        return refuse_words(rt, words, fault);
+    };
+    let line = match word_place(fault) {
+        Some(place) => line_at(rt, listed, place)?,
+        None => None,
+    };
+    match line {
+        Some(line) => tell_fault(rt, words, Status::Input, line.as_str(), fault),
+        None => refuse_words(rt, words, fault),
     }
 }
 
@@ -112,6 +150,11 @@ pub fn show_psbt(rt: &HostRuntime, asked: &Asked, psbt: &str) -> io::Result<()> 
     }
 }
 
+/// The lines that warn of the scripts of recipients.
+fn warnings_of(rt: &HostRuntime, asked: &Asked) -> io::Result<String> {
+    text_made(warnings_text(rt.alloc(), &asked.payments))
+}
+
 /// Shows a payment as a table, and its PSBT where no file is given for it.
 fn show_table(rt: &HostRuntime, asked: &Asked, report: &PaidReport, psbt: &str) -> io::Result<u8> {
     let text = match table_text(rt.alloc(), asked, report) {
@@ -124,16 +167,14 @@ fn show_table(rt: &HostRuntime, asked: &Asked, report: &PaidReport, psbt: &str) 
     if report.change().is_some() {
         warn_of_change(rt, is_listed(rt, asked.names.wallet.as_str()))?;
     }
+    rt.print(warnings_of(rt, asked)?.as_str())?;
     show_psbt(rt, asked, psbt)?;
     Ok(Status::Done.code())
 }
 
 /// Shows a payment whose fee is taken.
 fn show_payment(rt: &HostRuntime, asked: &Asked, report: &PaidReport) -> io::Result<u8> {
-    let psbt = match str::from_utf8(report.psbt()) {
-        Ok(psbt) => psbt,
-        Err(_) => "",
-    };
+    let psbt = text_of(report.psbt());
     if !asked.json {
         return show_table(rt, asked, report, psbt);
     }
@@ -144,6 +185,7 @@ fn show_payment(rt: &HostRuntime, asked: &Asked, report: &PaidReport) -> io::Res
     let seen = Seen {
         parents: parents_of(rt, asked, report.coins()),
         change_listed: listed,
+        warnings: warnings_of(rt, asked)?,
     };
     match payment_value(rt.alloc(), asked, report, &seen, psbt) {
         Ok(value) => {
@@ -183,38 +225,122 @@ pub fn refuse_fee(rt: &HostRuntime, asked: &Asked, fee: u64, most: u64) -> io::R
     }
 }
 
+/// The value of a flag; none where it isn't given, or the words aren't flags with their values.
+fn value_of(rt: &HostRuntime, words: &[String], flag: Flag) -> io::Result<Option<String>> {
+    match value_in(rt.alloc(), words, flag) {
+        Ok(Some(name)) => Ok(Some(String::from_str(rt.alloc(), name)?)),
+        Ok(None) => Ok(None),
+        Err(_) => Ok(None),
+    }
+}
+
+/// Which new files were there before anything was written.
+#[derive(Clone, Copy)]
+pub struct There {
+    /// The log.
+    log: bool,
+    /// The PSBT.
+    psbt: bool,
+}
+
+/// Whether a file of the name behind this flag is there.
+fn is_there(rt: &HostRuntime, words: &[String], flag: Flag) -> io::Result<bool> {
+    match value_of(rt, words, flag)? {
+        Some(name) => Ok(matches!(fs::exists(rt, name.as_str()), Ok(true))),
+        None => Ok(false),
+    }
+}
+
+/// Which new files are there, by the words.
+pub fn there_in(rt: &HostRuntime, words: &[String]) -> io::Result<There> {
+    Ok(There {
+        log: is_there(rt, words, Flag::Log)?,
+        psbt: is_there(rt, words, Flag::Psbt)?,
+    })
+}
+
+/// What is said of a new file that wasn't written: that it was there before, or what may be the cause.
+fn unwritten(
+    rt: &HostRuntime,
+    name: &str,
+    was_there: bool,
+    log_written: bool,
+) -> Result<String, Memory> {
+    if was_there {
+        return there_text(rt.alloc(), name, log_written);
+    }
+    unwritten_text(rt.alloc(), name, log_written)
+}
+
 /// Says that a new file wasn't written: the log, or the PSBT behind it.
-pub fn refuse_file(rt: &HostRuntime, asked: &Asked, file: NewFile) -> io::Result<u8> {
-    let (name, log_written) = match file {
-        NewFile::Log => (&asked.names.log, false),
-        NewFile::Psbt => (&asked.names.psbt, asked.names.log.is_some()),
+pub fn refuse_file(rt: &HostRuntime, asked: &Asked, file: NewFile, there: There) -> io::Result<u8> {
+    let (name, was_there, log_written) = match file {
+        NewFile::Log => (&asked.names.log, there.log, false),
+        NewFile::Psbt => (&asked.names.psbt, there.psbt, asked.names.log.is_some()),
     };
     let name = match name {
         Some(name) => name.as_str(),
         None => "",
     };
-    match unwritten_text(rt.alloc(), name, log_written) {
+    match unwritten(rt, name, was_there, log_written) {
         Ok(sentence) => refuse(rt, asked, Status::WriteFault, "", Some(sentence.as_str())),
         Err(_) => show(rt, asked.json, Status::Memory, b"fault memory\n"),
     }
 }
 
+/// What was said, as text.
+fn text_of(said: &[u8]) -> &str {
+    match str::from_utf8(said) {
+        Ok(text) => text,
+        Err(_) => "",
+    }
+}
+
 /// Says why a run came to no payment.
 pub fn refuse_run(rt: &HostRuntime, asked: &Asked, status: Status, said: &[u8]) -> io::Result<u8> {
-    let lines = match str::from_utf8(said) {
-        Ok(lines) => lines,
-        Err(_) => "",
+    let sentence = match status {
+        Status::NoSelection => Some(none_advice(asked)),
+        _ => line_sentence(said),
     };
-    refuse(rt, asked, status, lines, line_sentence(said))
+    refuse(rt, asked, status, text_of(said), sentence)
+}
+
+/// Says why a run with the payments of a file's lines came to no payment: the line for which it is refused stands behind what it said.
+fn refuse_listed_run(
+    rt: &HostRuntime,
+    asked: &Asked,
+    listed: &Listed,
+    status: Status,
+    said: &[u8],
+) -> io::Result<u8> {
+    match refused_line(rt, listed, asked)? {
+        None => refuse_run(rt, asked, status, said),
+        Some(line) => {
+            let mut lines = String::from_str(rt.alloc(), text_of(said))?;
+            lines.push_str(line.as_str())?;
+            refuse(rt, asked, status, lines.as_str(), line_sentence(said))
+        }
+    }
 }
 
 /// Shows how a payment ended.
-fn show_ending(rt: &HostRuntime, asked: &Asked, ending: &Ending) -> io::Result<u8> {
+fn show_ending(
+    rt: &HostRuntime,
+    asked: &Asked,
+    listed: Option<&Listed>,
+    there: There,
+    ending: &Ending,
+) -> io::Result<u8> {
+    if let Some(listed) = listed {
+        if let Ending::NotPaid(Status::Input, said) = ending {
+            return refuse_listed_run(rt, asked, listed, Status::Input, said);
+        }
+    }
     match ending {
         Ending::Paid(report, _) => show_payment(rt, asked, report),
         Ending::FeeAboveMaximum(fee, most) => refuse_fee(rt, asked, *fee, *most),
         Ending::NotPaid(status, said) => refuse_run(rt, asked, *status, said),
-        Ending::Unwritten(file) => refuse_file(rt, asked, *file),
+        Ending::Unwritten(file) => refuse_file(rt, asked, *file, there),
         Ending::Memory => show(rt, asked.json, Status::Memory, b"fault memory\n"),
     }
 }
@@ -231,22 +357,76 @@ fn pay_over<H: Shelf + Drop, N: Shelf>(
     ended
 }
 
+/// Does what the words ask for, behind which may stand those of a file's lines, with this seed where they give none.
+fn pay_filled(
+    rt: &HostRuntime,
+    words: &[String],
+    listed: Option<&Listed>,
+    drawn: [u8; 32],
+) -> io::Result<u8> {
+    let there = there_in(rt, words)?;
+    let files = files_told(rt, words);
+    let mut new_files = NewFileShelf::new(rt);
+    match pay_over(rt.alloc(), words, drawn, files, &mut new_files) {
+        Ok((asked, ending)) => show_ending(rt, &asked, listed, there, &ending),
+        Err(fault) => refuse_fault(rt, words, listed, &fault),
+    }
+}
+
+/// The same, with the amount in place of `max` where a recipient gets all that listed coins are worth.
+fn pay_by(
+    rt: &HostRuntime,
+    words: &[String],
+    listed: Option<&Listed>,
+    drawn: [u8; 32],
+) -> io::Result<u8> {
+    match filled(rt, words, drawn) {
+        Ok(None) => pay_filled(rt, words, listed, drawn),
+        Ok(Some(words)) => pay_filled(rt, words.as_slice(), listed, drawn),
+        Err(fault) => refuse_most(rt, words, listed, fault),
+    }
+}
+
+/// Does what the words ask for, and pays what the lines of the file of this name list.
+fn pay_listed(
+    rt: &HostRuntime,
+    words: Vec<String>,
+    name: String,
+    drawn: [u8; 32],
+) -> io::Result<u8> {
+    if name.is_empty() {
+        return refuse_words(rt, &words, &WordFault::EmptyName(Flag::PayFile));
+    }
+    let lines = match lines_in(rt, &words, name.as_str())? {
+        Ok(lines) => lines,
+        Err(code) => return Ok(code),
+    };
+    let listed = Listed {
+        name,
+        before: words.len(),
+        count: lines.len() / 2,
+    };
+    let mut words = words;
+    for line in lines {
+        words.push(line)?;
+    }
+    pay_by(rt, &words, Some(&listed), drawn)
+}
+
 /// Does `pay` with the words behind it.
-pub fn pay(rt: &HostRuntime, words: &[String]) -> io::Result<u8> {
+pub fn pay(rt: &HostRuntime, words: Vec<String>) -> io::Result<u8> {
     let mut drawn = [0; 32];
     if rt.fill_bytes(&mut drawn).is_err() {
         return tell(
             rt,
-            is_given(words, "--json"),
+            is_given(&words, "--json"),
             Status::ReadFault,
             "",
             Some("The system gave no random bytes, from which the seed is drawn: try again."),
         );
     }
-    let files = files_told(rt, words);
-    let mut new_files = NewFileShelf::new(rt);
-    match pay_over(rt.alloc(), words, drawn, files, &mut new_files) {
-        Ok((asked, ending)) => show_ending(rt, &asked, &ending),
-        Err(fault) => refuse_words(rt, words, &fault),
+    match value_of(rt, &words, Flag::PayFile)? {
+        Some(name) => pay_listed(rt, words, name, drawn),
+        None => pay_by(rt, &words, None, drawn),
     }
 }

@@ -7,11 +7,13 @@ use command_end::{Sources, Status};
 use command_pay::ProgressShelf;
 use fault_lines::line_sentence;
 use fund_base::Memory;
-use fund_outside::SureKeeper;
-use fund_shelf::{FileShelf, SureSink};
+use fund_outside::{Keeper, SureKeeper};
+use fund_shelf::{FileShelf, Shelf, Sink, SureSink};
 use fund_top::run;
 use pay_words::{WordFault, word_sentence};
+use people_advice::{status_numbered, status_sentence};
 use request_making::read_rate;
+use std::alloc::Global;
 use std::io;
 use std::io::{ErrorKind, IsTerminal};
 
@@ -44,6 +46,14 @@ pub fn names_in(rt: &HostRuntime, words: &[String]) -> io::Result<Vec<String>> {
         }
     }
     Ok(names)
+}
+
+/// A text that was made, or the error of too little memory.
+pub fn text_made(made: Result<String, Memory>) -> io::Result<String> {
+    match made {
+        Ok(text) => Ok(text),
+        Err(Memory) => Err(io::Error::from(ErrorKind::OutOfMemory)),
+    }
 }
 
 /// Shows lines, and the sentence that says what to do, where there is one; and answers the status.
@@ -92,6 +102,17 @@ pub fn refuse(rt: &HostRuntime, words: &[String], usage: &str) -> io::Result<u8>
     )
 }
 
+/// Does the command of these words over these files and jobs.
+fn done_by_words<H: Shelf, O: Sink, K: Keeper>(
+    alloc: Global,
+    words: &Vec<String>,
+    shelf: &mut H,
+    out: &mut O,
+    keeper: &mut K,
+) -> Status {
+    run(alloc, words, shelf, out, keeper)
+}
+
 /// Lists the coins of a wallet, or checks the report of a payment, by so many words of that command.
 pub fn by_words(rt: &HostRuntime, words: &[String], count: usize, usage: &str) -> io::Result<u8> {
     let alloc = rt.alloc();
@@ -102,7 +123,7 @@ pub fn by_words(rt: &HostRuntime, words: &[String], count: usize, usage: &str) -
     let mut shelf = files_told(rt, words);
     let mut out = SureSink::new(alloc);
     let mut keeper = SureKeeper::new(alloc);
-    let status = run(alloc, &names, &mut shelf, &mut out, &mut keeper);
+    let status = done_by_words(alloc, &names, &mut shelf, &mut out, &mut keeper);
     show(rt, is_given(words, "--json"), status, out.written())
 }
 
@@ -138,6 +159,17 @@ pub fn coins(rt: &HostRuntime, words: &[String]) -> io::Result<u8> {
     }
 }
 
+/// Makes the PSBT of a file of these files whole.
+fn made_whole<H: Shelf, O: Sink>(
+    alloc: Global,
+    sources: &Sources,
+    psbt: &str,
+    shelf: &mut H,
+    out: &mut O,
+) -> Status {
+    complete_psbt(alloc, sources, psbt, shelf, out)
+}
+
 /// Makes a PSBT whole.
 pub fn complete(rt: &HostRuntime, words: &[String]) -> io::Result<u8> {
     let alloc = rt.alloc();
@@ -150,7 +182,7 @@ pub fn complete(rt: &HostRuntime, words: &[String]) -> io::Result<u8> {
             };
             let mut shelf = files_told(rt, words);
             let mut out = SureSink::new(alloc);
-            let status = complete_psbt(alloc, &sources, psbt.as_str(), &mut shelf, &mut out);
+            let status = made_whole(alloc, &sources, psbt.as_str(), &mut shelf, &mut out);
             show(rt, is_given(words, "--json"), status, out.written())
         }
         _ => refuse(rt, words, "complete takes three names: PSBT WALLET BLOCKS."),
@@ -169,21 +201,29 @@ fn line_of(rt: &HostRuntime, words: &[String]) -> io::Result<String> {
     Ok(line)
 }
 
-/// Says what may be the cause of a line that stops a command, and what to do.
+/// Says this sentence of a line.
+fn explain_by(rt: &HostRuntime, json: bool, line: &str, sentence: &str) -> io::Result<u8> {
+    if json {
+        return tell(rt, true, Status::Done, line, Some(sentence));
+    }
+    rt.println(sentence)?;
+    Ok(Status::Done.code())
+}
+
+/// Says what a status means by its number, or what may be the cause of a line that stops a command; and what to do.
 pub fn explain(rt: &HostRuntime, words: &[String]) -> io::Result<u8> {
     let json = is_given(words, "--json");
     let names = names_in(rt, words)?;
     let line = line_of(rt, names.as_slice())?;
+    if let Some(status) = status_numbered(line.as_str()) {
+        return explain_by(rt, json, line.as_str(), status_sentence(status));
+    }
     match line_sentence(line.as_bytes()) {
-        Some(_) if json => show(rt, true, Status::Done, line.as_bytes()),
-        Some(sentence) => {
-            rt.println(sentence)?;
-            Ok(Status::Done.code())
-        }
+        Some(sentence) => explain_by(rt, json, line.as_str(), sentence),
         None => refuse(
             rt,
             words,
-            "This line stops no command: give one as it was printed, from its first word on.",
+            "This line stops no command: give one as it was printed, from its first word on, or the number of a status.",
         ),
     }
 }

@@ -141,9 +141,18 @@ fn seen_unsettled(alloc: Global, names: &SettleNames, stop: Stop) -> Result<Seen
     }
 }
 
+/// The settlement of the files of these names; or why there is none.
+fn settlement_over<H: Shelf>(
+    alloc: Global,
+    names: &SettleNames,
+    shelf: &mut H,
+) -> Result<Settlement, Stop> {
+    settlement_of(alloc, names, shelf)
+}
+
 /// What is shown of the files of these names.
 fn seen_in<H: Shelf>(alloc: Global, names: &SettleNames, shelf: &mut H) -> Result<Seen, Memory> {
-    match settlement_of(alloc, names, shelf) {
+    match settlement_over(alloc, names, shelf) {
         Ok(settlement) => Ok(Seen::Settled(settlement)),
         Err(stop) => seen_unsettled(alloc, names, stop),
     }

@@ -13,6 +13,7 @@ word_known flags.Wallet = refl
 word_known flags.Blocks = refl
 word_known flags.To = refl
 word_known flags.ToScript = refl
+word_known flags.PayFile = refl
 word_known flags.FeeRate = refl
 word_known flags.LongTerm = refl
 word_known flags.Discard = refl

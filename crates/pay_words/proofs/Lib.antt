@@ -1,5 +1,8 @@
+pub mod FileText
 pub mod FirstWord
 pub mod FlagLaws
+pub mod LineLaws
+pub mod LineRest
 pub mod LowRateLaws
 pub mod NameLaws
 pub mod PaymentRest

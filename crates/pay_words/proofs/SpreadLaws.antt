@@ -23,6 +23,7 @@ two_words flags.Wallet value takes = spread_at (flag_word flags.Wallet) value re
 two_words flags.Blocks value takes = spread_at (flag_word flags.Blocks) value refl refl
 two_words flags.To value takes = spread_at (flag_word flags.To) value refl refl
 two_words flags.ToScript value takes = spread_at (flag_word flags.ToScript) value refl refl
+two_words flags.PayFile value takes = spread_at (flag_word flags.PayFile) value refl refl
 two_words flags.FeeRate value takes = spread_at (flag_word flags.FeeRate) value refl refl
 two_words flags.LongTerm value takes = spread_at (flag_word flags.LongTerm) value refl refl
 two_words flags.Discard value takes = spread_at (flag_word flags.Discard) value refl refl

@@ -1,10 +1,12 @@
 pub mod Flags
 pub mod Given
+pub mod Lines
 pub mod Payees
 pub mod Payments
 pub mod Settings
 pub mod Values
 pub mod Ways
 pub mod Asked
+pub mod Refused
 pub mod Sentences
 pub mod Spread

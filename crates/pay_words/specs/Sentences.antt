@@ -9,6 +9,8 @@ use Rattle.pay_words.specs.declared.address.Network.TheVariants as networks
 use Rattle.pay_words.specs.declared.fault.WordFault.{WordFault}
 use Rattle.pay_words.specs.declared.fault.WordFault.TheVariants as faults
 use Rattle.pay_words.specs.declared.flag.Flag.{Flag}
+use Rattle.pay_words.specs.declared.line_fault.LineFault.{LineFault}
+use Rattle.pay_words.specs.declared.line_fault.LineFault.TheVariants as lists
 
 -- a text that is no amount
 unfoldable pub amount_sentence : SpellingFault → List ℕ
@@ -36,6 +38,14 @@ base58_sentence base58.Memory = codes "The machine has too little memory: try ag
 unfoldable pub network_sentence : Network → List ℕ
 network_sentence networks.Litecoin = codes "This is an address of Litecoin: ask for one of Bitcoin's main network."
 network_sentence networks.Ethereum = codes "This is an address of Ethereum: ask for one of Bitcoin's main network."
+
+-- a file that lists no payments
+unfoldable pub pay_file_sentence : LineFault → List ℕ
+pay_file_sentence lists.TooLong = codes "The file of payments is longer than 4,194,304 bytes: pay by several files."
+pay_file_sentence lists.NotText = codes "The file of payments is no text in UTF-8: save it as one."
+pay_file_sentence (lists.NoComma number) = codes "No comma stands in this line: each line is ADDRESS,AMOUNT."
+pay_file_sentence lists.NoLine = codes "The file of payments has no line: each line is ADDRESS,AMOUNT."
+pay_file_sentence lists.Memory = codes "The machine has too little memory: try again with less beside it."
 
 -- words that ask for no payment
 unfoldable pub word_sentence : WordFault → List ℕ

@@ -1,5 +1,5 @@
 -- What the words behind flags spell.
-use Rattle.std.specs.Prelude.{ℕ, Bool, List, [], String, string_bytes, Option, is_some, option_map, Result, slice_get}
+use Rattle.std.specs.Prelude.{ℕ, Bool, List, [], String, string_bytes, Option, is_some, option_map, Result, Ok, slice_get}
 use Rattle.std.specs.Option.{ok_or, option_map_or}
 use Rattle.std.specs.Result.{result_ok}
 use Rattle.std.specs.declared.alloc.Global.{Global}
@@ -8,10 +8,10 @@ use Rattle.json_fields.specs.Fields.{hash_in}
 use Rattle.request_making.specs.Spelled.{spelled}
 use Rattle.request_making.specs.declared.unit.Kind.TheVariants as kinds
 use Rattle.fund_base.specs.Decimal.{number_of}
-use Rattle.fund_base.specs.Parsing.{fault_as}
+use Rattle.fund_base.specs.Parsing.{◌>>=◌, fault_as}
 use Rattle.request_text.specs.RequestText.{method_in}
 use Rattle.request_text.specs.declared.request.Method.{Method}
-use Rattle.pay_words.specs.Given.{place_of}
+use Rattle.pay_words.specs.Given.{flags_in, place_of}
 use Rattle.pay_words.specs.declared.fault.WordFault.{WordFault}
 use Rattle.pay_words.specs.declared.fault.WordFault.TheVariants as faults
 use Rattle.pay_words.specs.declared.flag.Flag.{Flag}
@@ -28,6 +28,10 @@ has given flag = is_some (place_of given flag)
 -- the word behind the flag
 abbrev pub text_of : List (String Global) → List Given → Flag → Option (List ℕ)
 text_of words given flag = option_map (word_at words) (place_of given flag)
+
+-- the value of a flag, by the words alone
+unfoldable pub value_in : Flag → List (String Global) → Result (Option (List ℕ)) WordFault
+value_in flag words = flags_in words >>= λ given. Ok (text_of words given flag)
 
 -- an amount in satoshi, at most 21,000,000 bitcoin
 abbrev pub amount_at : ℕ → List ℕ → Result ℕ WordFault

@@ -14,6 +14,8 @@ pub enum Flag {
     To,
     /// A script in hex, `=`, and the amount that is paid to it. It may be given more than once.
     ToScript,
+    /// The name of a file that lists payments.
+    PayFile,
     /// The fee rate.
     FeeRate,
     /// The rate at which coins are thought to be spent later.
@@ -65,11 +67,12 @@ pub enum Flag {
 }
 
 /// All flags.
-const FLAGS: [Flag; 28] = [
+const FLAGS: [Flag; 29] = [
     Flag::Wallet,
     Flag::Blocks,
     Flag::To,
     Flag::ToScript,
+    Flag::PayFile,
     Flag::FeeRate,
     Flag::LongTerm,
     Flag::Discard,
@@ -106,6 +109,7 @@ pub fn flag_word(flag: Flag) -> &'static str
         Flag::Blocks => "--blocks",
         Flag::To => "--to",
         Flag::ToScript => "--to-script",
+        Flag::PayFile => "--pay-file",
         Flag::FeeRate => "--fee-rate",
         Flag::LongTerm => "--long-term",
         Flag::Discard => "--discard",

@@ -1,11 +1,13 @@
 //! What the words of flags and the names of files come to.
 
-ghost use Rattle.std.specs.Prelude.{◌≡◌, ◌<◌, List, [], ◌∷◌, ◌++◌, Ok, Some, String, true, ℕ};
+ghost use Rattle.std.specs.Prelude.{◌≡◌, ◌<◌, List, [], ◌∷◌, ◌++◌, map, string_bytes, Ok, Some, String, true, ℕ};
+ghost use Rattle.std.specs.Str.Lines.{lines};
 ghost use Rattle.std.specs.declared.alloc.Global.{Global};
 ghost use Rattle.base58_addr.specs.Address.{IsAddress};
 ghost use Rattle.pay_words.specs.Asked.{AreApart, PlainAsked, asked_in};
 ghost use Rattle.pay_words.specs.Flags.{flag_of, flag_word, takes_value};
 ghost use Rattle.pay_words.specs.Given.{flags_in};
+ghost use Rattle.pay_words.specs.Lines.{ArePaidBehind, line_words};
 ghost use Rattle.pay_words.specs.Payees.{Script, payee_at};
 ghost use Rattle.pay_words.specs.Spread.{spread_word};
 ghost use Rattle.pay_words.specs.Values.{has};
@@ -53,6 +55,12 @@ pub fn addresses_pay_to_scripts()
 /// nothing.
 pub fn flags_take_values_behind_signs()
     ensures { (f : Flag) (value : List ℕ) → takes_value f ≡ true → spread_word (flag_word f ++ 61 ∷ value) ≡ flag_word f ∷ value ∷ [] }
+{}
+
+/// The law of lists: where the words of the lines of a file stand behind others, which are flags with their values, the payments asked for
+/// are those of the words and then one for each line, in order. A call does nothing.
+pub fn lines_are_paid_behind_words()
+    ensures { (drawn : List ℕ) (words more : List (String Global)) (file : List ℕ) (given : List Given) (asked : PlainAsked) → flags_in words ≡ Ok given → line_words file ≡ Ok (map string_bytes more) → asked_in drawn (words ++ more) ≡ Ok asked → ArePaidBehind words given (lines file) asked.payments }
 {}
 
 /// The law of low rates: words that are read as asking for a rate below 1 satoshi per virtual byte give the flag

@@ -1,11 +1,12 @@
 //! The sentences of faults of the words.
 
 ghost use Rattle.std.specs.Prelude.{◌≡◌};
-ghost use Rattle.pay_words.specs.Sentences.{amount_sentence, base58_sentence, flag_about, letter_about, network_sentence, rate_sentence, word_place, word_sentence};
+ghost use Rattle.pay_words.specs.Sentences.{amount_sentence, base58_sentence, flag_about, letter_about, network_sentence, pay_file_sentence, rate_sentence, word_place, word_sentence};
 
 use crate::address::Network;
 use crate::fault::WordFault;
 use crate::flag::Flag;
+use crate::line_fault::LineFault;
 use base58_addr::Base58Fault;
 use request_making::SpellingFault;
 
@@ -66,6 +67,21 @@ fn network_sentence(network: &Network) -> &'static str
             "This is an address of Litecoin: ask for one of Bitcoin's main network.",
         Network::Ethereum =>
             "This is an address of Ethereum: ask for one of Bitcoin's main network.",
+    }
+}
+
+/// What to do about a file that lists no payments: the sentence of each fault.
+#[tactic(auto, unfolding(crate::specs::Sentences::pay_file_sentence))]
+pub fn pay_file_sentence(fault: &LineFault) -> &'static str
+    ensures { result.now ≡ pay_file_sentence fault.now }
+{
+    match fault {
+        LineFault::TooLong =>
+            "The file of payments is longer than 4,194,304 bytes: pay by several files.",
+        LineFault::NotText => "The file of payments is no text in UTF-8: save it as one.",
+        LineFault::NoComma(_) => "No comma stands in this line: each line is ADDRESS,AMOUNT.",
+        LineFault::NoLine => "The file of payments has no line: each line is ADDRESS,AMOUNT.",
+        LineFault::Memory => "The machine has too little memory: try again with less beside it.",
     }
 }
 

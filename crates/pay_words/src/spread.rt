@@ -20,7 +20,7 @@ fn is_for_value(word: &str) -> bool
 }
 
 /// Adds a copy of a word to others.
-fn put_word(alloc: Global, spread: &mut Vec<String>, word: &str) -> Result<(), Memory>
+pub fn put_word(alloc: Global, spread: &mut Vec<String>, word: &str) -> Result<(), Memory>
     ensures { OnOk result (map string_bytes spread.new.items ≡ map string_bytes spread.old.items ++ word.now ∷ []) }
 {
     let copy = String::from_str(alloc, word)?;

@@ -1,14 +1,18 @@
 //! The values of flags, by their words.
 
-ghost use Rattle.std.specs.Prelude.{◌≡◌, option_copied};
-ghost use Rattle.pay_words.specs.Values.{amount_at, has, locktime_at, method_at, number_at, rate_at, seed_at, text_of, txid_at, word_at};
+ghost use Rattle.std.specs.Prelude.{◌≡◌, Err, option_copied};
+ghost use Rattle.fund_base.specs.Parsing.{YieldsAll};
+ghost use Rattle.pay_words.specs.Given.{BeginsWithFlag};
+ghost use Rattle.pay_words.specs.Values.{amount_at, has, locktime_at, method_at, number_at, rate_at, seed_at, text_of, txid_at, value_in, word_at};
+ghost use Rattle.pay_words.specs.declared.fault.WordFault.TheVariants.{Memory as OutOfMemory};
 
 use crate::fault::WordFault;
 use crate::flag::Flag;
-use crate::given::{Given, place_of};
+use crate::given::{Given, flags_in, place_of};
 use fund_base::read_decimal;
 use request_making::{read_amount, read_rate};
 use request_text::Method;
+use std::alloc::Global;
 
 /// The word at this place; the empty one where there is none.
 pub fn word_at(words: &[String], place: usize) -> &str
@@ -35,6 +39,21 @@ pub fn text_of<'a>(words: &'a [String], given: &[Given], flag: Flag) -> Option<&
         Some(place) => Some(word_at(words, place)),
         None => None,
     }
+}
+
+/// The value of the flag by the words alone, if it is given; or their first fault, where they aren't flags with their values. It runs out
+/// of memory only where the first word is that of a flag.
+#[tactic(auto, unfolding(crate::specs::Values::value_in))]
+pub fn value_in<'a>(
+    alloc: Global,
+    words: &'a [String],
+    flag: Flag,
+) -> Result<Option<&'a str>, WordFault>
+    ensures gives { YieldsAll OutOfMemory option_copied result (value_in flag words.now) }
+    ensures short { result ≡ Err OutOfMemory → BeginsWithFlag words.now }
+{
+    let given = flags_in(alloc, words)?;
+    Ok(text_of(words, given.as_slice(), flag))
 }
 
 /// The amount that is spelled by a text of the word at this place.

@@ -7,6 +7,7 @@ use command_sweeping::{Ending as SweepEnding, sweep_asked};
 use fund_outside::{Keeper, SureKeeper};
 use fund_shelf::{Shelf, Sink, SureShelf, SureSink};
 use fund_top::{run, run_in_memory};
+use max_words::{MaxFault, fill_max};
 use pay_words::{Asked, WordFault};
 use std::alloc::Global;
 use sweep_words::read_sweep;
@@ -48,6 +49,15 @@ pub(crate) fn paid<H: Shelf + Drop, N: Shelf>(
     new_files: &mut N,
 ) -> (Result<(Asked, Ending), WordFault>, H) {
     pay(alloc, words.as_slice(), [0; 32], files, new_files)
+}
+
+/// The words with the amount in place of `max`, by these files; none where no recipient gets that.
+pub(crate) fn filled<H: Shelf>(
+    alloc: Global,
+    words: &Vec<String>,
+    files: &mut H,
+) -> Result<Option<Vec<String>>, MaxFault> {
+    fill_max(alloc, words.as_slice(), [0; 32], files)
 }
 
 /// Pays all coins to whom the words name over these files, with new files at another shelf; and the files.

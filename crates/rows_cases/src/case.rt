@@ -1,8 +1,8 @@
 //! The files and jobs of a case, and what is done with them.
 
-use crate::calls::{ended, ended_surely, keep, made_whole, make, paid, swept};
+use crate::calls::{ended, ended_surely, filled, keep, made_whole, make, paid, swept};
 use crate::columns::with_pieces;
-use crate::people::{show_paid, show_swept};
+use crate::people::{show_filled, show_paid, show_swept};
 use crate::settled::settled;
 use crate::shown::{show, show_column, show_count, show_number};
 use crate::turning::Turning;
@@ -219,6 +219,13 @@ impl Case {
         let (ended, files) = paid(alloc, &words, files, &mut self.new_files);
         self.shelf = files;
         show_paid(rt, ended)
+    }
+
+    /// Prints words with the amount in place of `max`, or what is wrong with them.
+    pub(crate) fn most(&mut self, rt: &HostRuntime, columns: &[&str]) -> Result<(), Memory> {
+        let words = words_behind(rt.alloc(), columns)?;
+        show_column(rt, column(columns, 0))?;
+        show_filled(rt, filled(rt.alloc(), &words, &mut self.shelf))
     }
 
     /// Pays all coins to whom words name, and prints how it ended.

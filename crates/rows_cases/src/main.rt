@@ -17,6 +17,7 @@
 //! - `save JOB NUMBER SAVED TEXT COUNT` keeps a part of a job with the saved text. `job JOB` prints what is kept of it.
 //! - `pay WRITES WORD ..` pays what the words ask for, and prints how that ended. Writes of new files of these numbers fail.
 //!   `new NAME` prints one of these. `sweep WRITES WORD ..` pays all coins to whom the words name, and prints that as a table.
+//!   `most LABEL WORD ..` prints the words with the amount in place of `max`, or what is wrong with them.
 //! - `asked LABEL WORD ..` prints the request of the words of a payment, or what is wrong with them. `fee FEE WORD ..` prints the
 //!   greatest fee that is taken with these words, and whether this fee is; `table REPORT WORD ..` the payment of a report, which is
 //!   a text, beside what they ask for.
@@ -79,6 +80,7 @@ fn other_row(
         "pay" => return case.pay(rt, columns),
         "settled" => return case.settled(rt, columns),
         "sweep" => return case.sweep(rt, columns),
+        "most" => return case.most(rt, columns),
         "save" => return case.save(rt.alloc(), columns),
         "new" => case.new_file(rt, columns),
         "job" => case.job(rt, columns),

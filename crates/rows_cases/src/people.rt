@@ -10,6 +10,7 @@ use command_sweeping::{Ending as SweepEnding, sweep_table};
 use fault_lines::line_sentence;
 use fund_base::Memory;
 use fund_report::{FundedReport, Report, read_report, write_report};
+use max_words::{MaxFault, max_place, max_sentence};
 use pay_words::{
     Asked, Way, WordFault, flag_about, flag_word, read_pay, word_place, word_sentence,
 };
@@ -133,6 +134,42 @@ fn show_fault(rt: &HostRuntime, fault: &WordFault) {
         show(rt, b": ");
     }
     show_line(rt, word_sentence(fault));
+}
+
+/// Prints words on a line, with blanks between them.
+fn show_words(rt: &HostRuntime, words: &[String]) {
+    for word in words {
+        show(rt, word.as_bytes());
+        show(rt, b" ");
+    }
+    show(rt, b"\n");
+}
+
+/// Prints what is wrong with words whose recipient gets all, behind the place that it is about.
+fn show_max_fault(rt: &HostRuntime, fault: &MaxFault) {
+    if let Some(place) = max_place(fault) {
+        show_number(rt, b"word ", place as u64);
+        show(rt, b": ");
+    }
+    match max_sentence(fault) {
+        Some(sentence) => show_line(rt, sentence),
+        None => show(rt, b"stopped by a file\n"),
+    }
+}
+
+/// Prints words with the amount in place of `max`, or what is wrong with them.
+pub(crate) fn show_filled(
+    rt: &HostRuntime,
+    filled: Result<Option<Vec<String>>, MaxFault>,
+) -> Result<(), Memory> {
+    match filled {
+        Ok(Some(words)) => show_words(rt, words.as_slice()),
+        Ok(None) => show(rt, b"no max\n"),
+        Err(MaxFault::Memory) => return Err(Memory),
+        Err(MaxFault::Words(fault)) => show_fault(rt, &fault),
+        Err(fault) => show_max_fault(rt, &fault),
+    }
+    Ok(())
 }
 
 /// What words ask for, with a drawn seed of zeros. Where they ask for no payment, that is printed.

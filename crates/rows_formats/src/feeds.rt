@@ -24,12 +24,22 @@ use tx_codec::{txid, weight};
 pub(crate) const FILE: &str = "blocks";
 
 /// A feed and the shelf on which its file lies.
-#[derive(Drop)]
 struct Source {
     feed: Feed,
     shelf: Pieces,
     // whether a call whose read failed is made again
     again: bool,
+}
+
+/// One call, wherever it is dropped.
+impl Drop for Source {
+    fn drop(self) {
+        let Source {
+            feed: _,
+            shelf: _,
+            again: _,
+        } = self;
+    }
 }
 
 impl Source {
@@ -63,11 +73,12 @@ pub(crate) fn files_of(alloc: Global, bytes: Vec<u8>) -> Result<Vec<(String, Vec
 
 /// A feed of the columns' file, of which the read of this number fails.
 fn source_of(alloc: Global, columns: &[&str], fails: u64) -> Result<Source, Memory> {
-    let files = files_of(alloc, bytes_in(alloc, column(columns, 4)))?;
+    let sizes = sizes(alloc, column(columns, 2))?;
     let fails = Vec::from_slice(alloc, &[fails])?;
+    let files = files_of(alloc, bytes_in(alloc, column(columns, 4)))?;
     let shelf = Pieces {
         shelf: MemShelf::new(alloc, files, fails, Vec::new(alloc)),
-        sizes: sizes(alloc, column(columns, 2))?,
+        sizes,
         turn: 0,
         zeros: 0,
     };

@@ -20,7 +20,7 @@ fn put_named(out: &mut Answer, fault: &str, name: &str) {
 }
 
 /// Puts a fault by its name, and the name that it tells.
-fn put_fault(out: &mut Answer, fault: &FieldFault) {
+pub(crate) fn put_fault(out: &mut Answer, fault: &FieldFault) {
     match fault {
         FieldFault::NotJson => out.word("NotJson"),
         FieldFault::Kind(name) => put_named(out, "Kind ", name.as_str()),

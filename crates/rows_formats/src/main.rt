@@ -4,6 +4,7 @@
 #![tactic(auto)]
 
 mod addresses;
+mod advice;
 mod base58;
 mod books;
 mod bumps;
@@ -13,6 +14,7 @@ mod faults;
 mod feeds;
 mod fields;
 mod files;
+mod keys;
 mod listings;
 mod named_faults;
 mod pieces;
@@ -23,10 +25,8 @@ mod states;
 mod transactions;
 mod words;
 
-use fund_base::Memory;
-use row_columns::Answer;
+use row_columns::{Answer, Rows, answer_rows};
 use std::io;
-use std::io::{BufRead, BufReader};
 
 /// Answers a row.
 fn row(out: &mut Answer, family: &str, verb: &str, columns: &[&str]) {
@@ -38,35 +38,30 @@ fn row(out: &mut Answer, family: &str, verb: &str, columns: &[&str]) {
         "base58" => base58::row(out, verb, columns),
         "json" => fields::row(out, verb, columns),
         "file" => files::row(out, verb, columns),
+        "keys" => keys::row(out, columns),
         "words" => words::row(out, verb, columns),
+        "advice" => advice::row(out, verb, columns),
         "plain" => copies::row(out),
         _ => out.word("no such family"),
     }
 }
 
-/// Answers a line. The error is out of memory.
-fn line(out: &mut Answer, text: &str) -> Result<(), Memory> {
-    let columns: Vec<&str> = text.split('\t').collect(out.alloc)?;
-    match columns.as_slice() {
-        [family, verb, columns @ ..] => row(out, family, verb, columns),
-        _ => out.word(text),
-    }
-    Ok(())
-}
+/// What answers the rows of this program.
+#[derive(Clone, Copy)]
+struct Families;
 
-/// Answers a line, and prints the answer.
-fn show(rt: &HostRuntime, text: &str) -> io::Result<()> {
-    let mut out = Answer::new(rt.alloc());
-    let ended = line(&mut out, text);
-    out.end(ended);
-    out.end_line();
-    out.print(rt)
+impl Rows for Families {
+    fn put_row(&mut self, _rt: &HostRuntime, out: &mut Answer, columns: &[&str]) -> io::Result<()> {
+        match columns {
+            [family, verb, columns @ ..] => row(out, family, verb, columns),
+            [text] => out.word(text),
+            [] => {}
+        }
+        out.end_line();
+        Ok(())
+    }
 }
 
 fn main(rt: HostRuntime) -> io::Result<()> {
-    let alloc = rt.alloc();
-    for text in BufReader::new(alloc, rt.reader())?.lines(alloc) {
-        show(&rt, text?.as_str())?;
-    }
-    Ok(())
+    answer_rows(&rt, &mut Families)
 }

@@ -6,12 +6,23 @@ use fund_shelf::{Fault, MemShelf, Shelf};
 
 /// A shelf that gives at most so many bytes at each read, in turn, and then again from the first number on. A file that is
 /// shorter than so many zeros goes on with zero bytes up to there.
-#[derive(Drop)]
 pub(crate) struct Pieces {
     pub(crate) shelf: MemShelf,
     pub(crate) sizes: Vec<usize>,
     pub(crate) turn: usize,
     pub(crate) zeros: u64,
+}
+
+/// One call, wherever it is dropped.
+impl Drop for Pieces {
+    fn drop(self) {
+        let Pieces {
+            shelf: _,
+            sizes: _,
+            turn: _,
+            zeros: _,
+        } = self;
+    }
 }
 
 /// Makes each byte zero, up to the first so many, and tells how many they are.

@@ -84,17 +84,31 @@ pub(crate) fn output(alloc: Global, value: &str, script: &str) -> Result<TxOut, 
     })
 }
 
-/// The transaction of the columns.
-pub(crate) fn made(alloc: Global, columns: &[&str]) -> Result<Tx, Memory> {
+/// The one input of the columns.
+fn inputs(alloc: Global, columns: &[&str]) -> Result<Vec<TxIn>, Memory> {
+    let witness = witness(alloc, columns)?;
     let mut inputs = Vec::new(alloc);
     inputs.push(TxIn {
         prev: point_in(column(columns, 1), column(columns, 2)),
         script: script_in(alloc, column(columns, 3)),
         sequence: short_in(column(columns, 4)),
-        witness: witness(alloc, columns)?,
+        witness,
     })?;
+    Ok(inputs)
+}
+
+/// The one output of the columns.
+fn outputs(alloc: Global, columns: &[&str]) -> Result<Vec<TxOut>, Memory> {
+    let output = output(alloc, column(columns, 5), column(columns, 6))?;
     let mut outputs = Vec::new(alloc);
-    outputs.push(output(alloc, column(columns, 5), column(columns, 6))?)?;
+    outputs.push(output)?;
+    Ok(outputs)
+}
+
+/// The transaction of the columns.
+pub(crate) fn made(alloc: Global, columns: &[&str]) -> Result<Tx, Memory> {
+    let outputs = outputs(alloc, columns)?;
+    let inputs = inputs(alloc, columns)?;
     Ok(Tx {
         version: short_in(column(columns, 0)),
         inputs,

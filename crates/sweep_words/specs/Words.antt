@@ -20,7 +20,8 @@ use Rattle.pay_words.specs.declared.flag.Flag.TheVariants as flags
 -- the flags of `pay` that say nothing of a payment of all coins
 abbrev pub foreign_flags : List Flag
 foreign_flags =
-    flags.LongTerm
+    flags.PayFile
+    ∷ flags.LongTerm
     ∷ flags.Discard
     ∷ flags.ChangeTarget
     ∷ flags.Method

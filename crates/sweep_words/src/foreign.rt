@@ -8,7 +8,8 @@ ghost use Rattle.sweep_words.specs.Words.{foreign_at, is_foreign, is_payee, paye
 use pay_words::{Flag, flag_word};
 
 /// The flags of `pay` that say nothing of a payment of all coins.
-const FOREIGN: [Flag; 13] = [
+const FOREIGN: [Flag; 14] = [
+    Flag::PayFile,
     Flag::LongTerm,
     Flag::Discard,
     Flag::ChangeTarget,

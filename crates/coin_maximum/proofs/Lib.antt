@@ -1,0 +1,2 @@
+pub mod MaximumLaws
+pub mod MostLaws

@@ -1,0 +1,3 @@
+pub mod Words
+pub mod Filled
+pub mod Sentences

@@ -1,0 +1,5 @@
+pub mod Files
+pub mod Nothing
+pub mod Scripts
+pub mod Statuses
+pub mod Words
