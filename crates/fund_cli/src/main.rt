@@ -1,9 +1,11 @@
 //! The program: it makes the files, the standard output and the job file of the machine, and does the command of its words.
 #![tactic(auto)]
 
-use fund_shelf::{FileShelf, StdSink};
+use fund_outside::Keeper;
+use fund_shelf::{FileShelf, Shelf, Sink, StdSink};
 use fund_top::{Status, run};
 use keep_sqlite::SqliteKeeper;
+use std::alloc::Global;
 use std::env;
 use std::io::ErrorKind;
 use std::process::ExitCode;
@@ -25,15 +27,26 @@ fn words(rt: &HostRuntime) -> Result<Vec<String>, Status> {
     Ok(words)
 }
 
+/// Does a command; its status as a number.
+fn ended<H: Shelf, O: Sink, K: Keeper>(
+    alloc: Global,
+    words: &Vec<String>,
+    shelf: &mut H,
+    out: &mut O,
+    keeper: &mut K,
+) -> u8 {
+    run(alloc, words, shelf, out, keeper).code()
+}
+
 fn main(rt: HostRuntime) -> ExitCode {
-    let status = match words(&rt) {
+    let code = match words(&rt) {
         Ok(words) => {
             let mut shelf = FileShelf::new(&rt);
             let mut out = StdSink::new(&rt);
             let mut keeper = SqliteKeeper::new(&rt);
-            run(rt.alloc(), &words, &mut shelf, &mut out, &mut keeper)
+            ended(rt.alloc(), &words, &mut shelf, &mut out, &mut keeper)
         }
-        Err(status) => status,
+        Err(status) => status.code(),
     };
-    ExitCode::from(status.code())
+    ExitCode::from(code)
 }

@@ -17,6 +17,7 @@ use row_columns::{Answer, column, number_in, short_in};
 /// The keepers, and how many jobs were counted.
 #[derive(Drop)]
 pub(crate) struct Keepers<'a> {
+    rt: &'a HostRuntime,
     first: SqliteKeeper<&'a HostRuntime>,
     second: SqliteKeeper<&'a HostRuntime>,
     sure: SureKeeper,
@@ -104,6 +105,7 @@ impl<'a> Keepers<'a> {
     /// Keepers made anew.
     pub(crate) fn new(rt: &'a HostRuntime) -> Keepers<'a> {
         Keepers {
+            rt,
             first: SqliteKeeper::new(rt),
             second: SqliteKeeper::new(rt),
             sure: SureKeeper::new(rt.alloc()),
@@ -120,11 +122,11 @@ impl<'a> Keepers<'a> {
     }
 
     /// Makes a keeper of the job file anew.
-    fn make(&mut self, rt: &'a HostRuntime, number: &str) {
+    fn make(&mut self, number: &str) {
         if number == "1" {
-            self.first = SqliteKeeper::new(rt);
+            self.first = SqliteKeeper::new(self.rt);
         } else {
-            self.second = SqliteKeeper::new(rt);
+            self.second = SqliteKeeper::new(self.rt);
         }
     }
 
@@ -146,14 +148,13 @@ impl<'a> Keepers<'a> {
     /// Does a row.
     pub(crate) fn row(
         &mut self,
-        rt: &'a HostRuntime,
         out: &mut Answer,
         verb: &str,
         columns: &[&str],
     ) -> Result<(), KeepFault> {
         let number = column(columns, 0);
         match verb {
-            "anew" => self.make(rt, number),
+            "anew" => self.make(number),
             "same" if number == "1" => return same(out, &mut self.first, &mut self.sure),
             "same" => return same(out, &mut self.second, &mut self.sure),
             "kept" => return self.count(columns),

@@ -53,7 +53,6 @@ fn take(machine: &Machine, change: &'static str, faults: &mut u64) -> io::Result
 }
 
 /// A file of the machine, in memory.
-#[derive(Drop)]
 pub(crate) struct MachineFile<'a> {
     bytes: Vec<u8>,
     lasting: Vec<u8>,
@@ -62,6 +61,21 @@ pub(crate) struct MachineFile<'a> {
     is_log: bool,
     is_usable: bool,
     faults: u64,
+}
+
+/// One call, wherever it is dropped.
+impl<'a> Drop for MachineFile<'a> {
+    fn drop(self) {
+        let MachineFile {
+            bytes: _,
+            lasting: _,
+            torn: _,
+            machine: _,
+            is_log: _,
+            is_usable: _,
+            faults: _,
+        } = self;
+    }
 }
 
 impl<'a> MachineFile<'a> {

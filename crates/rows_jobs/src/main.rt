@@ -17,9 +17,8 @@ mod tables;
 
 use fund_outside::KeepFault;
 use keepers::Keepers;
-use row_columns::{Answer, column};
+use row_columns::{Answer, Rows, answer_rows, column};
 use std::io;
-use std::io::{BufRead, BufReader};
 
 /// Puts that a row could not be done.
 fn put_fault(out: &mut Answer, fault: KeepFault) {
@@ -29,55 +28,36 @@ fn put_fault(out: &mut Answer, fault: KeepFault) {
     }
 }
 
-/// Does a row, and puts what comes of it.
-fn row<'a>(
-    rt: &'a HostRuntime,
-    out: &mut Answer,
-    keepers: &mut Keepers<'a>,
-    columns: &[&str],
-) -> io::Result<()> {
-    let rest = columns.get(1..).unwrap_or(&[]);
-    match column(columns, 0) {
-        "say" => {
-            out.word(column(rest, 0));
-            out.word("\n");
-        }
-        "file" => return files::row(rt, out, rest),
-        "stops" => {
-            if let Err(fault) = stops::row(out, rest) {
-                put_fault(out, fault);
-            }
-        }
-        verb => {
-            if let Err(fault) = keepers.row(rt, out, verb, rest) {
-                put_fault(out, fault);
-            }
-        }
+/// Puts what came of a row where it could not be done.
+fn put_ended(out: &mut Answer, ended: Result<(), KeepFault>) {
+    if let Err(fault) = ended {
+        put_fault(out, fault);
     }
-    Ok(())
 }
 
-/// Does a line, and prints what comes of it.
-fn show<'a>(rt: &'a HostRuntime, keepers: &mut Keepers<'a>, line: &str) -> io::Result<()> {
-    let mut out = Answer::new(rt.alloc());
-    let columns: Vec<&str> = line.split('\t').collect(rt.alloc())?;
-    row(rt, &mut out, keepers, &columns)?;
-    if out.text().is_empty() {
-        return Ok(());
+impl<'a> Rows for Keepers<'a> {
+    fn put_row(&mut self, rt: &HostRuntime, out: &mut Answer, columns: &[&str]) -> io::Result<()> {
+        let rest = columns.get(1..).unwrap_or(&[]);
+        match column(columns, 0) {
+            "say" => {
+                out.word(column(rest, 0));
+                out.word("\n");
+            }
+            "file" => return files::row(rt, out, rest),
+            "stops" => {
+                let ended = stops::row(out, rest);
+                put_ended(out, ended);
+            }
+            verb => {
+                let ended = self.row(out, verb, rest);
+                put_ended(out, ended);
+            }
+        }
+        Ok(())
     }
-    out.end_line();
-    out.print(rt)
-}
-
-/// Does each line of the input.
-fn each<'a>(rt: &'a HostRuntime, keepers: &mut Keepers<'a>) -> io::Result<()> {
-    for line in BufReader::new(rt.alloc(), rt.reader())?.lines(rt.alloc()) {
-        show(rt, keepers, line?.as_str())?;
-    }
-    Ok(())
 }
 
 fn main(rt: HostRuntime) -> io::Result<()> {
     let mut keepers = Keepers::new(&rt);
-    each(&rt, &mut keepers)
+    answer_rows(&rt, &mut keepers)
 }

@@ -56,7 +56,7 @@ pub(crate) fn keep_all<K: Keeper>(
 }
 
 /// Writes an answer: the bytes in a line, or that there were none.
-fn note(text: &mut Vec<u8>, found: Option<Vec<u8>>) -> Result<(), AllocError> {
+fn note(text: &mut Vec<u8>, found: &Option<Vec<u8>>) -> Result<(), AllocError> {
     match found {
         Some(bytes) => {
             text.push(b'=')?;
@@ -68,16 +68,26 @@ fn note(text: &mut Vec<u8>, found: Option<Vec<u8>>) -> Result<(), AllocError> {
     Ok(())
 }
 
+/// Writes what a keeper holds of a part of a job.
+fn note_part<K: Keeper>(
+    keeper: &mut K,
+    text: &mut Vec<u8>,
+    job: &str,
+    number: u32,
+) -> Result<(), KeepFault> {
+    let part = keeper.part(job, number)?;
+    note(text, &part)?;
+    Ok(())
+}
+
 /// Writes what a keeper holds of a job: its saved text, and its first six parts.
 fn note_job<K: Keeper>(keeper: &mut K, text: &mut Vec<u8>, job: &str) -> Result<(), KeepFault> {
     let saved = keeper.load(job)?;
-    note(text, saved)?;
+    note(text, &saved)?;
     for number in 0..6 {
-        let part = match keeper.part(job, number) {
-            Ok(part) => part,
-            Err(fault) => return Err(fault),
-        };
-        note(text, part)?;
+        if let Err(fault) = note_part(keeper, text, job, number) {
+            return Err(fault);
+        }
     }
     Ok(())
 }
