@@ -22,24 +22,16 @@ for size in 1 16 64; do
     python3 "$top/bench/make_fund.py" "$size/wallet.json" "$size/blocks.dat" "$size/request.json" --pairs --coins 1000 --listed 10 --bytes $((size * 1024 * 1024)) >"$size/made"
     echo "close a" >"$size/script"
 done
-python3 - "${programs[@]}" <<'PYTHON'
-import os, re, sys
-
-for program in sys.argv[1:]:
-    print(program)
-    taken = {}
-    for size in (1, 16, 64):
-        child = os.fork()
-        if child == 0:
-            os.chdir(str(size))
-            os.dup2(os.open("printed", os.O_WRONLY | os.O_CREAT | os.O_TRUNC), 1)
-            os.execv(program, [program, "desk", "wallet.json", "blocks.dat", "script"])
-        _, ended, used = os.wait4(child, 0)
-        printed = open(f"{size}/printed").read()
-        assert os.waitstatus_to_exitcode(ended) == 0 and "no-job a" in printed, printed[-300:]
-        count = int(re.search(r"(\d+) transactions", open(f"{size}/made").read())[1])
-        taken[size] = (used.ru_maxrss * 1024, count)
-        print(f"{size} MiB, {count} transactions: {used.ru_utime + used.ru_stime:.2f} s, {used.ru_maxrss / 1024:.1f} MiB")
-    (least, few), (most, many) = taken[1], taken[64]
-    print(f"{(most - least) / (many - few):.0f} bytes for each transaction")
-PYTHON
+for program in "${programs[@]}"; do
+    echo "$program"
+    for size in 1 16 64; do
+        cd "$folder/$size"
+        taken=$(best 1 0 printed "$program" desk wallet.json blocks.dat script)
+        grep -q "^no-job a" printed || { tail -n 3 printed >&2; exit 1; }
+        count=$(grep -oE '[0-9]+ transactions' made | cut -d' ' -f1)
+        echo "$size MiB, $count transactions: $(seconds "$taken") s, $(memory "$taken") MiB"
+        if [ "$size" = 1 ]; then least=$(memory "$taken") few=$count; fi
+    done
+    awk -v least="$least" -v few="$few" -v most="$(memory "$taken")" -v many="$count" \
+        'BEGIN { printf "%.0f bytes for each transaction\n", 1048576 * (most - least) / (many - few) }'
+done

@@ -11,33 +11,14 @@
 built fund_cli coins data/wallet.json data/blocks.dat
 cd "$folder"
 
-# best NAME STATUS COMMAND..: the least processor time of five runs in milliseconds; NAME has what they print
-best() {
-    python3 - "$@" <<'PYTHON'
-import os, sys
-
-name, status, *words = sys.argv[1:]
-least = 1e9
-for _ in range(5):
-    child = os.fork()
-    if child == 0:
-        os.dup2(os.open(name, os.O_WRONLY | os.O_CREAT | os.O_TRUNC), 1)
-        os.execv(words[0], words)
-    _, ended, used = os.wait4(child, 0)
-    assert os.waitstatus_to_exitcode(ended) == int(status), words
-    least = min(least, 1000 * (used.ru_utime + used.ru_stime))
-print(f"{least:.1f}")
-PYTHON
-}
-
 # judge WHAT STATUS: times both, where `fund` ends with this status
 judge() {
     local fund check
-    fund=$(best report "$2" "$program" fund wallet.json blocks.dat request.json log)
-    check=$(best said 0 "$program" check wallet.json blocks.dat request.json report log)
+    fund=$(best 5 "$2" report "$program" fund wallet.json blocks.dat request.json log)
+    check=$(best 5 0 said "$program" check wallet.json blocks.dat request.json report log)
     [ "$(head -1 said)" = accepted ]
-    awk -v what="$1" -v report="$(grep -E '^(none|funded|tries)' report | paste -sd' ')" -v fund="$fund" -v check="$check" \
-        'BEGIN { printf "%s, %s: fund %.1f ms, check %.1f ms, ratio %.2f\n", what, report, fund, check, check / fund }'
+    awk -v what="$1" -v report="$(grep -E '^(none|funded|tries)' report | paste -sd' ')" -v fund="$(seconds "$fund")" -v check="$(seconds "$check")" \
+        'BEGIN { printf "%s, %s: fund %.1f ms, check %.1f ms, ratio %.2f\n", what, report, 1000 * fund, 1000 * check, check / fund }'
 }
 
 load

@@ -11,8 +11,8 @@
 stored bench_all check data/log.txt
 rustc -O "$top/bench/peers/checker.rs" -o "$folder/peer"
 
-# best COMMAND..: the least number of milliseconds that five runs print, as `N ms`
-best() {
+# fastest COMMAND..: the least number of milliseconds that five runs print, as `N ms`
+fastest() {
     for _ in 1 2 3 4 5; do
         "$@"
     done | grep -oE '[0-9]+ ms' | sort -n | head -1
@@ -30,7 +30,7 @@ for kind in changeless lean; do
         said=$("$program" check "$folder/log.txt")
         plain=$("$folder/peer" check "$folder/log.txt")
         [ "$(word "$said")" = "$(word "$plain")" ] || { echo "they differ: $said, $plain" >&2; exit 1; }
-        echo "$kind, $count items, $said: $(best "$program" check "$folder/log.txt" timed), plain $(best "$folder/peer" check "$folder/log.txt")"
+        echo "$kind, $count items, $said: $(fastest "$program" check "$folder/log.txt" timed), plain $(best "$folder/peer" check "$folder/log.txt")"
         rm "$folder/log.txt"
     done
 done

@@ -14,22 +14,10 @@ cd "$folder"
 
 # timed WHAT LINE: does `script` three times; LINE is the last that it has to print
 timed() {
-    python3 - "$program" "$@" <<'PYTHON'
-import os, sys
-
-program, what, last = sys.argv[1:]
-best, most = None, 0
-for _ in range(3):
-    child = os.fork()
-    if child == 0:
-        os.dup2(os.open("printed", os.O_WRONLY | os.O_CREAT | os.O_TRUNC), 1)
-        os.execv(program, [program, "desk", "wallet.json", "blocks.dat", "script"])
-    _, ended, used = os.wait4(child, 0)
-    printed = open("printed").read().split("\n")
-    assert os.waitstatus_to_exitcode(ended) == 0 and printed[-2].startswith(last), printed[-3:]
-    best, most = min(best or 1e9, used.ru_utime + used.ru_stime), max(most, used.ru_maxrss)
-print(f"{what}: {best:.3f} s, {most / 1024:.1f} MiB")
-PYTHON
+    local taken
+    taken=$(best 3 0 printed "$program" desk wallet.json blocks.dat script)
+    tail -n 1 printed | grep -q "^$2" || { tail -n 3 printed >&2; exit 1; }
+    echo "$1: $(seconds "$taken") s, $(memory "$taken") MiB"
 }
 
 # repeat COUNT WORDS: so many lines, in which N is the number of the line

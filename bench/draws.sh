@@ -10,11 +10,11 @@
 stored bench_all draw 1000 500 3
 rustc -O "$top/bench/peers/draw.rs" -o "$folder/peer"
 
-# best COMMAND..: the least user time of five runs, in seconds
-best() {
-    for _ in 1 2 3 4 5; do
-        { TIMEFORMAT=%U; time "$@" >/dev/null; } 2>&1
-    done | sort -n | head -1
+# least COMMAND..: the least processor time of five runs, in seconds
+least() {
+    local taken
+    taken=$(best 5 0 /dev/null "$@")
+    seconds "$taken"
 }
 
 load
@@ -23,8 +23,8 @@ for part in 1 2 20 0; do
         kept=0
         if [ "$part" -gt 0 ]; then kept=$((count / part)); fi
         seeds=$((2000000 / count))
-        ours=$(best "$program" draw "$count" "$kept" "$seeds")
-        peer=$(best "$folder/peer" "$count" "$kept" "$seeds")
+        ours=$(least "$program" draw "$count" "$kept" "$seeds")
+        peer=$(least "$folder/peer" "$count" "$kept" "$seeds")
         awk -v count="$count" -v kept="$kept" -v ours="$ours" -v peer="$peer" -v seeds="$seeds" 'BEGIN {
             printf "%5d items, %5d of them within the limit: draw %.1f us, plain %.1f us\n", count, kept, ours / seeds * 1e6, peer / seeds * 1e6 }'
     done

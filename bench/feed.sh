@@ -13,44 +13,29 @@ made=$(python3 "$top/bench/make_blocks.py" "$file" --seed "${1:-1}" --bytes "${2
 stored bench_all feed data/feed.dat
 rustc --edition 2021 -O "$top/bench/peers/reader.rs" -o "$folder/peer"
 
-# The processor time of a command in seconds.
-seconds() {
-    { TIMEFORMAT='%U %S'; time "$@" >"$folder/printed.txt"; } 2>&1 | awk '{ print $1 + $2 }'
-}
-
-# least SECONDS..: the least of these
+# least TAKEN..: of these the one of the least time
 least() {
     printf '%s\n' "$@" | sort -n | head -1
 }
 
-# memory_of WORDS..: the greatest memory of a command in KiB
-memory_of() {
-    { /usr/bin/time -f %M "$@" >"$folder/printed.txt"; } 2>&1
-}
-
-best_feed=
-best_peer=
-best_sum=
-best_openssl=
+feed=() peer=() sum=() openssl=()
 for _ in 1 2 3; do
-    sum=$(seconds sha256sum "$file")
-    openssl=$(seconds openssl dgst -sha256 "$file")
-    feed=$(seconds "$program" feed "$file")
+    sum+=("$(best 1 0 /dev/null sha256sum "$file")")
+    openssl+=("$(best 1 0 /dev/null openssl dgst -sha256 "$file")")
+    feed+=("$(best 1 0 "$folder/printed.txt" "$program" feed "$file")")
     read -r printed <"$folder/printed.txt"
-    peer=$(seconds "$folder/peer" "$file")
+    peer+=("$(best 1 0 "$folder/printed.txt" "$folder/peer" "$file")")
     read -r said <"$folder/printed.txt"
     [ "$printed" = "$made" ] && [ "$said" = "$made" ] || { echo "made: $made; read: $printed, $said" >&2; exit 1; }
-    best_sum=$(least $best_sum "$sum")
-    best_openssl=$(least $best_openssl "$openssl")
-    best_feed=$(least $best_feed "$feed")
-    best_peer=$(least $best_peer "$peer")
 done
+best_feed=$(least "${feed[@]}") best_peer=$(least "${peer[@]}")
+best_sum=$(seconds "$(least "${sum[@]}")") best_openssl=$(seconds "$(least "${openssl[@]}")")
 
 echo "file:       $(stat -c %s "$file") bytes, $made"
 load
-echo "bench_all:  $best_feed s, $(memory_of "$program" feed "$file") KiB"
-echo "plain Rust: $best_peer s, $(memory_of "$folder/peer" "$file") KiB"
+echo "bench_all:  $(seconds "$best_feed") s, $(memory "$best_feed") MiB"
+echo "plain Rust: $(seconds "$best_peer") s, $(memory "$best_peer") MiB"
 echo "sha256sum:  $best_sum s"
 echo "openssl:    $best_openssl s"
-awk -v feed="$best_feed" -v sum="$best_sum" -v openssl="$best_openssl" -v peer="$best_peer" \
+awk -v feed="$(seconds "$best_feed")" -v sum="$best_sum" -v openssl="$best_openssl" -v peer="$(seconds "$best_peer")" \
     'BEGIN { printf "ratios:     %.2f to sha256sum, %.2f to openssl; plain Rust %.2f to ours\n", feed / sum, feed / openssl, peer / feed }'

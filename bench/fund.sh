@@ -11,20 +11,16 @@
 built fund_cli coins data/wallet.json data/blocks.dat
 cd "$folder"
 python3 "$top/bench/make_fund.py" wallet.json blocks.dat request.json --seed "${1:-1}" --method "${2:-manual}" --tries "${3:-100000}"
-python3 - "$program" <<'PYTHON'
-import collections, re, resource, subprocess, sys, time
+PYTHONPATH=$top/bench python3 - "$program" <<'PYTHON'
+import collections, re, subprocess, sys
+from timing import best
 
 command = [sys.argv[1], "fund", "wallet.json", "blocks.dat", "request.json", "log"]
-best = None
-for _ in range(3):
-    start = time.monotonic()
-    printed = subprocess.run(command, check=True, capture_output=True).stdout
-    best = min(best or 1e9, time.monotonic() - start)
-assert printed.startswith(b"funded "), printed[:100]
-lines = printed.decode().splitlines()
+taken = best(command, output="report")
+lines = open("report").read().splitlines()
+assert lines[0].startswith("funded "), lines[:1]
 print(", ".join(lines[:4]) + f", {sum(line.startswith('in ') for line in lines)} coins")
-memory = resource.getrusage(resource.RUSAGE_CHILDREN).ru_maxrss // 1024
-print(f"time: {best:.2f} s, {memory} MiB of memory, load {open('/proc/loadavg').read().split()[0]}")
+print(f"time: {taken.seconds:.2f} s, {taken.memory // 1048576} MiB of memory, load {open('/proc/loadavg').read().split()[0]}")
 
 SHARES = (
     ("hashing", r"sha2::"),
@@ -35,7 +31,7 @@ SHARES = (
     ("states and candidates", r"payment_states::|coin_candidates::"),
     ("book of coins", r"coin_book::|indexmap::"),
     ("JSON and hex", r"serde_json|\bjson|json_fields::|wallet_text::|request_text::|\bhex::"),
-    ("reading transactions and blocks", r"tx_codec::|block_feed::|fund_base::|fund_shelf::|fund_top::blocks"),
+    ("reading transactions and blocks", r"tx_codec::|block_feed::|fund_base::|fund_shelf::|fund_files::"),
 )
 subprocess.run(["perf", "record", "-q", "-F", "4999", "-o", "perf.data", *command], check=True, stdout=subprocess.DEVNULL)
 report = subprocess.run(["perf", "report", "-i", "perf.data", "--no-children", "--stdio"], check=True, capture_output=True, text=True).stdout

@@ -8,7 +8,14 @@ and its report is changed: the global map of its PSBT gets pairs of a type witho
 transaction spends its second coin again and again. A desk's script has `pending` lines of as many transactions. All come from a
 seed. The time is the best of three runs, from start to end. A command that ends with another status than is due ends this.
 """
-import base64, os, random, subprocess, sys, tempfile, time
+import base64
+import os
+import random
+import subprocess
+import sys
+import tempfile
+
+from timing import best
 
 DATA = os.path.join(os.path.dirname(os.path.abspath(__file__)), "..", "crates", "fund_cli", "data")
 PAIRS = (1_000, 100_000, 1_000_000, 5_000_000)
@@ -43,17 +50,9 @@ def pending(rng):
     return "0200000001" + rng.randbytes(32).hex() + "00000000" + tail
 
 
-def best(words, status):
+def least(words, status):
     """The least seconds of three runs."""
-    least = None
-    for _ in range(3):
-        begin = time.monotonic()
-        ran = subprocess.run(words, stdout=subprocess.DEVNULL, check=False)
-        took = time.monotonic() - begin
-        if ran.returncode != status:
-            sys.exit(f"{' '.join(words)}: status {ran.returncode}, and {status} is due")
-        least = took if least is None else min(least, took)
-    return least
+    return best(words, status=status).seconds
 
 
 def main():
@@ -70,7 +69,7 @@ def main():
         def check(made, status):
             with open(report, "w") as file:
                 file.write("\n".join([*lines[:-1], "psbt " + base64.b64encode(made).decode(), ""]))
-            return best([program, "check", wallet, blocks, request, report, log], status)
+            return least([program, "check", wallet, blocks, request, report, log], status)
 
         for count in PAIRS:
             print(f"a PSBT of {count} pairs in one map: {check(with_pairs(psbt, count, rng), 0):.2f} s", flush=True)
@@ -79,7 +78,7 @@ def main():
         for count in LINES:
             with open(script, "w") as file:
                 file.writelines(f"pending {pending(rng)}\n" for _ in range(count))
-            print(f"{count} pending lines: {best([program, 'desk', wallet, blocks, script], 0):.2f} s", flush=True)
+            print(f"{count} pending lines: {least([program, 'desk', wallet, blocks, script], 0):.2f} s", flush=True)
 
 
 main()

@@ -9,16 +9,13 @@ in all. Each payment spends the first output of the one before it. The same word
 
 import argparse
 import random
-import struct
 
-from make_blocks import MAGIC, coinbase, compact_size, double_sha256, merkle_root, string
+from make_blocks import coinbase
+from lib.bitcoin import block, double_sha256, record, transaction
 
 
 def payment(rng, parent, script, outputs):
-    out = b"".join(struct.pack("<Q", rng.randrange(546, 1_000_000)) + string(script) for _ in range(outputs))
-    return b"".join([
-        struct.pack("<I", 2), b"\x01", parent, bytes(4), b"\x00", b"\xfd\xff\xff\xff", compact_size(outputs), out, bytes(4),
-    ])
+    return transaction([(parent, 0)], [(rng.randrange(546, 1_000_000), script) for _ in range(outputs)])
 
 
 def main():
@@ -43,11 +40,8 @@ def main():
             txs = [coinbase(rng, height), payment(rng, parent, script, min(left, words.block_coins))]
             left -= min(left, words.block_coins)
             parent = double_sha256(txs[1])
-            root = merkle_root([double_sha256(tx) for tx in txs])
-            header = struct.pack("<I", 4) + previous + root + struct.pack("<III", 1_231_006_505 + 600 * height, 0x207FFFFF, 0)
-            body = header + compact_size(len(txs)) + b"".join(txs)
-            previous = double_sha256(header)
-            file.write(MAGIC + struct.pack("<I", len(body)) + body)
+            body, previous = block(previous, height, txs)
+            file.write(record(body))
     print(f"{words.coins} coins, {height} blocks")
 
 

@@ -14,9 +14,9 @@ each, and else one to three. The same words give the same bytes.
 import argparse
 import json
 import random
-import struct
 
-from make_blocks import MAGIC, coinbase, compact_size, double_sha256, merkle_root, spend, string
+from make_blocks import coinbase, spend
+from lib.bitcoin import block, double_sha256, record, shown, transaction
 
 OUTPUTS = 20
 SCRIPTS = 100
@@ -26,10 +26,9 @@ BLOCK_BYTES = 1_000_000
 def payment(rng, scripts):
     """A payment to the wallet, its txid, and what its outputs are worth."""
     values = [rng.randrange(10_000, 1_000_000) for _ in range(OUTPUTS)]
-    outputs = b"".join(struct.pack("<Q", value) + string(rng.choice(scripts)) for value in values)
-    start = struct.pack("<I", 2) + b"\x01" + rng.randbytes(32) + bytes(4) + b"\x00" + b"\xfd\xff\xff\xff"
-    text = start + compact_size(OUTPUTS) + outputs + bytes(4)
-    return text, double_sha256(text)[::-1].hex(), values
+    outputs = [(value, rng.choice(scripts)) for value in values]
+    text = transaction([(rng.randbytes(32), 0)], outputs)
+    return text, shown(double_sha256(text)), values
 
 
 def write_blocks(rng, name, payments, wanted, many=None):
@@ -45,12 +44,8 @@ def write_blocks(rng, name, payments, wanted, many=None):
             while size < min(BLOCK_BYTES, wanted - written):
                 txs.append(spend(rng, many, many))
                 size += len(txs[-1])
-            root = merkle_root([double_sha256(tx) for tx in txs])
-            header = struct.pack("<I", 4) + previous + root + struct.pack("<III", 1_231_006_505 + 600 * height, 0x207FFFFF, 0)
-            body = header + compact_size(len(txs)) + b"".join(txs)
-            previous = double_sha256(header)
-            file.write(MAGIC + struct.pack("<I", len(body)) + body)
-            written += 8 + len(body)
+            body, previous = block(previous, height, txs)
+            written += file.write(record(body))
             count += len(txs)
     return height, count
 

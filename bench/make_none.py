@@ -6,7 +6,13 @@ Usage: bench/make_none.py WALLET BLOCKS REQUEST [COINS]
 Each coin is worth a multiple of 100,000 satoshi, and the payment ends with 50,000, so that no set of coins lies in the
 narrow window of a payment without change. The block file is empty. With 23 coins there are some 4.5 million tries.
 """
-import json, random, struct, sys
+import json
+import random
+import sys
+from pathlib import Path
+
+sys.path.insert(0, str(Path(__file__).resolve().parent.parent / "tests"))
+from lib.bitcoin import transaction
 
 SCRIPT = "0014" + 20 * "11"
 
@@ -18,9 +24,8 @@ def main():
     values = [100_000 * rng.randrange(30, 60) for _ in range(count)]
     earlier = []
     for number, value in enumerate(values):
-        start = struct.pack("<I", 2) + b"\x01" + struct.pack("<I", number) + 28 * b"\x07" + bytes(4) + b"\x00" + b"\xfd\xff\xff\xff"
-        output = b"\x01" + struct.pack("<Q", value) + b"\x16" + bytes.fromhex(SCRIPT)
-        earlier.append({"tx": (start + output + bytes(4)).hex(), "height": 1})
+        spent = number.to_bytes(4, "little") + 28 * b"\x07"
+        earlier.append({"tx": transaction([(spent, 0)], [(value, bytes.fromhex(SCRIPT))]).hex(), "height": 1})
     watched = {"script": SCRIPT, "weight": 272}
     with open(wallet, "w") as file:
         json.dump({"height": 200, "hash": 64 * "0", "scripts": [watched], "change": watched, "earlier": earlier,

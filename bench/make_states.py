@@ -8,25 +8,20 @@ coin, each other one an output of the one before it, and each pays a listed scri
 """
 
 import argparse
-import hashlib
 import random
-import struct
+import sys
+from pathlib import Path
+
+sys.path.insert(0, str(Path(__file__).resolve().parent.parent / "tests"))
+from lib.bitcoin import double_sha256, transaction
 
 SCRIPT = b"\x00\x14" + b"\xaa" * 20
 OUTPUTS = 200
 
 
-def txid(data):
-    return hashlib.sha256(hashlib.sha256(data).digest()).digest()
-
-
-def transaction(spent, index, values):
-    """A transaction in the legacy form with one input, and an output of each value to the listed script."""
-    outputs = b"".join(struct.pack("<Q", value) + b"\x16" + SCRIPT for value in values)
-    return b"".join([
-        struct.pack("<I", 2), b"\x01", spent, struct.pack("<I", index), b"\x00", b"\xfd\xff\xff\xff",
-        bytes([len(values)]), outputs, bytes(4),
-    ])
+def paying(spent, index, values):
+    """A transaction that spends one output, with an output of each value to the listed script."""
+    return transaction([(spent, index)], [(value, SCRIPT) for value in values])
 
 
 def main():
@@ -40,17 +35,17 @@ def main():
     rng = random.Random(words.seed)
     earlier, points = [], []
     for _ in range(words.coins // OUTPUTS):
-        tx = transaction(rng.randbytes(32), 0, [rng.randrange(546, 1_000_000) for _ in range(OUTPUTS)])
+        tx = paying(rng.randbytes(32), 0, [rng.randrange(546, 1_000_000) for _ in range(OUTPUTS)])
         earlier.append('{"tx":"%s","height":%d}' % (tx.hex(), rng.randrange(800_000)))
-        points.append(txid(tx))
+        points.append(double_sha256(tx))
     pending = []
     for number in range(words.payments):
         if number % words.chain == 0:
             chain = number // words.chain
             spent, index = points[chain % len(points)], chain // len(points)
-        tx = transaction(spent, index, [rng.randrange(546, 1_000_000)])
+        tx = paying(spent, index, [rng.randrange(546, 1_000_000)])
         pending.append('"%s"' % tx.hex())
-        spent, index = txid(tx), 0
+        spent, index = double_sha256(tx), 0
     text = '{"height":800000,"hash":"%s","scripts":[{"script":"%s","weight":272}],"change":{"script":"%s","weight":272},"earlier":[%s],"pending":[%s]}' % (
         rng.randbytes(32).hex(), SCRIPT.hex(), SCRIPT.hex(), ",".join(earlier), ",".join(pending))
     with open(words.file, "w", encoding="ascii") as file:

@@ -8,21 +8,18 @@ output of the one before it. The file has at most --bytes bytes. The same words 
 """
 
 import argparse
-import hashlib
 import random
-import struct
+import sys
+from pathlib import Path
+
+sys.path.insert(0, str(Path(__file__).resolve().parent.parent / "tests"))
+from lib.bitcoin import double_sha256, transaction
 
 
-def double_sha256(data):
-    return hashlib.sha256(hashlib.sha256(data).digest()).digest()
-
-
-def transaction(rng, parent):
-    """A transaction in the legacy form with one input and one output."""
-    return b"".join([
-        struct.pack("<I", 2), b"\x01", parent, bytes(4), b"\x00", b"\xfd\xff\xff\xff",
-        b"\x01", struct.pack("<Q", rng.randrange(546, 1_000_000)), b"\x16\x00\x14", rng.randbytes(20), bytes(4),
-    ])
+def paying(rng, parent):
+    """A transaction with one input and one output."""
+    value = rng.randrange(546, 1_000_000)
+    return transaction([(parent, 0)], [(value, b"\x00\x14" + rng.randbytes(20))])
 
 
 def entries(share, make):
@@ -49,13 +46,13 @@ def main():
         return '{"script":"0014%s","weight":272}' % rng.randbytes(20).hex()
 
     def earlier():
-        return '{"tx":"%s","height":%d}' % (transaction(rng, rng.randbytes(32)).hex(), rng.randrange(800_000))
+        return '{"tx":"%s","height":%d}' % (paying(rng, rng.randbytes(32)).hex(), rng.randrange(800_000))
 
     parent = rng.randbytes(32)
 
     def pending():
         nonlocal parent
-        tx = transaction(rng, parent)
+        tx = paying(rng, parent)
         parent = double_sha256(tx)
         return '"%s"' % tx.hex()
 

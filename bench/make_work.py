@@ -6,7 +6,13 @@ Usage: bench/make_work.py WALLET BLOCKS REQUEST NUMBER COUNT [TRIES]
 With TRIES the request asks for so many, and to stop where they are used up. The block file is empty. The words are those
 of ChaCha20 (RFC 8439), with the number as the key.
 """
-import json, struct, sys
+import json
+import struct
+import sys
+from pathlib import Path
+
+sys.path.insert(0, str(Path(__file__).resolve().parent.parent / "tests"))
+from lib.bitcoin import FINAL, transaction
 
 KINDS = [("0014" + 20 * "11", 272), ("5120" + 32 * "22", 230), ("76a914" + 20 * "33" + "88ac", 593)]
 MASK = 0xFFFFFFFF
@@ -40,10 +46,9 @@ def main():
     drawn, total, earlier = words(number), 0, []
     for coin in range(count):
         value, kind = 10_000 + next(drawn) % 5_000_000, next(drawn) % 3
-        script = bytes.fromhex(KINDS[kind][0])
-        spent = struct.pack("<I", coin) + 28 * b"\x01" + bytes(4)
-        made = struct.pack("<I", 2) + b"\x01" + spent + b"\x00" + 4 * b"\xff" + b"\x01" + struct.pack("<Q", value)
-        earlier.append({"tx": (made + bytes([len(script)]) + script + bytes(4)).hex(), "height": 100})
+        spent = coin.to_bytes(4, "little") + 28 * b"\x01"
+        made = transaction([(spent, 0)], [(value, bytes.fromhex(KINDS[kind][0]))], FINAL)
+        earlier.append({"tx": made.hex(), "height": 100})
         total += value
     scripts = [{"script": script, "weight": weight} for script, weight in KINDS]
     with open(wallet, "w") as file:

@@ -21,6 +21,16 @@ stored() {
     grep -qxF "$(cat "$folder/small.txt")" stdout
 }
 
+# best RUNS STATUS FILE COMMAND..: the least processor time of so many runs in seconds, and the greatest memory in MiB, as two words.
+# Each must end with this status; FILE has what the last one prints.
+best() {
+    python3 "$top/bench/timing.py" "$@"
+}
+
+# seconds TAKEN, memory TAKEN: the first and the second of these words
+seconds() { echo "${1% *}"; }
+memory() { echo "${1#* }"; }
+
 # load: that of the system, and how many processors it has
 load() {
     echo "load:   $(cut -d' ' -f1-3 /proc/loadavg) on $(nproc) processors"

@@ -15,20 +15,8 @@ cd "$folder"
 
 # timed WHAT STATUS COMMAND..: its processor time, its greatest memory, and the first words that it prints
 timed() {
-    python3 - "$@" <<'PYTHON'
-import os, sys
-
-what, status, *words = sys.argv[1:]
-child = os.fork()
-if child == 0:
-    os.dup2(os.open("printed", os.O_WRONLY | os.O_CREAT | os.O_TRUNC), 1)
-    os.execv(words[0], words)
-_, ended, used = os.wait4(child, 0)
-assert os.waitstatus_to_exitcode(ended) == int(status), (words, ended)
-said = " ".join(line for line in open("printed").read().split("\n") if line.split(" ")[0] in ("funded", "none", "unfinished", "tries", "accepted"))
-print(f"{what}: {used.ru_utime + used.ru_stime:.3f} s, {used.ru_maxrss / 1024:.0f} MiB, {said}")
-open("seconds", "w").write(str(used.ru_utime + used.ru_stime))
-PYTHON
+    taken=$(best 1 "$2" printed "${@:3}")
+    echo "$1: $(seconds "$taken") s, $(memory "$taken") MiB, $(grep -E '^(funded|none|unfinished|tries|accepted)' printed | paste -sd' ')"
 }
 
 load
@@ -48,13 +36,13 @@ job() {
 job 28 1000000
 timed "28 coins, fund with 1,000,000 tries" 10 "$program" fund wallet.json blocks.dat request.json log
 timed "28 coins, fund with a job, 1,000,000 tries" 10 "$program" fund wallet.json blocks.dat request.json log short
-once=$(cat seconds)
+once=$(seconds "$taken")
 job 28 3000000
 timed "28 coins, fund with a job" 10 "$program" fund wallet.json blocks.dat request.json log open
 for run in second third fourth; do
     timed "28 coins, the $run run" 10 "$program" resume wallet.json blocks.dat request.json log open
 done
-more=$(cat seconds)
+more=$(seconds "$taken")
 job 26 3000000
 timed "26 coins, fund with a job" 10 "$program" fund wallet.json blocks.dat request.json log none
 timed "26 coins, the second run" 10 "$program" resume wallet.json blocks.dat request.json log none
@@ -62,6 +50,6 @@ timed "26 coins, the third run, to its end" 11 "$program" resume wallet.json blo
 cp printed report
 timed "26 coins, check" 0 "$program" check wallet.json blocks.dat request.json report log
 tries=$(sed -n 's/^tries //p' report)
-awk -v once="$once" -v more="$more" -v check="$(cat seconds)" -v tries="$tries" 'BEGIN {
+awk -v once="$once" -v more="$more" -v check="$(seconds "$taken")" -v tries="$tries" 'BEGIN {
     printf "restoring 9,000,000 tries: %.3f s; checking a log of as many: %.3f s\n", more - once, check * 9000000 / tries
 }'

@@ -8,32 +8,20 @@ items of both kinds the run makes TRIES tries in one turn, and in turns of 50, e
 to. The least processor time of ROUNDS rounds counts, less that of a run without tries; and the greatest memory, less that
 of a run without tries, by the tries. What both print must be equal.
 """
-import os, sys, tempfile
+import os
+import sys
+import tempfile
 
-sys.path.insert(0, os.path.dirname(os.path.abspath(__file__)))
+from timing import best
 from walks import problem
 
 TURN = 50
 
 
-def once(words):
-    """The processor time in seconds, the greatest memory in bytes, and the output of a command."""
-    read, write = os.pipe()
-    child = os.fork()
-    if child == 0:
-        os.dup2(write, 1)
-        os.execv(words[0], words)
-    os.close(write)
-    with os.fdopen(read) as out:
-        text = out.read()
-    _, status, used = os.wait4(child, 0)
-    assert status == 0, words
-    return used.ru_utime + used.ru_stime, used.ru_maxrss * 1024, text
-
-
-def best(rounds, words):
-    runs = [once(words) for _ in range(rounds)]
-    return min(run[0] for run in runs), max(run[1] for run in runs), runs[0][2]
+def timed(rounds, words, output):
+    """The least processor time in seconds, the greatest memory in bytes, and what the last run prints."""
+    taken = best(words, rounds, output=output)
+    return *taken, open(output).read()
 
 
 def main():
@@ -44,11 +32,11 @@ def main():
     with tempfile.TemporaryDirectory() as folder:
         for count in (100, 1_000, 10_000):
             for kind in ("changeless", "lean"):
-                path = f"{folder}/{kind}-{count}"
+                path, printed = f"{folder}/{kind}-{count}", f"{folder}/printed"
                 problem(path, kind, count)
-                none, room, _ = best(rounds, [program, "run", path, "0", "1"])
-                whole, whole_room, whole_text = best(rounds, [program, "run", path, str(tries), str(tries)])
-                turns, turns_room, turns_text = best(rounds, [program, "run", path, str(tries), str(TURN)])
+                none, room, _ = timed(rounds, [program, "run", path, "0", "1"], printed)
+                whole, whole_room, whole_text = timed(rounds, [program, "run", path, str(tries), str(tries)], printed)
+                turns, turns_room, turns_text = timed(rounds, [program, "run", path, str(tries), str(TURN)], printed)
                 assert whole_text == turns_text, (whole_text, turns_text)
                 print(
                     f"{count:>6,} {kind:<10} one turn {1e9 * (whole - none) / tries:6.1f} ns a try, "

@@ -13,7 +13,13 @@ a fifth of the plain form's time or more.
 The wide walk goes over the same coins at 10 now and in the long run 25, so that each input saves what it costs later. Its
 peer is bench/peers/wide.rs, with running sums. With the word WIDE the usual walks are left out.
 """
-import os, random, subprocess, sys, tempfile
+import os
+import random
+import subprocess
+import sys
+import tempfile
+
+from timing import once
 
 HERE = os.path.dirname(os.path.abspath(__file__))
 
@@ -45,21 +51,9 @@ def problem(path, kind, count):
 
 def run(words):
     """The output of a program, and the processor seconds that it took."""
-    read, write = os.pipe()
-    child = os.fork()
-    if child == 0:
-        os.dup2(write, 1)
-        os.close(read)
-        os.execv(words[0], words)
-    os.close(write)
-    output = b""
-    while piece := os.read(read, 65536):
-        output += piece
-    os.close(read)
-    _, status, usage = os.wait4(child, 0)
-    if status:
-        sys.exit(f"{words} ended with {status}")
-    return output.decode(), usage.ru_utime + usage.ru_stime
+    with tempfile.NamedTemporaryFile("r") as printed:
+        taken = once(words, output=printed.name, memory=False)
+        return printed.read(), taken.seconds
 
 
 def rates(programs, path, total, rounds, most):

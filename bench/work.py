@@ -5,16 +5,12 @@ import os
 import statistics
 import sys
 
+from timing import once
 
-def once(words, output):
+
+def timed(words, output):
     """The processor time of a run in milliseconds, and what it prints."""
-    child = os.fork()
-    if child == 0:
-        os.dup2(os.open(output, os.O_WRONLY | os.O_CREAT | os.O_TRUNC), 1)
-        os.execv(words[0], words)
-    _, status, used = os.wait4(child, 0)
-    assert status == 0, words
-    return 1000 * (used.ru_utime + used.ru_stime), open(output).read()
+    return 1000 * once(words, output=output, memory=False).seconds, open(output).read()
 
 
 def main():
@@ -23,9 +19,9 @@ def main():
     for count in ("100", "1000", "10000"):
         rounds = []
         for _ in range(int(runs)):
-            ours, text = once([program, "work", "1", count], output)
-            wallet, same = once([peer, "1", count, "wallet"], output)
-            coins, too = once([peer, "1", count], output)
+            ours, text = timed([program, "work", "1", count], output)
+            wallet, same = timed([peer, "1", count, "wallet"], output)
+            coins, too = timed([peer, "1", count], output)
             assert text == same == too, count
             rounds.append((ours, wallet, coins))
         ours, wallet, coins = (min(times) for times in zip(*rounds))

@@ -1,22 +1,27 @@
 #!/usr/bin/env python3
-"""Makes the rows of `complete` in rows_cases, and what it must print of them; outside the gate.
+"""Judges the rows of `complete` in rows_cases, or makes them; outside the gate.
 
+    tests/completions.py
     tests/completions.py FOLDER ROWS EXPECTED
 
-FOLDER has fund/, with a folder for each case in which are wallet.json, blocks.dat and stdout, which `fund` printed; and
+The first looks at what each stored row has to print: the PSBT made whole, or its first fault. The second makes the rows, and what they
+must print. FOLDER has fund/, with a folder for each case in which are wallet.json, blocks.dat and stdout, which `fund` printed; and
 psbt.tsv, PSBTs with their faults, which were worked out apart. The PSBT of each case that is funded is made whole here, by
 the definitions of crates/command_complete/specs done again. Rows for refusals, limits, failures
 and PSBTs that are made whole twice are made of the first of these; their answers are stated by hand beside them. It shares
 no code with the program, and needs Python alone.
 """
 import base64
+import collections
 import json
 import os
 import re
 import sys
 
-from answers import compact, read_tx, size_of
-from stored_rows import column
+from lib.bitcoin import compact, output_bytes, read_compact, read_tx, record, shown_point, string
+from lib.programs import tell
+from lib.stored_rows import answers_of, column
+from pages import psbt_faults
 
 NAMES = ("wallet.json", "blocks.dat", "psbt")
 CASES = ["120-coins-in-blocks", "ancestors-25", "both-coins-exact", "coinbase-101-deep", "descendants-3",
@@ -27,18 +32,18 @@ CASES = ["120-coins-in-blocks", "ancestors-25", "both-coins-exact", "coinbase-10
 # ---- reading
 
 
-def string(data, at):
-    size, at = compact(data, at)
+def read_string(data, at):
+    size, at = read_compact(data, at)
     return data[at:at + size], at + size
 
 
 def read_map(data, at):
     pairs = []
     while True:
-        key, at = string(data, at)
+        key, at = read_string(data, at)
         if not key:
             return pairs, at
-        value, at = string(data, at)
+        value, at = read_string(data, at)
         pairs.append((key, value))
 
 
@@ -59,7 +64,7 @@ def spelled(maps):
     text = b"psbt\xff"
     for one in maps:
         for key, value in one:
-            text += size_of(len(key)) + key + size_of(len(value)) + value
+            text += string(key) + string(value)
         text += b"\x00"
     return text
 
@@ -69,7 +74,7 @@ def transactions(wallet, blocks):
     found = [bytes.fromhex(one["tx"]) for one in wallet.get("earlier", [])]
     at = 0
     while at < len(blocks):
-        count, at = compact(blocks, at + 88)
+        count, at = read_compact(blocks, at + 88)
         for _ in range(count):
             end = read_tx(blocks, at)[3]
             found.append(blocks[at:end])
@@ -94,10 +99,6 @@ def coins(wallet, blocks):
 # ---- making whole
 
 
-def shown(point):
-    return f"{point[0][::-1].hex()}:{point[1]}"
-
-
 def text_of(maps):
     return base64.b64encode(spelled(maps)).decode()
 
@@ -110,11 +111,10 @@ def made_whole(wallet, blocks, text):
         one = dict(maps[1 + number])
         whole = one.get(b"\x00", made.get(point))
         if whole is None:
-            return 3, f"fault input psbt Missing {number} {shown(point)}\n"
-        value, script = read_tx(whole)[2][point[1]]
-        told = value.to_bytes(8, "little") + size_of(len(script)) + script
+            return 3, f"fault input psbt Missing {number} {shown_point(point)}\n"
+        told = output_bytes(*read_tx(whole)[2][point[1]])
         if one.get(b"\x01", told) != told:
-            return 3, f"fault input psbt OtherOutput {number} {shown(point)}\n"
+            return 3, f"fault input psbt OtherOutput {number} {shown_point(point)}\n"
         maps[1 + number] = [(b"\x00", whole)] + [(b"\x01", told)] * (b"\x01" in one)
     return 0, text_of(maps) + "\n"
 
@@ -152,7 +152,7 @@ def changed(text, change):
 def block_of(tx):
     """A block file of one block, behind one of a hash of zeros, that has this transaction alone."""
     header = bytes(36) + read_tx(tx)[0] + bytes(12)
-    return bytes.fromhex("f9beb4d9") + (len(header) + 1 + len(tx)).to_bytes(4, "little") + header + b"\x01" + tx
+    return record(header + compact(1) + tx)
 
 
 def failures(rows, wallet, psbt, whole):
@@ -251,12 +251,12 @@ def refusals(rows, wallet, blocks, text, whole):
     none = json.loads(wallet)
     none.update(scripts=[], earlier=[], pending=[])
     bare = json.dumps(none).encode()
-    rows.add("missing-first", bare, b"", psbt, (3, f"fault input psbt Missing 0 {shown(first)}\n"))
+    rows.add("missing-first", bare, b"", psbt, (3, f"fault input psbt Missing 0 {shown_point(first)}\n"))
     paid = json.loads(wallet)
     paid.update(scripts=[])
-    rows.add("paid-to-no-script-of-the-wallet", json.dumps(paid).encode(), b"", psbt, (3, f"fault input psbt Missing 0 {shown(first)}\n"))
+    rows.add("paid-to-no-script-of-the-wallet", json.dumps(paid).encode(), b"", psbt, (3, f"fault input psbt Missing 0 {shown_point(first)}\n"))
     rows.add("other-pairs-before-missing", bare, b"", changed(text, lambda t, m: m[1].append((key, b"\x00" * 4))), (3, "fault input psbt OtherPairs\n"))
-    rows.add("missing-second", bare, b"", half, (3, f"fault input psbt Missing 1 {shown(tx[1][1])}\n"))
+    rows.add("missing-second", bare, b"", half, (3, f"fault input psbt Missing 1 {shown_point(tx[1][1])}\n"))
     rows.add("whole-already-needs-no-coin", bare, b"", whole.encode(), (0, whole + "\n"))
 
     def dearer(t, m):
@@ -266,16 +266,52 @@ def refusals(rows, wallet, blocks, text, whole):
     def elsewhere(t, m):
         m[1][0] = (b"\x01", m[1][0][1][:-1] + bytes([m[1][0][1][-1] ^ 1]))
 
-    rows.add("last-output-dearer", wallet, blocks, changed(text, dearer), (3, f"fault input psbt OtherOutput {number} {shown(last)}\n"))
-    rows.add("first-output-elsewhere", wallet, blocks, changed(text, elsewhere), (3, f"fault input psbt OtherOutput 0 {shown(first)}\n"))
-    rows.add("first-of-two-faults", wallet, blocks, changed(text, lambda t, m: (elsewhere(t, m), dearer(t, m))), (3, f"fault input psbt OtherOutput 0 {shown(first)}\n"))
+    rows.add("last-output-dearer", wallet, blocks, changed(text, dearer), (3, f"fault input psbt OtherOutput {number} {shown_point(last)}\n"))
+    rows.add("first-output-elsewhere", wallet, blocks, changed(text, elsewhere), (3, f"fault input psbt OtherOutput 0 {shown_point(first)}\n"))
+    rows.add("first-of-two-faults", wallet, blocks, changed(text, lambda t, m: (elsewhere(t, m), dearer(t, m))), (3, f"fault input psbt OtherOutput 0 {shown_point(first)}\n"))
     rows.add("output-elsewhere-beside-its-transaction", bare, b"", changed(half, lambda t, m: m[1].__setitem__(1, (b"\x01", m[1][1][1][:-1] + b"\x00"))),
-             (3, f"fault input psbt OtherOutput 0 {shown(first)}\n"))
+             (3, f"fault input psbt OtherOutput 0 {shown_point(first)}\n"))
     rows.add("nothing-beside-an-input", wallet, blocks, changed(text, lambda t, m: m[1].clear()),
              (0, changed(whole, lambda t, m: m[1].pop()).decode() + "\n"))
 
 
+# ---- stored rows
+
+
+def fault_of(text):
+    """The first fault of a PSBT's text, but for pairs that `complete` doesn't keep; None where it has none."""
+    return psbt_faults.fault_of(text.removesuffix(b"\n"))
+
+
+def judged(step, status, printed):
+    """What kind of end a stored row comes to; fails where it isn't the one that is due."""
+    if len(step.files) < 3 or step.puts or status in (4, 5, 9) or printed.startswith(("fault input wallet", "fault input b")):
+        return "before the PSBT, or at its limit, or failing"
+    if printed == "fault input psbt OtherPairs\n":
+        return "other pairs"
+    wallet, blocks, psbt = (step.files[name] for name in NAMES)
+    fault = fault_of(psbt)
+    due = (3, f"fault input psbt {fault}\n") if fault else made_whole(wallet, blocks, psbt.strip())
+    assert due == (status, printed), f"{due} is due, and not {(status, printed)}"
+    return "whole" if status == 0 else "refused"
+
+
+def stored():
+    """Judges the stored rows."""
+    ends = collections.Counter()
+    for step, status, printed in answers_of("complete"):
+        try:
+            ends[judged(step, status, printed)] += 1
+        except AssertionError as wrong:
+            print(f"WRONG, {step.columns[0]}{wrong}")
+            return 1
+    tell(f"{sum(ends.values())} stored cases", ends)
+    return 0
+
+
 def main():
+    if len(sys.argv) == 1:
+        return stored()
     folder, rows_file, expected_file = sys.argv[1:]
     rows = Rows()
     stated = False
@@ -302,7 +338,8 @@ def main():
     open(rows_file, "w").writelines(rows.rows)
     open(expected_file, "w").writelines(rows.expected)
     print(len(rows.expected), "cases")
+    return 0
 
 
 if __name__ == "__main__":
-    main()
+    sys.exit(main())

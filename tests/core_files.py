@@ -9,35 +9,19 @@ With PROGRAM, a built fund_cli, it also lists the coins of the files that were m
 node lists as unspent. With --keep it leaves answers in FOLDER, for trying the tool by hand as docs/USING.md says: those
 of a node that watches the address of BIP 173's examples, whose secret key is 1.
 """
-import hashlib
 import json
 import os
 import re
-import struct
 import subprocess
 import sys
 import tempfile
 
-TOP = os.path.dirname(os.path.dirname(os.path.abspath(__file__)))
-TOOL = os.path.join(TOP, "tools", "core_to_files.py")
+from lib.bitcoin import double_sha256, shown, transaction
+from lib.programs import TOP, called
+
+TOOL = TOP / "tools" / "core_to_files.py"
 KEY = "02" + "5a" * 32
 TIP = 877_004
-
-
-def double_hash(data):
-    return hashlib.sha256(hashlib.sha256(data).digest()).digest()
-
-
-def transaction(inputs, outputs):
-    """A transaction in the legacy form: outpoints by txid and index; scripts with values in satoshi."""
-    data = struct.pack("<I", 2) + bytes([len(inputs)])
-    for txid, index in inputs:
-        data += bytes.fromhex(txid)[::-1] + struct.pack("<I", index) + b"\0" + b"\xfd\xff\xff\xff"
-    data += bytes([len(outputs)])
-    for script, value in outputs:
-        data += struct.pack("<Q", value) + bytes([len(script) // 2]) + bytes.fromhex(script)
-    data += bytes(4)
-    return double_hash(data)[::-1].hex(), data.hex()
 
 
 # kind: its script, its descriptor, and the weight that docs/USING.md states for it
@@ -58,6 +42,13 @@ KNOWN_VALUES = [51_100, 250_000, 80_000, 33_000, 120_000, 640_000]
 
 def address_of(script):
     return "address-" + script[:12]
+
+
+def made(points, outputs):
+    """The txid and the hex of a transaction that spends these outpoints, and pays scripts in hex."""
+    spent = [(bytes.fromhex(txid)[::-1], index) for txid, index in points]
+    data = transaction(spent, [(value, bytes.fromhex(script)) for script, value in outputs])
+    return shown(double_sha256(data)), data.hex()
 
 
 class Saved:
@@ -87,7 +78,7 @@ def saved_answers(folder):
     coins = []
 
     def make(outputs, confirmations, inputs=(("01" * 32, 0),)):
-        txid, text = transaction(list(inputs), outputs)
+        txid, text = made(inputs, outputs)
         saved.put_transaction(txid, text, outputs, confirmations)
         return txid
 
@@ -127,7 +118,7 @@ def kept_answers(folder):
     for n, value in enumerate(KNOWN_VALUES):
         # the second output is spent by now
         outputs = [("0014" + "99" * 20, 7_000), (KNOWN_SCRIPT, 5_000), (KNOWN_SCRIPT, value)]
-        txid, text = transaction([("%02x" % (n + 1) * 32, n)], outputs)
+        txid, text = made([("%02x" % (n + 1) * 32, n)], outputs)
         saved.put_transaction(txid, text, outputs, 10 + 5 * n)
         coins.append({"txid": txid, "vout": 2, "address": KNOWN_ADDRESS, "scriptPubKey": KNOWN_SCRIPT, "amount": value / 1e8,
                       "confirmations": 10 + 5 * n, "spendable": False, "solvable": True, "desc": descriptor, "safe": True})
@@ -150,8 +141,8 @@ def check(holds, what):
 
 def listing(program, out):
     """What the program lists of files that were made, and the coins of it."""
-    run = subprocess.run([program, "coins", out + ".json", out + ".dat"], capture_output=True, text=True)
-    return run.stdout, sorted(line.split()[1] for line in run.stdout.splitlines() if line.startswith("coin "))
+    listed = called(program, ["coins", out + ".json", out + ".dat"], os.path.dirname(out)).printed.decode()
+    return listed, sorted(line.split()[1] for line in listed.splitlines() if line.startswith("coin "))
 
 
 def check_kept():

@@ -11,9 +11,7 @@ transaction has to be the same, and each earlier transaction the one that its in
 """
 import base64
 import collections
-import os
 import random
-import subprocess
 import sys
 import tempfile
 
@@ -23,6 +21,7 @@ from electrum.util import UserFacingException
 
 import signers
 from completions import maps_of
+from lib.programs import called, write
 
 STORE = {
     "type": "hardware",
@@ -57,13 +56,10 @@ def handed(text):
 
 def completed(program, text, folder):
     """The PSBT that `complete` makes of a text."""
-    path = os.path.join(folder, "payment.psbt")
-    with open(path, "w", encoding="ascii") as file:
-        file.write(text)
-    names = [os.path.join(folder, name) for name in ("wallet.json", "blocks.dat")]
-    run = subprocess.run([program, "complete", path, *names], capture_output=True, text=True)
-    assert run.returncode == 0, f"status {run.returncode}: {run.stdout}"
-    return run.stdout.strip()
+    write(folder, {"payment.psbt": text})
+    run = called(program, ["complete", "payment.psbt", "wallet.json", "blocks.dat"], folder)
+    assert run.status == 0, f"status {run.status}: {run.printed}"
+    return run.printed.decode().strip()
 
 
 def unsigned(text):
@@ -97,7 +93,7 @@ def try_one(case, program, ninelace, folder):
 
 
 def main():
-    program, ninelace = os.path.abspath(sys.argv[1]), os.path.abspath(sys.argv[2])
+    program, ninelace = sys.argv[1:3]
     count = int(sys.argv[3]) if len(sys.argv) > 3 else 50
     seed = int(sys.argv[4]) if len(sys.argv) > 4 else 1
     source, ends = random.Random(seed), collections.Counter()

@@ -29,18 +29,17 @@ needs a C compiler."""
 
 import argparse
 import collections
-import os
 import pathlib
 import subprocess
 import sys
 import tempfile
 import typing
 
-from cases import EXAMPLE, FUND, FURTHER, SCRIPTS, THREE, TOP, with_members
-from kept_jobs import BESIDE, NAME, read_jobs, write_jobs
-from stored_rows import commands_of, files_of
+from harness.cases import EXAMPLE, FUND, FURTHER, DESKS, THREE, with_members
+from lib.programs import FUND_CLI
+from lib.stored_rows import commands_of, files_of
+from pages.kept_jobs import BESIDE, NAME, read_jobs, write_jobs
 
-PROGRAM = TOP / "crates" / "fund_cli" / "out" / "fund_cli"
 OLD_LOG = b"what stood in the log before\n"
 OTHER = {"other": (b"of another job", {0: b"its part"})}
 KEEPER = ("pread", "pwrite", "sync", "truncate", "lock", "stat", "mode", "random", "rename")
@@ -179,7 +178,7 @@ def commands(bench):
         "fund, refused": Command(FUND, {**whole, "wallet.json": b"{}"}),
         "check, refused": Command(["check", *THREE, "report", "log"], {**checked, "log": end.log.replace(b"SS\n", b"S\n")}),
         "resume, refused": Command(RESUME, two, {"job-1": (jobs[1][0][:-1], jobs[1][1])}),
-        "desk": Command(["desk", *THREE[:2], "script"], {**whole, "script": SCRIPTS[1]}),
+        "desk": Command(["desk", *THREE[:2], "script"], {**whole, "script": DESKS[1]}),
         "work": Command(["work", "1", "5"], {}),
         "wide": Command(["wide", *FUND[1:]], case_of("wide", "worked")),
         "share": Command(["share", *FUND[1:]], case_of("share", "worked-three")),
@@ -271,7 +270,7 @@ def try_all(bench, name, command, kinds, every):
 
 def main():
     parser = argparse.ArgumentParser(description="Lets calls to the system fail one by one.")
-    parser.add_argument("--program", type=pathlib.Path, default=PROGRAM)
+    parser.add_argument("--program", type=pathlib.Path, default=FUND_CLI)
     parser.add_argument("--kinds", nargs="*", choices=KINDS, default=KINDS)
     parser.add_argument("--commands", nargs="*")
     parser.add_argument("--every", type=int, default=1)

@@ -6,13 +6,13 @@ usage: tests/mutate.py [--seed N] [--runs N] [--cases FOLDER] [--program PATH] [
 What is mutated, one to three times a run: the files of `coins`, `fund`, `check`, `desk`, `wide`, `share`, `sweep` and `settle`, the
 report and LOG of `check`, report and transaction of `settle`, the script of `desk`, the words of any command, and what `resume` and `fund .. JOB` find in the job file: its saved text, its parts,
 its tables, and its bytes with those of its log. One run in ten is of a job, and `bump` are runs of requests that replace a payment:
-those of tests/bumps.py too. They begin with the stored requests of
+those of harness/bumps.py too. They begin with the stored requests of
 `files` in crates/rows_cases and the example, and with what the program makes of them; with --cases FOLDER also with those of the
 folders fund, bump, check, resume and desk in it, and wide, share, sweep and settle where they are there. Each of these has a folder
 for each case, with wallet.json, blocks.dat, request.json and, by its command, report and log, report and tx, script with the files that
 it names, or N.saved and N.part-M of kept jobs.
 
-Each end is held to this (tests/ends.py):
+Each end is held to this (harness/ends.py):
 
 - the status is one of the command's, and what is printed has the form of that status, each fault line included
 - `fault usage` comes exactly where the words are no command; `fault read` where that file isn't there; a limit of bytes exactly
@@ -21,19 +21,19 @@ Each end is held to this (tests/ends.py):
 - no file changed but LOG, on status 0 and 11 of `fund`, `resume`, `wide` and `share`, and then it is a whole log
 - no job changed but the named one on status 10, and that as its report says; the others are as they were. A job file that SQLite
   finds unsound, or that has other tables, is refused where it is needed
-- a job is refused for its saved text, its tries and its parts exactly as tests/kept_jobs.py tells, and for its sections and its
-  position exactly as tests/resumes.py tells
-- `fund` and `resume` come to what tests/runs.py finds try by try, to the last byte of report and LOG: long walks apart
-- `wide`, `share` and `sweep` come to what tests/further.py finds, to the last byte of report and LOG, and each section of LOG is accepted:
-  long walks apart. `settle` comes to what tests/settlings.py finds
+- a job is refused for its saved text, its tries and its parts exactly as pages/kept_jobs.py tells, and for its sections and its
+  position exactly as pages/resumes.py tells
+- `fund` and `resume` come to what pages/runs.py finds try by try, to the last byte of report and LOG: long walks apart
+- `wide`, `share` and `sweep` come to what pages/further.py finds, to the last byte of report and LOG, and each section of LOG is accepted:
+  long walks apart. `settle` comes to what pages/settlings.py finds
 - `resume` says exhausted, drawn or none only where `fund` of the same files, with tries enough, says so in the same report but
   for its tries; and `check` accepts it with LOG but for its tries. It accepts all that `fund` says
 - a job that `fund` kept comes, step by step, to what one `fund` with all these tries comes to, byte for byte
-- a desk's replies go by tests/replies.py
+- a desk's replies go by pages/replies.py
 - of one end in four, `coins` refuses wallet and blocks by the same line, or lists them
-- wallet, blocks and request are refused for the first of their faults, as tests/input_faults.py finds it, and only then. So is a
-  payment that can't be replaced or made, as tests/replacements.py tells; and `coins` lists what tests/answers.py finds
-- tests/answers.py says the same of one payment in four, tests/verdicts.py of each report and tests/desk.py of each script, where
+- wallet, blocks and request are refused for the first of their faults, as pages/input_faults.py finds it, and only then. So is a
+  payment that can't be replaced or made, as pages/replacements.py tells; and `coins` lists what pages/answers.py finds
+- pages/answers.py says the same of one payment in four, pages/verdicts.py of each report and pages/desk.py of each script, where
   they can judge it: they know the pages alone. The first job of a desk is funded as `fund` funds it
 
 A run that ends otherwise is told with its seed and number, and its files are written to the folder of --found. Build the program
@@ -47,14 +47,13 @@ import signal
 import sys
 import tempfile
 
-import bumps
-import mutations
-from cases import FUND, FURTHER, THREE, TOP, Cases, with_members
-from ends import Judge
-from kept_jobs import BESIDE, NAME
-from running import Place
+from harness import bumps, mutations
+from harness.cases import FUND, FURTHER, THREE, Cases, with_members
+from harness.ends import Judge
+from harness.running import Place
+from lib.programs import FUND_CLI
+from pages.kept_jobs import BESIDE, NAME
 
-PROGRAM = TOP / "crates" / "fund_cli" / "out" / "fund_cli"
 KINDS = {"fund": 30, "bump": 6, "coins": 6, "keep": 2, "check": 24, "desk": 14, "words": 4, "work": 4, "resume": 8, "job file": 2, "wide": 6, "share": 8,
          "sweep": 6, "settle": 10}
 WORDS = {"coins": ["coins", *THREE[:2]], "fund": FUND, "keep": [*FUND, "job-1"], "resume": ["resume", *FUND[1:], "job-1"],
@@ -122,7 +121,7 @@ class Mutants:
         return WORDS["fund"], self.changed(files, THREE[:1] * 2 + THREE[1:] + THREE[2:]) if rng.random() < 0.3 else files
 
     def waiting(self):
-        """Files with payments that wait: by chance, or stored ones; with up to three changes of tests/bumps.py."""
+        """Files with payments that wait: by chance, or stored ones; with up to three changes of harness/bumps.py."""
         rng = self.rng
         files = bumps.case(rng) if rng.random() < 0.5 else rng.choice(self.replacing.payments)
         for _ in range(rng.choice((0, 1, 1, 2, 3))):
@@ -232,7 +231,7 @@ def asked_for():
     words.add_argument("--seed", type=int, default=1)
     words.add_argument("--runs", type=int, default=20000)
     words.add_argument("--cases", type=pathlib.Path)
-    words.add_argument("--program", type=pathlib.Path, default=PROGRAM)
+    words.add_argument("--program", type=pathlib.Path, default=FUND_CLI)
     words.add_argument("--found", type=pathlib.Path)
     words.add_argument("--only", nargs="*", choices=list(KINDS), default=list(KINDS))
     words.add_argument("--seconds", type=float, default=1.0)

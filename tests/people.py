@@ -7,6 +7,7 @@ FILE is one of tests/people/*.txt, which are all of them where none is named. Ea
 
     # what it is for
     % NAME = FROM | OLD | NEW    a file of this name is there: that one with the first OLD in place of NEW
+    @ NAME CONTENT               a file of this name is there, its content as a JSON text
     $ WORDS                      the words behind the program's name, as a shell has them
     = STATUS                     the status
     > LINE                       a line of the standard output; a line that begins with a brace is compared as JSON
@@ -22,13 +23,11 @@ import glob
 import json
 import os
 import shlex
-import subprocess
 import sys
 import tempfile
 
-from stored_rows import files_of as stored_files
-
-TOP = os.path.dirname(os.path.dirname(os.path.abspath(__file__)))
+from lib.programs import TOP, called, write
+from lib.stored_rows import files_of as stored_files
 
 
 def content(path):
@@ -47,7 +46,7 @@ class Row:
 
     def __init__(self, name, words):
         self.name, self.words, self.status = name, words, None
-        self.made, self.out, self.err, self.new = [], [], [], {}
+        self.made, self.given, self.out, self.err, self.new = [], [], [], [], {}
 
     def take(self, sign, rest):
         if sign == "=":
@@ -63,16 +62,19 @@ class Row:
 
 def rows_of(path):
     """The rows of a file."""
-    rows, name, made = [], "", []
+    rows, name, made, given = [], "", [], []
     for number, line in enumerate(open(path, encoding="utf-8").read().split("\n"), 1):
         sign, rest = line[:1], line[2:]
         if sign == "#":
-            name, made = rest, []
+            name, made, given = rest, [], []
         elif sign == "%":
             made.append(rest)
+        elif sign == "@":
+            given.append(rest)
         elif sign == "$":
             rows.append(Row(f"{os.path.basename(path)}:{number}: {name}", shlex.split(rest)))
             rows[-1].made, made = made, []
+            rows[-1].given, given = given, []
         elif sign:
             rows[-1].take(sign, rest)
     return rows
@@ -86,6 +88,9 @@ def files_of(row):
         origin, old, new = (part.encode().decode("unicode_escape") for part in how.split(" | "))
         assert old.encode("latin-1") in files[origin], f"{row.name}: {old} isn't in {origin}"
         files[name] = files[origin].replace(old.encode("latin-1"), new.encode("latin-1"), 1)
+    for given in row.given:
+        name, _, text = given.partition(" ")
+        files[name] = json.loads(text).encode()
     return files
 
 
@@ -116,14 +121,12 @@ def wrong_in(program, row):
     """What is wrong with what the program does of a row; nothing where it is as it should be."""
     before = files_of(row)
     with tempfile.TemporaryDirectory() as folder:
-        for name, data in before.items():
-            with open(os.path.join(folder, name), "wb") as file:
-                file.write(data)
-        run = subprocess.run([program, *row.words], cwd=folder, stdin=subprocess.DEVNULL, capture_output=True, timeout=300)
+        write(folder, before)
+        run = called(program, row.words, folder)
         after = {name: content(os.path.join(folder, name)) for name in os.listdir(folder)}
-    if run.returncode != row.status:
-        return f"status {run.returncode} in place of {row.status}: {run.stdout[:300]} {run.stderr[:300]}"
-    wrong = difference(row.out, run.stdout) or difference(row.err, run.stderr)
+    if run.status != row.status:
+        return f"status {run.status} in place of {row.status}: {run.printed[:300]} {run.errors[:300]}"
+    wrong = difference(row.out, run.printed) or difference(row.err, run.errors)
     if wrong:
         return wrong
     names = [name for name in {**before, **row.new, **after} if {**before, **row.new}.get(name) != after.get(name)]

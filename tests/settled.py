@@ -10,13 +10,13 @@ program, and needs Python alone.
 """
 import base64
 import binascii
-import hashlib
 import json
 import struct
 import sys
 
-import psbt_faults
-from stored_rows import commands_of, part_of
+from lib.bitcoin import double_sha256, output_bytes, serialised, shown, stack, string
+from lib.stored_rows import commands_of, part_of
+from pages import psbt_faults
 
 MAGIC = b"psbt\xff"
 UNSIGNED = "input {} isn't signed: the PSBT has neither its final script nor its final witness. Let the signer sign it and make it final."
@@ -54,21 +54,6 @@ class Reader:
             raise ValueError(f"Trailing {self.place}")
 
 
-def compact(number):
-    """A number in CompactSize."""
-    if number < 253:
-        return bytes([number])
-    return b"\xfd" + struct.pack("<H", number) if number < 65_536 else b"\xfe" + struct.pack("<I", number)
-
-
-def string(data):
-    return compact(len(data)) + data
-
-
-def stack(items):
-    return compact(len(items)) + b"".join(string(item) for item in items)
-
-
 def items_of(data):
     """The items of a witness; None where the bytes are none."""
     reader = Reader(data)
@@ -97,15 +82,13 @@ def transaction(data):
 
 def text_of(tx, segwit):
     """The bytes of a transaction in one form."""
-    data = struct.pack("<I", tx["version"]) + (b"\0\1" if segwit else b"") + compact(len(tx["inputs"]))
-    data += b"".join(one["prev"] + string(one["script"]) + struct.pack("<I", one["sequence"]) for one in tx["inputs"])
-    data += compact(len(tx["outputs"])) + b"".join(struct.pack("<Q", value) + string(script) for value, script in tx["outputs"])
-    data += b"".join(stack(one["witness"]) for one in tx["inputs"]) if segwit else b""
-    return data + struct.pack("<I", tx["locktime"])
+    inputs = [one["prev"] + string(one["script"]) + struct.pack("<I", one["sequence"]) for one in tx["inputs"]]
+    witnesses = [stack(one["witness"]) for one in tx["inputs"]] if segwit else None
+    return serialised(inputs, [output_bytes(*one) for one in tx["outputs"]], witnesses, tx["version"], tx["locktime"])
 
 
 def txid_of(tx):
-    return hashlib.sha256(hashlib.sha256(text_of(tx, False)).digest()).digest()[::-1].hex()
+    return shown(double_sha256(text_of(tx, False)))
 
 
 def weight_of(tx):

@@ -3,8 +3,8 @@
 
     [NINELACE=NINELACE] tests/signers.py PROGRAM [COUNT] [SEED] [METHOD ..]
 
-PROGRAM is a built fund_cli, and NINELACE a built ninelace. It wants Debian's python3-electrum and python3-bitcoinlib. COUNT requests (100) of the METHODs
-(all five) are made from the SEED (1), over wallets of P2WPKH, P2PKH, P2SH-P2WPKH, and 2 of 3 keys in P2WSH and P2SH.
+PROGRAM is a built fund_cli, and NINELACE a built ninelace. It wants Debian's python3-electrum and python3-bitcoinlib. COUNT requests (100) of
+the METHODs (all five) are made from the SEED (1), over wallets of P2WPKH, P2PKH, P2SH-P2WPKH, and 2 of 3 keys in P2WSH and P2SH.
 (Electrum 4.3 can't sign for P2TR.) Each payment is read by Electrum, signed and finished; each of its signatures is
 verified; its weight is compared with the declared one, and its fee with what the rate asks for its own size. Its mark, its
 change, its coins and its log have to fit the request. `settle` has to take it, with the weight that it has less than declared;
@@ -17,8 +17,6 @@ import hashlib
 import json
 import os
 import random
-import struct
-import subprocess
 import sys
 import tempfile
 
@@ -28,9 +26,8 @@ from bitcoin.core.script import CScript, SIGVERSION_WITNESS_V0, SignatureHash
 from electrum import bitcoin, ecc
 from electrum.transaction import multisig_script, tx_from_any
 
-
-def double_hash(data):
-    return hashlib.sha256(hashlib.sha256(data).digest()).digest()
+from lib.bitcoin import FINAL, double_sha256, shown, transaction
+from lib.programs import called, funded, write
 
 
 def hash160(data):
@@ -71,15 +68,6 @@ SEARCHED = {"given", "exhausted", "partial"}
 MARKS = {"manual": {"given"}, "changeless": SEARCHED, "weight": SEARCHED, "draw": SEARCHED | {"drawn"}, "auto": SEARCHED | {"drawn"}}
 
 
-def transaction(source, outputs):
-    """A legacy transaction of one input: its txid, its bytes."""
-    data = struct.pack("<I", 2) + b"\x01" + source + bytes(4) + b"\0" + b"\xff\xff\xff\xff" + bytes([len(outputs)])
-    for script, value in outputs:
-        data += struct.pack("<Q", value) + bytes([len(script)]) + script
-    data += bytes(4)
-    return double_hash(data)[::-1].hex(), data
-
-
 class Case:
     """A wallet and a request, made by chance."""
 
@@ -91,8 +79,8 @@ class Case:
         for _ in range(r.randint(2, 30)):
             kind = r.choice(self.kinds)
             value = r.randint(20_000, 2_000_000)
-            txid, data = transaction(r.randbytes(32), [(kind.script, value)])
-            self.coins[(txid, 0)] = (kind, value)
+            data = transaction([(r.randbytes(32), 0)], [(value, kind.script)], FINAL)
+            self.coins[(shown(double_sha256(data)), 0)] = (kind, value)
             earlier.append({"tx": data.hex(), "height": r.randint(1, 90)})
         entries = [{"script": kind.script.hex(), "weight": kind.weight} for kind in self.kinds]
         self.wallet = {"height": 100, "hash": "00" * 32, "scripts": entries, "change": r.choice(entries), "earlier": earlier}
@@ -113,22 +101,14 @@ class Case:
 
     def fund(self, program, folder):
         """The report's lines and the log's; or `none` or `unfinished` alone."""
-        names = [os.path.join(folder, name) for name in ("wallet.json", "blocks.dat", "request.json", "log")]
-        for name, data in zip(names, (json.dumps(self.wallet), "", json.dumps(self.request))):
-            with open(name, "w", encoding="utf-8") as file:
-                file.write(data)
-        if os.path.exists(names[3]):
-            os.remove(names[3])
-        run = subprocess.run([program, "fund", *names], capture_output=True, text=True)
-        if run.returncode in (10, 11):
-            assert os.path.exists(names[3]) == (run.returncode == 11), "a log where none is due, or none where one is"
-            return run.stdout.split("\n")[0]
-        if run.returncode != 0:
-            raise AssertionError(f"status {run.returncode}: {run.stdout}")
-        with open(os.path.join(folder, "report.txt"), "w", encoding="utf-8") as file:
-            file.write(run.stdout)
-        with open(names[3], encoding="utf-8") as file:
-            return [line.split(" ") for line in run.stdout.splitlines()], file.read().splitlines()
+        run, log = funded(program, folder, json.dumps(self.wallet), json.dumps(self.request))
+        if run.status in (10, 11):
+            assert (log is not None) == (run.status == 11), "a log where none is due, or none where one is"
+            return run.printed.decode().split("\n")[0]
+        if run.status != 0:
+            raise AssertionError(f"status {run.status}: {run.printed}")
+        write(folder, {"report.txt": run.printed})
+        return [line.split(" ") for line in run.printed.decode().splitlines()], log.splitlines()
 
     def judge(self, report, log):
         """Whether mark, coins, change and log fit the request."""
@@ -199,12 +179,11 @@ def weight_of(tx, data):
     return 3 * bare + len(data)
 
 
-def settled(words, folder, data):
+def settled(program, words, folder, data):
     """The status and the lines with which a program judges the file of a signed transaction."""
-    with open(os.path.join(folder, "signed"), "wb") as file:
-        file.write(data)
-    run = subprocess.run(words, cwd=folder, capture_output=True, text=True)
-    return run.returncode, run.stdout.splitlines()
+    write(folder, {"signed": data})
+    run = called(program, words, folder)
+    return run.status, run.printed.decode().splitlines()
 
 
 def others(tx, random_source):
@@ -225,16 +204,16 @@ def others(tx, random_source):
 
 def judge_settled(program, folder, tx, data, psbt, spare):
     """Whether `settle` takes a signed payment and no other, and `ninelace settle` too in each form."""
-    words = [program, "settle", "wallet.json", "request.json", "report.txt", "signed"]
-    status, lines = settled(words, folder, data.hex().encode())
+    words = ["settle", "wallet.json", "request.json", "report.txt", "signed"]
+    status, lines = settled(program, words, folder, data.hex().encode())
     assert status == 0 and lines[-1] == f"spare {spare}", f"settle: {status} {lines}"
     for line, other in others(tx, random.Random(data)):
-        assert settled(words, folder, other.hex().encode()) == (13, [line]), f"settle of another payment: {line}"
-    shown = os.environ.get("NINELACE")
-    if shown is None:
+        assert settled(program, words, folder, other.hex().encode()) == (13, [line]), f"settle of another payment: {line}"
+    ninelace = os.environ.get("NINELACE")
+    if ninelace is None:
         return
-    words = [os.path.abspath(shown), "settle", "--wallet", "wallet.json", "--request", "request.json", "--report", "report.txt", "signed"]
-    tables = [settled(words, folder, file) for file in (data.hex().encode(), base64.b64encode(psbt), psbt)]
+    words = ["settle", "--wallet", "wallet.json", "--request", "request.json", "--report", "report.txt", "signed"]
+    tables = [settled(ninelace, words, folder, file) for file in (data.hex().encode(), base64.b64encode(psbt), psbt)]
     assert tables[0][0] == 0 and tables[0][1][-1] == f"spare   {spare} WU", f"ninelace settle: {tables[0]}"
     assert tables[1] == tables[0] and tables[2] == tables[0], f"ninelace settle of the PSBT: {tables[1:]}"
 

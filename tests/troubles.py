@@ -3,8 +3,10 @@
     python3 tests/troubles.py           compares; ends with 1 where they differ
     python3 tests/troubles.py --write   makes these sections of the page anew
 
-The sentences stand in crates/fault_lines/specs/Sentences.antt, and those of the words of `ninelace pay` in
-crates/pay_words/specs/Sentences.antt; the code is proved to give these. Where both have a fault, as an unknown method,
+The sentences stand in crates/fault_lines/specs/Sentences.antt, those of the words of `ninelace pay` in
+crates/pay_words/specs/Sentences.antt and, of `max` in place of an amount, in crates/max_words/specs/Sentences.antt, and those of
+statuses and of methods that find nothing in crates/people_advice/specs; the code is proved to
+give these. Where both have a fault, as an unknown method,
 its sentence is one."""
 import os
 import re
@@ -13,11 +15,20 @@ import sys
 TOP = os.path.dirname(os.path.dirname(os.path.abspath(__file__)))
 SENTENCES = os.path.join(TOP, "crates/fault_lines/specs/Sentences.antt")
 WORDS = os.path.join(TOP, "crates/pay_words/specs/Sentences.antt")
+MOST = os.path.join(TOP, "crates/max_words/specs/Sentences.antt")
+STATUSES = os.path.join(TOP, "crates/people_advice/specs/Statuses.antt")
+NOTHING = os.path.join(TOP, "crates/people_advice/specs/Nothing.antt")
+CODES = os.path.join(TOP, "crates/command_end/specs/StatusCode.antt")
 PAGE = os.path.join(TOP, "docs/TROUBLES.md")
 HEADING = "## Each fault in a sentence"
 INTRO = "`ninelace` says the sentence of a fault behind its line, and `ninelace explain LINE` says that of any line in this table.\n"
 WORDS_HEADING = "## Words of `pay`"
 WORDS_INTRO = "`ninelace pay` says the sentence behind the word or the flag that it is about.\n"
+
+NONE_HEADING = "## Nothing that pays, by method"
+NONE_INTRO = "`ninelace pay` says the sentence behind `none`.\n"
+STATUS_HEADING = "## Each status in a sentence"
+STATUS_INTRO = "`ninelace explain NUMBER` says it.\n"
 
 # the words of a fault line before those of a fault, by the definition that has its sentence
 LINES = {
@@ -64,7 +75,7 @@ ALONE = {
 # the same, of a report without a payment
 REPORTS = {"none_sentence": "none", "unfinished_sentence": "unfinished"}
 # what comes before the name of a fault of words, by the definition that has its sentence
-OF_WORDS = {"word_sentence": "", "amount_sentence": "Amount ", "rate_sentence": "Rate ", "base58_sentence": "Base58 ", "network_sentence": "Foreign "}
+OF_WORDS = {"word_sentence": "", "amount_sentence": "Amount ", "rate_sentence": "Rate ", "base58_sentence": "Base58 ", "network_sentence": "Foreign ", "pay_file_sentence": "File "}
 # the faults of words whose sentence stands in the other file too, with their line there
 SAME = {"Method": "fault input request Kind method", "Seed": "fault input request Kind seed", "Memory": "fault memory"}
 # of a field its place in the line, as the pages write it
@@ -72,6 +83,7 @@ FIELDS = {"place": "PLACE", "output": "OUTPUT", "height": "HEIGHT", "name": "NAM
           "fault": "FAULT", "coin": "COIN", "sum": "SUM", "number": "NUMBER", "kept": "KEPT", "found": "FOUND", "now": "NOW", "txid": "TXID", "n": "COUNT", "fee": "FEE", "vsize": "VSIZE",
           "version": "VERSION", "input": "INPUT", "kind": "TYPE", "weight": "WEIGHT", "declared": "DECLARED", "needed": "NEEDED"}
 CASE = re.compile(r'^(\w+) \(?\w+\.(\w+)((?: \w+)*)\)? = codes "([^"]*)"$')
+MAX = re.compile(r'^max_sentence \(faults\.(\w+) place\) = Some \(codes "([^"]*)"\)$')
 NONE = re.compile(r'^(\w+) None = codes "([^"]*)"$')
 KIND = re.compile(r'^ +if bytes_eq name \(codes "(\w+)"\) then codes "([^"]*)" else$')
 LONE = re.compile(r'^(\w+_sentence) = codes "([^"]*)"$')
@@ -114,7 +126,22 @@ def rows():
 def word_rows():
     """The faults of words and their sentences, in the order of the definitions."""
     cases = [CASE.match(line) for line in open(WORDS, encoding="utf-8").read().split("\n")]
-    return [(OF_WORDS[case[1]] + case[2], case[4]) for case in cases if case]
+    most = [MAX.match(line) for line in open(MOST, encoding="utf-8").read().split("\n")]
+    return [(OF_WORDS[case[1]] + case[2], case[4]) for case in cases if case] + [("Max " + case[1], case[2]) for case in most if case]
+
+
+def status_rows():
+    """The numbers of statuses and their sentences, in the order of the definitions."""
+    codes = dict(re.findall(r"^code_of (\w+) = (\d+)$", open(CODES, encoding="utf-8").read(), re.M))
+    cases = [CASE.match(line) for line in open(STATUSES, encoding="utf-8").read().split("\n")]
+    return [(codes[case[2]], case[4]) for case in cases if case]
+
+
+def none_rows():
+    """The methods that found nothing and their sentences, in the order of the definitions."""
+    cases = [CASE.match(line) for line in open(NOTHING, encoding="utf-8").read().split("\n")]
+    coins = {" true": ", with `--coin`", " false": ", without `--coin`"}
+    return [("`%s`%s" % (case[2].lower(), coins.get(case[3], "")), case[4]) for case in cases if case]
 
 
 def section():
@@ -123,6 +150,10 @@ def section():
     lines += ["| `%s` | %s |" % row for row in rows()]
     lines += ["", WORDS_HEADING, "", WORDS_INTRO, "| Fault | Sentence |", "|---|---|"]
     lines += ["| `%s` | %s |" % row for row in word_rows()]
+    lines += ["", NONE_HEADING, "", NONE_INTRO, "| `--method` | Sentence |", "|---|---|"]
+    lines += ["| %s | %s |" % row for row in none_rows()]
+    lines += ["", STATUS_HEADING, "", STATUS_INTRO, "| Status | Sentence |", "|---|---|"]
+    lines += ["| `%s` | %s |" % row for row in status_rows()]
     return "\n".join(lines) + "\n"
 
 
@@ -147,7 +178,7 @@ def main():
     if begin < 0 or page[begin:end].strip() != section().strip():
         print("docs/TROUBLES.md: the sentences of the faults aren't those of the program; run tests/troubles.py --write")
         return 1
-    print("%d sentences are the same" % (len(rows()) + len(word_rows())))
+    print("%d sentences are the same" % (len(rows()) + len(word_rows()) + len(none_rows()) + len(status_rows())))
     return 0
 
 

@@ -18,11 +18,12 @@ import json
 import os
 import re
 import shlex
-import struct
 import subprocess
 import sys
 
-MAGIC = bytes.fromhex("f9beb4d9")
+sys.path.insert(0, os.path.join(os.path.dirname(os.path.dirname(os.path.abspath(__file__))), "tests"))
+from lib.bitcoin import compact, read_tx, record, shown
+
 MOST_TRANSACTIONS = 100_000
 
 
@@ -76,11 +77,6 @@ SIGNATURE = 1 + 72       # its length and, with the sighash byte, 72 bytes at mo
 MULTI_SIGNATURE = 1 + 72
 
 
-def compact(n):
-    """The length of a CompactSize."""
-    return 1 if n < 253 else 3 if n < 65_536 else 5
-
-
 def keys_of(inner):
     """How many signatures and keys a multi(..) or sortedmulti(..) has, or None."""
     found = re.fullmatch(r"(?:sorted)?multi\((\d+),(.*)\)", inner)
@@ -101,7 +97,7 @@ def push(n):
 
 def script_weight(script, witness):
     """The weight of an input with a script of so many bytes, and a witness of so many beside its count."""
-    return 4 * (40 + compact(script) + script) + 1 + witness
+    return 4 * (40 + len(compact(script)) + script) + 1 + witness
 
 
 def weight_of(descriptor):
@@ -131,51 +127,21 @@ def weight_of(descriptor):
     script = multi_script(keys)
     if found.group(1) == "sh":
         return script_weight(1 + MULTI_SIGNATURE * needed + push(script), 0)
-    witness = 1 + MULTI_SIGNATURE * needed + compact(script) + script
+    witness = 1 + MULTI_SIGNATURE * needed + len(compact(script)) + script
     return script_weight(0 if found.group(1) == "wsh" else 35, witness)
 
 
 # ---- transactions
 
-class Reader:
-    """Bytes, read from the front."""
-
-    def __init__(self, data):
-        self.data, self.at = data, 0
-
-    def take(self, n):
-        if self.at + n > len(self.data):
-            raise Refused("a transaction that the node gave is cut off")
-        self.at += n
-        return self.data[self.at - n:self.at]
-
-    def number(self, n):
-        return int.from_bytes(self.take(n), "little")
-
-    def compact(self):
-        first = self.number(1)
-        return first if first < 253 else self.number({253: 2, 254: 4, 255: 8}[first])
-
-
 def inputs_and_outputs(data):
     """The outpoints that a transaction spends, and the script of each of its outputs (BIP 144)."""
-    reader = Reader(data)
-    reader.take(4)
-    count = reader.compact()
-    if count == 0:
-        reader.take(1)
-        count = reader.compact()
-    spent = []
-    for _ in range(count):
-        txid = reader.take(32)[::-1].hex()
-        spent.append((txid, reader.number(4)))
-        reader.take(reader.compact())
-        reader.take(4)
-    scripts = []
-    for _ in range(reader.compact()):
-        reader.take(8)
-        scripts.append(reader.take(reader.compact()).hex())
-    return spent, scripts
+    try:
+        tx = read_tx(data)
+    except (AssertionError, IndexError) as wrong:
+        raise Refused("a transaction that the node gave is none") from wrong
+    if tx.end != len(data):
+        raise Refused("a transaction that the node gave is cut off, or something stands after it")
+    return [(shown(txid), index) for txid, index in tx.inputs], [script.hex() for _, script in tx.outputs]
 
 
 def parents_first(transactions):
@@ -311,7 +277,7 @@ class Wallet:
         """The records of the last blocks, one by one."""
         for block in self.hashes[1:]:
             data = bytes.fromhex(self.node.ask("getblock", block, "0"))
-            yield MAGIC + struct.pack("<I", len(data)) + data
+            yield record(data)
 
 
 def make(options, say):

@@ -5,7 +5,7 @@ import os
 import signal
 import typing
 
-from kept_jobs import BESIDE, NAME, read_jobs, write_jobs
+from pages.kept_jobs import BESIDE, NAME, read_jobs, write_jobs
 
 OLD_LOG = b"what stood in the log before\n"
 LONGEST_WAIT = 120

@@ -1,11 +1,12 @@
 """Wallets with payments that wait, and requests that replace one of them: by chance, and by changes of such as are there. For
-tests/mutate.py, to which nothing of this is due: tests/replacements.py tells what comes of it."""
+tests/mutate.py, to which nothing of this is due: pages/replacements.py tells what comes of it."""
 
 import json
 
-from answers import SCRIPTS, Chain, compact, fee, read_tx, shown_point, size_of
-from input_faults import hash_of, tree_of
-from replacements import Replaced, vsize
+from harness.cases import SCRIPTS
+from lib.bitcoin import compact, double_sha256, input_bytes, merkle_root, output_bytes, read_compact, read_tx, record, serialised, shown_point, stack
+from pages.chain import Chain, fee
+from pages.replacements import Replaced, vsize
 
 FOREIGN = b"\x00\x14" + b"\x77" * 20
 SEQUENCES = (0xFFFFFFFD, 0xFFFFFFFD, 0xFFFFFFFD, 0xFFFFFFFD, 0xFFFFFFFE, 0xFFFFFFFF, 0)
@@ -17,37 +18,31 @@ METHODS = ("auto", "auto", "changeless", "weight", "draw", "manual")
 
 def built(inputs, outputs, witness=b""):
     """A transaction that spends these outpoints with these sequences; with a witness of each input where one is given."""
-    data = bytes([2, 0, 0, 0]) + (b"\0\1" if witness else b"") + size_of(len(inputs))
-    for (txid, index), sequence in inputs:
-        data += txid + index.to_bytes(4, "little") + b"\0" + sequence.to_bytes(4, "little")
-    data += size_of(len(outputs))
-    for value, script in outputs:
-        data += value.to_bytes(8, "little") + size_of(len(script)) + script
-    return data + (b"\1" + size_of(len(witness)) + witness if witness else b"") * len(inputs) + bytes(4)
+    spent, paid = [input_bytes(*point, sequence) for point, sequence in inputs], [output_bytes(*one) for one in outputs]
+    return serialised(spent, paid, [stack([witness])] * len(inputs) if witness else None)
 
 
 def places_of(data):
     """Where the outpoints, the sequences and the values of a transaction begin."""
-    count, at = compact(data, 6 if data[4] == 0 else 4)
+    count, at = read_compact(data, 6 if data[4] == 0 else 4)
     points, sequences, values = [], [], []
     for _ in range(count):
         points.append(at)
-        length, at = compact(data, at + 36)
+        length, at = read_compact(data, at + 36)
         sequences.append(at + length)
         at += length + 4
-    many, at = compact(data, at)
+    many, at = read_compact(data, at)
     for _ in range(many):
         values.append(at)
-        length, at = compact(data, at + 8)
+        length, at = read_compact(data, at + 8)
         at += length
     return points, sequences, values
 
 
 def block_of(txs, last):
     """A record of a block file, with these transactions after the block of this hash; and its own hash."""
-    header = bytes([0, 0, 0, 32]) + last + tree_of([read_tx(tx).txid for tx in txs])[0] + bytes(12)
-    body = header + size_of(len(txs)) + b"".join(txs)
-    return bytes.fromhex("f9beb4d9") + len(body).to_bytes(4, "little") + body, hash_of(header)
+    header = bytes([0, 0, 0, 32]) + last + merkle_root([read_tx(tx).txid for tx in txs]) + bytes(12)
+    return record(header + compact(len(txs)) + b"".join(txs)), double_sha256(header)
 
 
 # ---- cases by chance

@@ -2,19 +2,21 @@
 makes of them. Nothing that is made is taken as due: it is there to be mutated."""
 
 import json
-import pathlib
 import re
 
-from kept_jobs import read_jobs
-from stored_rows import commands_of
-from stored_rows import files_of as stored_files
+from lib.programs import TOP
+from lib.stored_rows import commands_of
+from lib.stored_rows import files_of as stored_files
+from pages.kept_jobs import read_jobs
 
-TOP = pathlib.Path(__file__).resolve().parent.parent
+# scripts of made-up wallets, each with the weight of an input that spends it
+SCRIPTS = [(b"\x00\x14" + b"\x11" * 20, 272), (b"\x51\x20" + b"\x22" * 32, 230), (b"\x76\xa9\x14" + b"\x33" * 20 + b"\x88\xac", 593)]
 EXAMPLE = TOP / "crates" / "fund_cli" / "data"
 THREE = ("wallet.json", "blocks.dat", "request.json")
 FUND = ["fund", *THREE, "LOG"]
 FURTHER = {"wide": THREE, "share": THREE, "sweep": THREE, "settle": ("wallet.json", "request.json", "report", "tx")}
-SCRIPTS = (
+# scripts of desks
+DESKS = (
     b"open A request.json\nturn A 1\nturn A 3\nturn A 100000\ncommit A\nopen B request.json\nturn B 100000\ncommit B\n",
     b"open A request.json\nopen B request.json\nturn A 50\nturn B 50\nturn A 100000\nturn B 100000\ncommit B\ncommit A\nclose A\n",
 )
@@ -51,7 +53,7 @@ class Cases:
         """Adds reports, jobs and desks that the program makes of so many of these payments."""
         for _ in range(number):
             files = rng.choice(payments)
-            self.desks.append({**files, "script": rng.choice(SCRIPTS)})
+            self.desks.append({**files, "script": rng.choice(DESKS)})
             end = place.run(FUND, files)
             tries = [1, 2, 3, 8, 60]
             if end.status in (0, 11):

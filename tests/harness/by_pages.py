@@ -1,24 +1,20 @@
-"""What the scripts that know the pages alone say of a run that tests/mutate.py made: tests/input_faults.py of the files,
-tests/replacements.py of what keeps a payment from being made, tests/answers.py of listings and payments, tests/verdicts.py with
-tests/text_places.py and tests/psbt_faults.py of reports, tests/desk.py of desks, tests/further.py of `wide`, `share` and `sweep`,
-tests/settlings.py of `settle`; and whether the first job of a desk is funded as
+"""What the modules of pages/ say of a run that tests/mutate.py made: input_faults.py of the files, replacements.py of what keeps a
+payment from being made, answers.py of listings and payments, verdicts.py with text_places.py and psbt_faults.py of reports, desk.py
+of desks, further.py of `wide`, `share` and `sweep`, settlings.py of `settle`; and whether the first job of a desk is funded as
 `fund` funds it. None where they agree, or have nothing to say."""
 
 import collections
 import json
 import re
 
-import desk
-import further
-import input_faults
-import psbt_faults
-import settlings
-import text_places
-from answers import Chain, judge, shown_point
-from cases import FUND, THREE, with_members
-from desk import command_of, lines_of
-from replacements import asked
-from verdicts import verdict
+from harness.cases import FUND, THREE, with_members
+from lib.bitcoin import shown_point
+from pages import desk, further, input_faults, psbt_faults, settlings, text_places
+from pages.answers import judge
+from pages.chain import Chain
+from pages.desk import command_of, lines_of
+from pages.replacements import asked
+from pages.verdicts import verdict
 
 # what these scripts stumble over
 BEYOND = (KeyError, IndexError, ValueError, TypeError, AttributeError, StopIteration, RecursionError, ZeroDivisionError)
@@ -78,7 +74,7 @@ def wrong_beside_funding(end, beside):
                              end.printed.decode(), log)
         beside[f"{end.words[0]}: {kind}"] += 1
     except AssertionError as wrong:
-        return f"by tests/further.py {wrong}"
+        return f"by pages/further.py {wrong}"
     except BEYOND:
         beside[f"{end.words[0]} not judged"] += 1
     return None
@@ -91,7 +87,7 @@ def wrong_settling(end, beside):
     try:
         beside[f"settle: {settlings.judge(files, end.status, end.printed.decode())}"] += 1
     except AssertionError as wrong:
-        return f"by tests/settlings.py {wrong}"
+        return f"by pages/settlings.py {wrong}"
     except BEYOND:
         beside["settle not judged"] += 1
     return None
@@ -109,7 +105,7 @@ def wrong_listing(end, beside):
         due += f"coin {shown_point(coin['point'])} {coin['value']} {coin['depth']} {own} {safe} "
         due += f"{coin['ancestors']} {coin['descendants']}\n"
     beside["listings"] += 1
-    return None if end.printed.decode() == due else f"by tests/by_pages.py this listing is due: {due}"
+    return None if end.printed.decode() == due else f"by harness/by_pages.py this listing is due: {due}"
 
 
 def wrong_payment(end, beside):
@@ -120,16 +116,16 @@ def wrong_payment(end, beside):
         kind = judge(asked(json.loads(given), json.loads(wallet), blocks), end.status, end.printed.decode(), log)
         beside[f"judged {kind}"] += 1
     except AssertionError as wrong:
-        return f"by tests/answers.py {wrong}"
+        return f"by pages/answers.py {wrong}"
     except BEYOND:
         beside["payments not judged"] += 1
     return None
 
 
-def wrong_verdict(end, folder, beside):
-    """Of a `check`, whose files are in this folder: whether its verdict is the one that is due."""
+def wrong_verdict(end, beside):
+    """Of a `check`: whether its verdict is the one that is due."""
     try:
-        got = verdict(folder, end.given["report"].decode("latin-1"))
+        got = verdict(end.given, end.given["report"].decode("latin-1"))
     except (AssertionError, *BEYOND):
         beside["reports not judged"] += 1
         return None
@@ -143,11 +139,11 @@ def wrong_verdict(end, folder, beside):
     if got == due:
         beside["verdicts"] += 1
         return None
-    return f"by tests/verdicts.py {got} is due"
+    return f"by pages/verdicts.py {got} is due"
 
 
 def wrong_desk(end, beside):
-    """Of a desk whose wallet and blocks are in order: whether each reply is the one that is due. tests/desk.py knows no plan that
+    """Of a desk whose wallet and blocks are in order: whether each reply is the one that is due. pages/desk.py knows no plan that
     is refused for its groups or its sum."""
     if b" TooMany " in end.printed or b" Total " in end.printed:
         return None
@@ -155,7 +151,7 @@ def wrong_desk(end, beside):
         desk.judge({**end.given, "script": end.given[end.words[3]]}, [], end.status, end.printed.decode(), collections.Counter())
         beside["desks"] += 1
     except AssertionError as wrong:
-        return f"by tests/desk.py {wrong}"
+        return f"by pages/desk.py {wrong}"
     except BEYOND:
         beside["desks not judged"] += 1
     return None

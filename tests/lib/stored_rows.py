@@ -9,7 +9,7 @@ import collections
 import pathlib
 import re
 
-CRATES = pathlib.Path(__file__).resolve().parent.parent / "crates"
+CRATES = pathlib.Path(__file__).resolve().parent.parent.parent / "crates"
 HEADING = re.compile(r"^(?:case\t)?# (\w+)(?:\\n)?\n", re.MULTILINE)
 ESCAPES = {"n": b"\n", "t": b"\t"}
 
@@ -58,6 +58,16 @@ def commands_of(part):
             files[name] = before + bytes_of(text) * int(count[0] if count else 1)
         elif verb in ("do", "sum", "surely", "whole", "pay", "settled"):
             yield Step(verb, columns, dict(files), puts)
+
+
+def answers_of(part):
+    """The commands of a part of rows_cases, the last one first, each with the status and the text that are to be printed of it."""
+    printed = part_of("rows_cases", "stdout", part)
+    for step in reversed(list(commands_of(part))):
+        printed, _, told = printed.rpartition(f"{step.columns[0]}status ")
+        status, _, text = told.partition("\n")
+        yield step, int(status), text
+    assert printed == "", f"{part}: this is printed of no command: {printed[:200]}"
 
 
 def files_of(*parts):

@@ -1,15 +1,15 @@
 """What `fund` and `resume` come to, by docs/FORMATS.md alone: the line by which a kept job is refused whose parts are a log that
-goes on, and otherwise the report and LOG of the run. The coins and the searches are those of tests/answers.py and
-tests/replacements.py, the runs those of tests/runs.py, the checker that of tests/verdicts.py. For tests/mutate.py."""
+goes on, and otherwise the report and LOG of the run. The coins and the searches are those of pages/answers.py and
+pages/replacements.py, the runs those of pages/runs.py, the checker that of pages/verdicts.py. For tests/mutate.py."""
 
 import json
 import re
 
-from answers import searches
-from psbt_faults import Fault
-from replacements import asked
-from runs import Run, TooLong
-from verdicts import SECTION, payment, read_report, refusal
+from pages.answers import searches
+from pages.psbt_faults import Fault
+from pages.replacements import asked
+from pages.runs import Run, TooLong
+from pages.verdicts import SECTION, payment, read_report, refusal
 
 OPEN = re.compile(r"section (\d+) (changeless|lean-big|lean-small) ([0-9a-fA-F]{64})\ntokens ([!-~]*)\Z")
 
@@ -68,19 +68,19 @@ def wrong_run(end, run, is_resumed):
         fault = refusal(problem, letters, places)
         if fault is not None:
             due = f"fault saved SavedFalse Log {index} {fault}\n"
-            return None if end.printed.decode() == due else f"by tests/runs.py {due} is due"
+            return None if end.printed.decode() == due else f"by pages/runs.py {due} is due"
     due = run.report()
     if end.status != {"none": 11, "unfinished": 10}.get(run.outcome[0], 0) or end.printed.decode() != due:
-        return f"by tests/runs.py this report is due: {due}"
+        return f"by pages/runs.py this report is due: {due}"
     is_so = end.status == 10 or end.files[end.words[4]].decode() == run.log()
-    return None if is_so else f"by tests/runs.py this log is due: {run.log()}"
+    return None if is_so else f"by pages/runs.py this log is due: {run.log()}"
 
 
 def wrong_numbers(end, request):
     """Whether a payment whose run isn't made here pays as its request asks."""
     report = read_report(end.printed.decode())
     fault = payment(request, report) if end.status == 0 else None
-    return fault and f"by tests/verdicts.py {fault} is due"
+    return fault and f"by pages/verdicts.py {fault} is due"
 
 
 def wrong_end(end, job, beside):
@@ -96,7 +96,7 @@ def wrong_end(end, job, beside):
         due = refused(said, closed, still_open, request)
         if due is not None:
             beside["forged jobs refused"] += 1
-            return None if end.printed.decode() == due else f"by tests/resumes.py {due} is due"
+            return None if end.printed.decode() == due else f"by pages/resumes.py {due} is due"
         kept = ((closed, still_open[3], said),)
     try:
         run = Run(request, request.given.get("tries", 100_000), *kept)

@@ -1,11 +1,12 @@
 """Runs by docs/CLOSING_LOG.md and docs/FORMATS.md alone, with each sum from scratch: the walks of the searches, try by try; what
 a run comes to within its tries, from its begin or from a kept position; its log and its report. The coins and problems are those
-of tests/answers.py. For tests/mutate.py."""
+of pages/answers.py. For tests/mutate.py."""
 
 import base64
 import typing
 
-from answers import is_program, shown_point, size_of, steps
+from lib.bitcoin import compact, input_bytes, output_bytes, serialised, shown_point, string
+from pages.answers import is_program, steps
 
 MOST = 10_000_000
 MOST_LETTERS = 4_000
@@ -101,10 +102,6 @@ class Walk:
         self.chosen, self.next, self.done = [], len(self.items), True
 
 
-def string(data):
-    return size_of(len(data)) + data
-
-
 def psbt_of(request, coins, change):
     """The PSBT of a payment, written with as few pairs as will do."""
     sequence = 0xFFFFFFFD if request.given.get("replaceable", True) else 0xFFFFFFFE
@@ -114,12 +111,12 @@ def psbt_of(request, coins, change):
     paid = [(amount.to_bytes(8, "little"), script) for script, amount in outputs]
     fields = request.given.get("psbt", 0) == 2
     if fields:
-        counts = size_of(len(inputs)), size_of(len(paid))
+        counts = compact(len(inputs)), compact(len(paid))
         data = b"psbt\xff" + map_of((2, version), (3, locktime), (4, counts[0]), (5, counts[1]), (0xFB, version))
     else:
-        tx = version + size_of(len(inputs)) + b"".join(txid + index + b"\0" + last for txid, index, last in inputs)
-        tx += size_of(len(paid)) + b"".join(amount + string(script) for amount, script in paid) + locktime
-        data = b"psbt\xff" + map_of((0, tx))
+        spent = [input_bytes(*coin["point"], sequence) for coin in coins]
+        own = [output_bytes(amount, script) for script, amount in outputs]
+        data = b"psbt\xff" + map_of((0, serialised(spent, own, locktime=int.from_bytes(locktime, "little"))))
     for coin, own in zip(coins, inputs):
         known = 1, coin["value"].to_bytes(8, "little") + string(coin["script"])
         if not is_program(coin["script"]):

@@ -1,7 +1,7 @@
 """Where the text of a report or of a log leaves its form, by docs/FORMATS.md alone: the first byte at which no such text goes on
 as the bytes do, or their length where they end too early. For tests/mutate.py."""
 
-from kept_jobs import MOST, STAGES, Reader
+from pages.kept_jobs import MOST, STAGES, Reader
 
 MOST_64 = 2**64 - 1
 MARKS = (b"exhausted", b"partial", b"drawn", b"given")

@@ -1,9 +1,10 @@
 """What of a desk's replies can be told without its coins, by docs/FORMATS.md alone: one reply to each line, in the form of that
 line; which jobs are open and how far they came; that a coin is committed once. For tests/mutate.py and tests/faults.py."""
 
-from desk import MOST, Desk, command_of, lines_of, shown
-from printed import reply_form
-from verdicts import psbt_of
+from lib.bitcoin import shown
+from pages.desk import MOST, Desk, command_of, lines_of
+from pages.printed import reply_form
+from pages.verdicts import psbt_of
 
 
 class Open:

@@ -1,12 +1,12 @@
 """The first fault of a wallet, a block file, a request or an address, by docs/FORMATS.md alone. For tests/mutate.py."""
 
-import hashlib
 import json
 import math
 import re
 
-from answers import dust
-from psbt_faults import MAX_MONEY, Bytes, Fault, read_tx, transaction
+from lib.bitcoin import MAGIC, double_sha256
+from pages.answers import dust
+from pages.psbt_faults import MAX_MONEY, Bytes, Fault, read_tx, transaction
 
 NO = object()
 MOST_RATE = 100_000_000
@@ -253,17 +253,13 @@ def read_request(data):
 # ---- the blocks
 
 
-def hash_of(data):
-    return hashlib.sha256(hashlib.sha256(data).digest()).digest()
-
-
 def tree_of(hashes):
     """The Merkle root, and whether no level has two equal hashes at an even place and the next."""
     sound = True
     while len(hashes) > 1:
         sound = sound and all(one != other for one, other in zip(hashes[::2], hashes[1::2]))
         hashes = hashes + hashes[-1:] if len(hashes) % 2 else hashes
-        hashes = [hash_of(hashes[at] + hashes[at + 1]) for at in range(0, len(hashes), 2)]
+        hashes = [double_sha256(hashes[at] + hashes[at + 1]) for at in range(0, len(hashes), 2)]
     return hashes[0], sound
 
 
@@ -284,14 +280,14 @@ def read_block(body, last, height):
     root, sound = tree_of(txids)
     test(root == body[36:68], f"Merkle {height}")
     test(sound, f"Mutated {height}")
-    return hash_of(body[:80])
+    return double_sha256(body[:80])
 
 
 def read_blocks(data, last, height):
     """The hash and the height of the last block of a file that goes on from these."""
     at = 0
     while any(data[at:]):
-        test(data[at : at + 4] == bytes.fromhex("f9beb4d9"), f"Magic {at}")
+        test(data[at : at + 4] == MAGIC, f"Magic {at}")
         size = int.from_bytes(data[at + 4 : at + 8], "little")
         test(len(data) >= at + 8 and 81 <= size <= 4_000_000 and at + 8 + size <= len(data), f"Length {at + 4}")
         last, height, at = read_block(data[at + 8 : at + 8 + size], last, height + 1), height + 1, at + 8 + size

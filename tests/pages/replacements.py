@@ -1,9 +1,11 @@
 """What a request with `bump` comes to before its searches, by docs/FORMATS.md alone: the first cause why the payment isn't replaced,
 or the coins that are spent in any case, those that may be added, and the burden. And the same of any other request: what its plan
-is refused for. The coins and states are those of tests/answers.py. For tests/mutate.py and tests/verdicts.py."""
+is refused for. The coins and states are those of pages/answers.py. For tests/mutate.py and pages/verdicts.py."""
 
-from answers import Chain, Request, fee, shown_point
-from psbt_faults import MAX_MONEY, Fault
+from lib.bitcoin import shown_point
+from pages.answers import Request
+from pages.chain import Chain, fee
+from pages.psbt_faults import MAX_MONEY, Fault
 
 MOST = 100
 INCREMENT = 1_000

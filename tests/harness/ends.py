@@ -5,15 +5,15 @@ import collections
 import json
 import os
 
-from by_pages import (wrong_beside_funding, wrong_desk, wrong_first_job, wrong_listing, wrong_payment, wrong_refusal, wrong_settling,
+from harness.by_pages import (wrong_beside_funding, wrong_desk, wrong_first_job, wrong_listing, wrong_payment, wrong_refusal, wrong_settling,
                       wrong_verdict)
-from cases import FUND, THREE, with_members
-from kept_jobs import MOST_TRIES, digest_of, gone_on, not_saved, read_saved, refusal_of
-from printed import FORMS, LOG, OPEN_LOG, WIDE_LOG, is_command
-from replies import wrong_replies
-from resumes import wrong_end
-from running import OLD_LOG
-from text_places import sections_before_fault
+from harness.cases import FUND, THREE, with_members
+from pages.kept_jobs import MOST_TRIES, digest_of, gone_on, not_saved, read_saved, refusal_of
+from pages.printed import FORMS, LOG, OPEN_LOG, WIDE_LOG, is_command
+from pages.replies import wrong_replies
+from pages.resumes import wrong_end
+from harness.running import OLD_LOG
+from pages.text_places import sections_before_fault
 
 TRIES_A_SECOND = 1_000_000
 MOST_STEPS = 60
@@ -185,7 +185,7 @@ class Judge:
         if end.words[0] == "coins" and end.status == 0:
             return wrong_listing(end, self.beside)
         if end.words[0] == "check" and end.status in (0, 12) and end.words[1:] == [*THREE, "report", "log"]:
-            return wrong_verdict(end, self.place.folder, self.beside)
+            return wrong_verdict(end, self.beside)
         if end.words[0] == "desk" and (end.status == 0 or not end.printed.startswith(b"fault ")):
             return wrong_desk(end, self.beside) or wrong_first_job(end, self.place, self.beside)
         if end.words[0] == "fund" and end.status in (0, 10, 11):

@@ -1,7 +1,8 @@
 """The first fault of a PSBT's text, or of a transaction's bytes, by docs/FORMATS.md alone. For tests/mutate.py."""
 
 import base64
-import hashlib
+
+from lib.bitcoin import double_sha256
 
 MAX_MONEY = 2_100_000_000_000_000
 
@@ -88,7 +89,7 @@ def read_tx(data, is_legacy):
     if segregated and not any(stacks):
         raise Fault("EmptyWitness")
     bare = version + data.data[start:end] + locktime
-    return inputs, outputs, hashlib.sha256(hashlib.sha256(bare).digest()).digest()
+    return inputs, outputs, double_sha256(bare)
 
 
 def pairs(data, own, judge=None):
