@@ -8,6 +8,7 @@ mod coins;
 mod fees;
 mod keepers;
 mod outside;
+mod packed;
 mod plans;
 mod pools;
 mod reports;
@@ -33,6 +34,7 @@ fn row(
         "bytes" => bytes::row(out, verb, columns),
         "outside" => outside::row(rt, out, verb),
         "keeper" => return keepers::row(out, verb, columns),
+        "packed" => return packed::row(out, verb, columns),
         "wide" => return wide::row(out, verb, columns),
         "shares" => return sharing::row(out, columns),
         "coins" => return pools::row(out, verb, columns),
