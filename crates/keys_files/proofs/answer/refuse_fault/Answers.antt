@@ -1,0 +1,4 @@
+use Rattle.keys_files.proofs.answer.refuse_fault.Goals as goal
+
+pub returns-clause-answered : goal.returns-clause-answered
+returns-clause-answered g c = rw c.keys_refusal_parts.ensures at c.put_fault.ensures.answered

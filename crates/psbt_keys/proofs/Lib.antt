@@ -1,0 +1,11 @@
+pub mod DueLaws
+pub mod ExtendLaws
+pub mod ForeignLaws
+pub mod FoundLaws
+pub mod MapsLaws
+pub mod OnceLaws
+pub mod PlaceLaws
+pub mod ReadLaws
+pub mod SameLaws
+pub mod SamePayment
+pub mod WholeLaws
