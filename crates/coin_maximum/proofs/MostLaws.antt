@@ -1,5 +1,5 @@
 -- What is reckoned is the most that listed coins pay.
-use Rattle.std.specs.Prelude.{ℕ, ℤ, pos, ◌≡◌, ◌≢◌, ◌-ℤ◌, ◌<ℤ◌, ◌≤ℤ◌, neg_ℤ, List, IfOk, IfSome, IsSome, Option, Some, None, Result, Ok, Err}
+use Rattle.std.specs.Prelude.{ℕ, ℤ, pos, ◌≡◌, ◌≢◌, ◌-ℤ◌, ◌<ℤ◌, ◌≤ℤ◌, neg_ℤ, false, List, IfOk, IfSome, IsSome, is_some, Option, Some, None, Result, Ok, Err}
 use Rattle.std.proofs.Common.{refl, sym, ap, subst, ◌∙◌, inl, inr, arith}
 use Rattle.std.proofs.lemmas.Int.{to_z-of_z}
 use mir.Syntax.{w128}
@@ -25,6 +25,11 @@ use Rattle.coin_maximum.proofs.MaximumLaws.{base_is}
 pub passed_on : (z : ℤ) → neg_ℤ (pos 1_000_000_000_000_000_000_000_000) ≤ℤ z → z ≤ℤ pos 2_100_000_000_000_000 → to_z w128 (of_z w128 z) ≡ z
 passed_on z low high = grind (arith, to_z-of_z)
 
+-- a payment that is none's replacement
+pub no_bump : (o : Option (List ℕ)) → is_some o ≡ false → o ≡ None
+no_bump None it = refl
+no_bump (Some x) it = absurd cc
+
 -- by what each call gave
 pub left_is : (p : PlainPlan) (x : Rates) (l : PaymentLoad) (base : ℕ) (coins : List Candidate) → x ≡ rates_of p.request → l ≡ load_of p.request p.change (presets_in p) (burden_in p) → base ≡ base_of l → coins ≡ presets_in p
     → ((pos (value_of coins) -ℤ pos (charges_of x.rate coins)) -ℤ pos (fee_of x.rate (vsize_of base))) ≡ max_of p
@@ -35,9 +40,9 @@ left_is p x l base coins rates load base_same coins_same =
     ∙ ap (λ (b : ℕ). left (rates_of p.request) b (presets_in p)) (base_same ∙ ap (λ (y : PaymentLoad). base_of y) load)
     ∙ ap (λ (n : ℕ). (pos (value_of (presets_in p)) -ℤ pos (charges_of p.request.rate (presets_in p))) -ℤ pos n) (base_is p.request p.change (presets_in p) (burden_in p))
 
-pub maximum_is : (p funds : PlainPlan) (z : ℤ) (o : Option ℕ) → funds ≡ p → IsPlan funds → z ≡ max_of funds → IfSome o (λ n. pos n ≡ z) → (o ≡ None → z <ℤ pos 0) → IsMaximum p o
-maximum_is p funds z (Some n) same plan left some none = (subst IsPlan same plan, some ∙ left ∙ ap (λ (q : PlainPlan). max_of q) same)
-maximum_is p funds z None same plan left some none = inr (inr (subst (λ (x : ℤ). x <ℤ pos 0) (left ∙ ap (λ (q : PlainPlan). max_of q) same) (none refl)))
+pub maximum_is : (p funds : PlainPlan) (z : ℤ) (o : Option ℕ) → p.request.bump ≡ None → funds ≡ p → IsPlan funds → z ≡ max_of funds → IfSome o (λ n. pos n ≡ z) → (o ≡ None → z <ℤ pos 0) → IsMaximum p o
+maximum_is p funds z (Some n) bump same plan left some none = (bump, subst IsPlan same plan, some ∙ left ∙ ap (λ (q : PlainPlan). max_of q) same)
+maximum_is p funds z None bump same plan left some none = inr (inr (subst (λ (x : ℤ). x <ℤ pos 0) (left ∙ ap (λ (q : PlainPlan). max_of q) same) (none refl)))
 
 -- a plan that isn't made
 pub refused_is : (p : PlainPlan) (fault : PlanFault) (r : Result (Option ℕ) Memory) → IsPlanFault p fault → IfOk r (λ o. (o ≡ None) × (fault ≢ plans.Memory)) → IfOk r (IsMaximum p)

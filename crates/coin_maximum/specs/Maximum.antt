@@ -46,5 +46,5 @@ plan_with r change candidates = record { request = r; change = change; candidate
 
 -- The most that the listed coins of a plan pay; none where a payment is replaced, where no plan is made, or where nothing is left.
 abbrev pub IsMaximum : PlainPlan → Option ℕ → Type 0
-IsMaximum p (Some n) = IsPlan p × (pos n ≡ max_of p)
+IsMaximum p (Some n) = (p.request.bump ≡ None) × IsPlan p × (pos n ≡ max_of p)
 IsMaximum p None = IsSome p.request.bump ⊎ (IsSome (fault_of p) ⊎ (max_of p <ℤ pos 0))

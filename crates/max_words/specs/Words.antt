@@ -74,6 +74,12 @@ abbrev pub word_fault : WordFault → MaxFault
 word_fault words.Memory = faults.Memory
 word_fault fault = faults.Words fault
 
+-- the fault is one of words that have no other recipient, of their method or their coins, or out of memory
+abbrev pub IsOfWords : MaxFault → Type 0
+IsOfWords (faults.Others place) = ⊥
+IsOfWords (faults.Stopped names stop) = ⊥
+IsOfWords _ = Unit {0}
+
 -- All goes to one recipient from listed coins alone: by the method `manual`, and of one coin at least.
 abbrev pub taken_by : (place : ℕ) → PlainAsked → Result PlainAsked MaxFault
 taken_by place a =

@@ -1,11 +1,12 @@
 //! The most that listed coins pay, by what the files hold.
 
-ghost use Rattle.std.specs.Prelude.{◌≡◌, ◌≢◌, Ok, IfOk, Some};
+ghost use Rattle.std.specs.Prelude.{◌≡◌, ◌≢◌, Err, Ok, IfOk, None, Some};
 ghost use Rattle.fund_files.specs.Chain.{IsChain};
 ghost use Rattle.request_making.specs.Asked.{asked_of};
 ghost use Rattle.json_fields.specs.declared.fault.FieldFault.TheVariants.{Memory as NoMemory};
 ghost use Rattle.request_text.specs.PlainRequest.{PlainRequest};
 ghost use Rattle.request_text.specs.Reported.{plain_fault};
+ghost use Rattle.request_text.specs.declared.fault.Refusal.{Refusal};
 ghost use Rattle.request_text.specs.declared.fault.Refusal.TheVariants.{Field};
 ghost use Rattle.command_inputs.specs.Outcome.{plan_of};
 ghost use Rattle.max_words.specs.Filled.{IsAmount};
@@ -29,7 +30,8 @@ fn refused(fault: RequestFault) -> Result<(), Memory>
 
 /// The request of what is asked for; none where it breaks a rule of requests.
 fn request_for(alloc: Global, asked: &Asked) -> Result<Option<Request>, Memory>
-    ensures { IfOk result (λ o. (r : PlainRequest) → asked_of asked.now.payments.items asked.now.coins.items asked.now.settings ≡ Ok r → o ≡ Some r) }
+    ensures asked { IfOk result (λ o. (r : PlainRequest) → asked_of asked.now.payments.items asked.now.coins.items asked.now.settings ≡ Ok r → o ≡ Some r) }
+    ensures unasked { IfOk result (λ o. (fault : Refusal) → asked_of asked.now.payments.items asked.now.coins.items asked.now.settings ≡ Err fault → o ≡ None) }
 {
     let text = asked.request(alloc)?;
     match read_request(alloc, text.as_bytes()) {
@@ -56,10 +58,11 @@ fn amount_of(alloc: Global, held: &Chain, request: &Request) -> Result<u64, Memo
     }
 }
 
-/// The same of what is asked for.
+/// The same of what is asked for; where that breaks a rule of requests, all the money that there can be.
 pub fn amount_for(alloc: Global, held: &Chain, asked: &Asked) -> Result<u64, Memory>
     requires { IsChain held.now }
-    ensures { IfOk result (λ n. (r : PlainRequest) → asked_of asked.now.payments.items asked.now.coins.items asked.now.settings ≡ Ok r → IsAmount (plan_of held.now r) n) }
+    ensures most { IfOk result (λ n. (r : PlainRequest) → asked_of asked.now.payments.items asked.now.coins.items asked.now.settings ≡ Ok r → IsAmount (plan_of held.now r) n) }
+    ensures unasked { IfOk result (λ n. (fault : Refusal) → asked_of asked.now.payments.items asked.now.coins.items asked.now.settings ≡ Err fault → n ≡ MAX_MONEY) }
 {
     let request = request_for(alloc, asked)?;
     match request {

@@ -1,10 +1,11 @@
 //! What words ask for whose recipient gets all.
 
-ghost use Rattle.std.specs.Prelude.{◌≡◌, ◌<◌, ◌≢◌, Err, List, String, false, length, map, string_bytes, true};
+ghost use Rattle.std.specs.Prelude.{◌≡◌, ◌<◌, ◌≢◌, Err, IfErr, List, String, false, length, map, string_bytes, true};
 ghost use Rattle.std.specs.declared.alloc.Global.{Global as Heap};
 ghost use Rattle.fund_base.specs.Parsing.{YieldsAll};
 ghost use Rattle.pay_words.specs.Asked.{asked_in, plain_asked};
-ghost use Rattle.max_words.specs.Words.{filled, has_others, is_manual, taken_by, taken_of, word_fault};
+ghost use Rattle.max_words.specs.Filled.{IsNotAsked};
+ghost use Rattle.max_words.specs.Words.{IsOfWords, filled, has_others, is_manual, taken_by, taken_of, word_fault};
 ghost use Rattle.max_words.specs.declared.fault.MaxFault.TheVariants.{Memory as OutOfMemory, Others};
 
 use crate::fault::MaxFault;
@@ -23,7 +24,8 @@ fn is_manual(method: Method) -> bool
 
 /// Why the words ask for no payment, once an amount stands in them.
 fn word_fault(fault: WordFault) -> MaxFault
-    ensures { result ≡ word_fault fault }
+    ensures value { result ≡ word_fault fault }
+    ensures of_words { IsOfWords result }
 {
     match fault {
         WordFault::Memory => MaxFault::Memory,
@@ -33,7 +35,8 @@ fn word_fault(fault: WordFault) -> MaxFault
 
 /// What is asked for, where listed coins pay it alone.
 fn taken_by(place: usize, asked: Asked) -> Result<Asked, MaxFault>
-    ensures { YieldsAll OutOfMemory plain_asked result (taken_by place (plain_asked asked)) }
+    ensures value { YieldsAll OutOfMemory plain_asked result (taken_by place (plain_asked asked)) }
+    ensures of_words { IfErr result IsOfWords }
 {
     if !is_manual(asked.settings.method) {
         return Err(MaxFault::NotManual(place));
@@ -51,7 +54,8 @@ fn read_filled(
     place: usize,
     drawn: [u8; 32],
 ) -> Result<Asked, MaxFault>
-    ensures { YieldsAll OutOfMemory plain_asked result (taken_of place (asked_in drawn said.now)) }
+    ensures value { YieldsAll OutOfMemory plain_asked result (taken_of place (asked_in drawn said.now)) }
+    ensures of_words { IfErr result IsOfWords }
 {
     match read_pay(alloc, said, drawn) {
         Ok(asked) => taken_by(place, asked),
@@ -69,6 +73,7 @@ pub fn asked_for(
 ) -> Result<Asked, MaxFault>
     requires { place < length words.now }
     ensures others { has_others words.now ≡ true → result ≡ Err (Others place) }
+    ensures refused { IfErr result (IsNotAsked drawn words.now place) }
     ensures asks { has_others words.now ≡ false → result ≢ Err OutOfMemory → (said : List (String Heap)) × (map string_bytes said ≡ filled words.now place 2_100_000_000_000_000) × YieldsAll OutOfMemory plain_asked result (taken_of place (asked_in drawn said)) }
 {
     if has_others(words) {

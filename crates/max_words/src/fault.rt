@@ -1,7 +1,7 @@
 //! Why no amount is found for a recipient that gets all.
 
-ghost use Rattle.std.specs.Prelude.{◌≡◌};
-ghost use Rattle.max_words.specs.declared.fault.MaxFault.TheVariants.{Memory as OutOfMemory};
+ghost use Rattle.std.specs.Prelude.{◌≡◌, ◌≢◌};
+ghost use Rattle.max_words.specs.declared.fault.MaxFault.TheVariants.{Memory as OutOfMemory, Stopped};
 
 use fund_base::Memory;
 use fund_files::Stop;
@@ -23,6 +23,17 @@ pub enum MaxFault {
     Stopped(Names, Stop),
     /// There was not enough memory.
     Memory,
+}
+
+/// Why no amount is found where the reading of the files of these names stops.
+pub fn stopped(names: Names, stop: Stop) -> MaxFault
+    ensures memory { stop ≡ Stop.Memory → result ≡ OutOfMemory }
+    ensures named { stop ≢ Stop.Memory → result ≡ Stopped names stop }
+{
+    match stop {
+        Stop::Memory => MaxFault::Memory,
+        stop => MaxFault::Stopped(names, stop),
+    }
 }
 
 impl From<Memory> for MaxFault {
