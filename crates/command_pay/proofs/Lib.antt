@@ -7,3 +7,4 @@ pub mod RunLaws
 mod SavingLaws
 mod SharedMoneyLaws
 mod Shown
+mod TakenLaws

@@ -6,13 +6,13 @@ use Rattle.std.specs.Fmt.{decimal}
 unfoldable pub high_fee_text : (fee most : ℕ) → List ℕ
 high_fee_text fee most = codes "The fee of " ++ (decimal fee ++ (codes " sat is above " ++ (decimal most ++ codes " sat, the greatest that is taken: give less for --fee-rate, or more for --max-fee.")))
 
--- what is said of the log, where the PSBT was not written after it
-abbrev pub log_words : Bool → List ℕ
-log_words written = if written then codes " The log was written." else codes ""
+-- what is said of the new files before one that was not written, where any is asked for
+abbrev pub earlier_words : Bool → List ℕ
+earlier_words any = if any then codes " The files asked for before it, in the order request, log, report and PSBT, were written." else codes ""
 
 -- a new file that was not written, or in part
-unfoldable pub unwritten_text : (name : List ℕ) → (log_written : Bool) → List ℕ
-unwritten_text name log_written = codes "The file " ++ (name ++ (codes " was not written: it is there already, its folder is missing or closed to you, or the disk is full; name a new file. A part of it may stand there." ++ log_words log_written))
+unfoldable pub unwritten_text : (name : List ℕ) → (earlier_written : Bool) → List ℕ
+unwritten_text name earlier_written = codes "The file " ++ (name ++ (codes " was not written: it is there already, its folder is missing or closed to you, or the disk is full; name a new file. A part of it may stand there." ++ earlier_words earlier_written))
 
 -- change to a script that the wallet doesn't watch
 unfoldable pub change_warning : List ℕ

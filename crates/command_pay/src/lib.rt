@@ -20,7 +20,6 @@ mod said;
 mod saving;
 mod shares;
 mod table;
-mod written;
 
 pub use change::is_change_listed;
 pub use fees::{fee_ceiling, is_fee_taken};
@@ -29,7 +28,7 @@ pub use laws::{
 };
 pub use lines::{fee_line, mark_sentence};
 pub use new_files::NewFileShelf;
-pub use outcome::{Ending, NewFile};
+pub use outcome::Ending;
 pub use parties::gets_line;
 pub use paying::{pay, pay_asked};
 pub use progress::ProgressShelf;
@@ -37,4 +36,3 @@ pub use rates::rate_of;
 pub use report::PaidReport;
 pub use said::{change_warning, high_fee_text, unread_warning, unwritten_text};
 pub use table::{put_coins, table_text};
-pub use written::put_if;

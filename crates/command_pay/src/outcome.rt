@@ -2,15 +2,7 @@
 
 use crate::report::PaidReport;
 use command_end::Status;
-
-/// A new file that is asked for.
-#[derive(Clone, Copy, PartialEq, Eq)]
-pub enum NewFile {
-    /// That of the log.
-    Log,
-    /// That of the PSBT.
-    Psbt,
-}
+use payment_files::NewFile;
 
 /// How a payment ends that words ask for.
 #[derive(Drop)]
@@ -22,7 +14,7 @@ pub enum Ending {
     FeeAboveMaximum(u64, u64),
     /// There is none: the status, and the lines that say why. No file is written.
     NotPaid(Status, Vec<u8>),
-    /// This file wasn't written. There is one of its name, or the system refuses it.
+    /// This file wasn't written, and those that are asked for before it were. There is one of its name, or the system refuses it.
     Unwritten(NewFile),
     /// There was not enough memory.
     Memory,

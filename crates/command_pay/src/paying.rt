@@ -10,16 +10,16 @@ ghost use Rattle.wide_report.specs.WideText.{IsWideText};
 ghost use Rattle.held_run.specs.Held.{KeepsFiles};
 ghost use Rattle.pay_words.specs.Asked.{asked_in, plain_asked};
 ghost use Rattle.pay_words.specs.Given.{BeginsWithFlag};
+ghost use Rattle.payment_files.specs.Files.{HasOwnNames};
 ghost use Rattle.pay_words.specs.declared.fault.WordFault.TheVariants.{Memory as OutOfMemory};
 ghost use Rattle.command_pay.specs.Paid.{fee_in};
-ghost use Rattle.command_pay.specs.Pays.{HasTwoNames, Pays, greatest_fee};
+ghost use Rattle.command_pay.specs.Pays.{Pays, greatest_fee};
 ghost use Rattle.command_pay.specs.Run.{IsReportBy, IsSomeReport};
 
 use crate::fees::{fee_ceiling, is_fee_taken};
 use crate::outcome::Ending;
 use crate::report::PaidReport;
 use crate::run::run_asked;
-use crate::written::{PutFault, put_files};
 use amount_reports::{AmountFault, SharedReport, read_shared};
 use command_end::Status;
 use fund_base::Memory;
@@ -27,6 +27,7 @@ use fund_report::{FundedReport, Report, ReportFault, read_report};
 use fund_shelf::Shelf;
 use held_run::Run;
 use pay_words::{Asked, Way, WordFault, read_pay};
+use payment_files::{PutFault, put_files};
 use std::alloc::Global;
 use wide_report::{WideReportFault, read_wide_report};
 
@@ -111,16 +112,16 @@ fn high_fee(asked: &Asked, report: &PaidReport) -> Ending
 }
 
 /// Pays what is asked. The wallet and the blocks are read at `files`, which is answered too: no file of it is changed. Where the
-/// run of its command comes to a payment whose fee is taken, its log and then its PSBT are written at `new_files`, each where it is
-/// asked for; else nothing is written. The two may not have one name. Out of memory is the one answer that stands for no other
-/// cause.
+/// run of its command comes to a payment whose fee is taken, its new files are written at `new_files`, each where it is asked for, in this
+/// order: the request, the log, the report and the PSBT. Else nothing is written. No two of them may have one name. Out of memory is the
+/// one answer that stands for no other cause.
 pub fn pay_asked<H: Shelf + Drop, N: Shelf>(
     alloc: Global,
     asked: &Asked,
     files: H,
     new_files: &mut N,
 ) -> (Ending, H)
-    requires { HasTwoNames asked.now }
+    requires { HasOwnNames asked.now }
     ensures pays { Pays H.tells N.tells asked.now (H.view files) (H.view result.1) (N.view new_files.old) (N.view new_files.new) result.0 }
     ensures files { KeepsFiles H.tells (H.view files) (H.view result.1) }
 {
@@ -140,7 +141,7 @@ pub fn pay_asked<H: Shelf + Drop, N: Shelf>(
     if !accepts_fee(asked, &report) {
         return (high_fee(asked, &report), files);
     }
-    match put_files(asked, &report, &log, new_files) {
+    match put_files(alloc, asked, &log, &said, report.psbt(), new_files) {
         Ok(()) => (Ending::Paid(report, log), files),
         Err(PutFault::Unwritten(file)) => (Ending::Unwritten(file), files),
         Err(PutFault::Memory) => (Ending::Memory, files),

@@ -1,7 +1,7 @@
 //! What is said of a payment whose fee is too great, that was not written, or whose change may be lost.
 
 ghost use Rattle.std.specs.Prelude.{◌≡◌, IfOk, string_bytes};
-ghost use Rattle.command_pay.specs.Said.{change_warning, high_fee_text, log_words, unread_warning, unwritten_text};
+ghost use Rattle.command_pay.specs.Said.{change_warning, high_fee_text, earlier_words, unread_warning, unwritten_text};
 
 use fund_base::Memory;
 use std::alloc::Global;
@@ -17,23 +17,26 @@ pub fn high_fee_text(alloc: Global, fee: u64, most: u64) -> Result<String, Memor
     )?)
 }
 
-/// What is said of the log, where the PSBT was not written after it.
-fn log_words(written: bool) -> &'static str
-    ensures { result.now ≡ log_words written }
+/// What is said of the new files before one that was not written, where any is asked for.
+fn earlier_words(any: bool) -> &'static str
+    ensures { result.now ≡ earlier_words any }
 {
-    if written { " The log was written." } else { "" }
+    if any {
+        " The files asked for before it, in the order request, log, report and PSBT, were written."
+    } else {
+        ""
+    }
 }
 
-/// What is said of a new file that was not written. The log is written first, so it may stand whole where the PSBT was not
-/// written.
+/// What is said of a new file that was not written; and of those that are asked for before it, where there are any.
 #[tactic(auto, unfolding(crate::specs::Said::unwritten_text))]
-pub fn unwritten_text(alloc: Global, name: &str, log_written: bool) -> Result<String, Memory>
-    ensures { IfOk result (λ text. string_bytes text ≡ unwritten_text name.now log_written) }
+pub fn unwritten_text(alloc: Global, name: &str, earlier_written: bool) -> Result<String, Memory>
+    ensures { IfOk result (λ text. string_bytes text ≡ unwritten_text name.now earlier_written) }
 {
     Ok(format!(in alloc;
         "The file {} was not written: it is there already, its folder is missing or closed to you, or the disk is full; name a new file. A part of it may stand there.{}",
         name,
-        log_words(log_written)
+        earlier_words(earlier_written)
     )?)
 }
 

@@ -4,7 +4,7 @@ use Rattle.amount_reports.specs.SweptText.{PlainSwept}
 use Rattle.fund_shelf.specs.Causes.{ShelfView}
 use Rattle.command_end.specs.declared.status.Status.TheVariants as statuses
 use Rattle.pay_words.specs.declared.asked.Asked.{Asked}
-use Rattle.command_pay.specs.Written.{HasFileIf, IsStill, IsUnwritten}
+use Rattle.payment_files.specs.Written.{HasFileIf, IsStill, IsUnwritten}
 use Rattle.command_sweeping.specs.Fees.{greatest_of}
 use Rattle.command_sweeping.specs.Run.{IsPayment, IsRun}
 use Rattle.command_sweeping.specs.declared.outcome.Ending.{Ending}

@@ -11,11 +11,11 @@ use crate::outcome::Ending;
 use crate::run::run_asked;
 use amount_reports::{AmountFault, SweptReport, read_swept};
 use command_end::Status;
-use command_pay::put_if;
 use fund_base::Memory;
 use fund_shelf::{Fault, Shelf};
 use held_run::Run;
 use pay_words::Asked;
+use payment_files::put_if;
 use std::alloc::Global;
 
 /// The payment of which these bytes are the report. It refuses only when out of memory.

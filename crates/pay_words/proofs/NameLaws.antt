@@ -1,12 +1,12 @@
 -- The names of files that words give are apart.
-use Rattle.std.proofs.Common.{◌≡◌, ◌≢◌, ◌==◌, ℕ, Bool, true, false, List, [], length, Option, Some, None, Result, Ok, Err, String, if◌then◌else◌, refl, ap, subst, ◌∙◌}
-use Rattle.std.specs.Prelude.{option_map}
+use Rattle.std.proofs.Common.{◌≡◌, ◌≢◌, ◌==◌, ℕ, Bool, true, false, List, [], ◌∷◌, length, Option, Some, None, Result, Ok, Err, String, if◌then◌else◌, refl, ap, subst, ◌∙◌}
+use Rattle.std.specs.Prelude.{◌||◌, option_map}
 use Rattle.std.specs.Option.{option_or}
 use Rattle.std.specs.declared.alloc.Global.{Global}
 use Rattle.std.proofs.lemmas.Slice.Eq.{bytes_eq-Decides}
 use Rattle.fund_base.specs.Parsing.{◌>>=◌}
 use Rattle.fund_base.proofs.Laws.{bind_ok}
-use Rattle.pay_words.specs.Asked.{AreApart, PlainAsked, PlainNames, alike_at, alike_by, asked_by, asked_in, each_name, is_given, name_behind, name_or_none, names_in, needed_name, same_name, some_paid, unless_same}
+use Rattle.pay_words.specs.Asked.{AreApart, PlainAsked, PlainNames, alike_at, alike_by, asked_by, asked_in, each_name, is_given, is_given_by_any, name_behind, name_or_none, names_in, needed_name, same_name, some_paid, unless_same}
 use Rattle.pay_words.specs.Given.{flags_in, place_of}
 use Rattle.pay_words.specs.Settings.{default_or, max_fee, settings_given}
 use Rattle.pay_words.specs.Values.{text_of, word_at}
@@ -47,20 +47,37 @@ optional_is flag words given name taken = by (place_of given flag) taken
         let is : Some parts.0 ≡ name = cc (parts.2) in
         (ap (λ (t : List ℕ). Some t) p.0 ∙ is, λ empty. p.1 (cc (is, empty)))
 
--- two names that aren't told as alike are apart
-alike_none : (words : List (String Global)) (given : List Given) (flag other : Flag) (a b : List ℕ) → alike_at words given flag other ≡ None → text_of words given flag ≡ Some a → text_of words given other ≡ Some b → a ≢ b
-alike_none words given flag other a b none is_a is_b same = by (place_of given flag) none is_a
-  where
-    told : (place : ℕ) (t : Bool) → t ≡ true → (if t then Some place else None) ≡ None → ⊥
-    told place true is here = cc
-    told place false is here = cc
+-- the names behind these flags are others
+abbrev Differs : List (String Global) → List Given → List ℕ → List Flag → Type 0
+Differs words given name [] = Unit
+Differs words given name (f ∷ fs) = ((other : List ℕ) → text_of words given f ≡ Some other → name ≢ other) × Differs words given name fs
 
-    by : (o : Option ℕ) → alike_by words given other o ≡ None → option_map (word_at words) o ≡ Some a → ⊥
+-- where the name stands behind none of them
+differs : (words : List (String Global)) (given : List Given) (name : List ℕ) (fs : List Flag) → is_given_by_any words given name fs ≡ false → Differs words given name fs
+differs words given name [] none = tt
+differs words given name (f ∷ fs) none = by (is_given name (text_of words given f)) refl (differs words given name fs) none
+  where
+    by : (b : Bool) → is_given name (text_of words given f) ≡ b → (is_given_by_any words given name fs ≡ false → Differs words given name fs) → (b || is_given_by_any words given name fs) ≡ false → Differs words given name (f ∷ fs)
+    by true is rest here = cc
+    by false is rest here = (λ other text same. let yes = ap (is_given name) text ∙ (bytes_eq-Decides name other).1 same in cc, rest here)
+
+-- a name that isn't told as alike differs from the others
+alike_none : (words : List (String Global)) (given : List Given) (flag : Flag) (others : List Flag) (name : List ℕ) → alike_at words given flag others ≡ None → text_of words given flag ≡ Some name → Differs words given name others
+alike_none words given flag others name none is = by (place_of given flag) none is
+  where
+    told : (place : ℕ) (b : Bool) → (if b then Some place else None) ≡ None → b ≡ false
+    told place true here = cc
+    told place false here = refl
+
+    by : (o : Option ℕ) → alike_by words given others o ≡ None → option_map (word_at words) o ≡ Some name → Differs words given name others
     by None here no_word = cc
     by (Some place) here word =
-        let name : word_at words place ≡ b = cc in
-        let both = ap (is_given (word_at words place)) is_b ∙ (bytes_eq-Decides (word_at words place) b).1 name in
-        told place (is_given (word_at words place) (text_of words given other)) both here
+        let same : word_at words place ≡ name = cc in
+        subst (λ (t : List ℕ). Differs words given t others) same (differs words given (word_at words place) others (told place (is_given_by_any words given (word_at words place) others) here))
+
+-- a name that may be left out isn't one that it differs from
+not_both : (words : List (String Global)) (given : List Given) (flag : Flag) (name : List ℕ) (o : Option (List ℕ)) → text_of words given flag ≡ o → ((other : List ℕ) → text_of words given flag ≡ Some other → name ≢ other) → o ≢ Some name
+not_both words given flag name o is apart same = apart name (is ∙ same) refl
 
 -- neither of two
 neither : (a b : Option ℕ) → option_or a b ≡ None → (a ≡ None) × (b ≡ None)
@@ -72,40 +89,85 @@ unless_is : (o : Option ℕ) (names taken : PlainNames) → unless_same o names 
 unless_is None names taken is = let same : names ≡ taken = cc in (refl, same)
 unless_is (Some place) names taken is = cc
 
+-- the names that were read
+abbrev names_of : (wallet blocks : List ℕ) (psbt log report request : Option (List ℕ)) → PlainNames
+names_of wallet blocks psbt log report request = record { wallet = wallet; blocks = blocks; psbt = psbt; log = log; report = report; request = request }
+
+-- each of them, as it was read
+record AreRead (words : List (String Global)) (given : List Given) (n : PlainNames) : Type 0 where
+  wallet : needed_name flags.Wallet words given ≡ Ok n.wallet
+  blocks : needed_name flags.Blocks words given ≡ Ok n.blocks
+  psbt : name_or_none flags.Psbt words given ≡ Ok n.psbt
+  log : name_or_none flags.Log words given ≡ Ok n.log
+  report : name_or_none flags.Report words given ≡ Ok n.report
+  request : name_or_none flags.Request words given ≡ Ok n.request
+
+are_read : (words : List (String Global)) (given : List Given) (names : PlainNames) → each_name words given ≡ Ok names → AreRead words given names
+are_read words given names each =
+    let w = bind_ok (needed_name flags.Wallet words given) (λ wallet. needed_name flags.Blocks words given >>= λ blocks. name_or_none flags.Psbt words given >>= λ psbt. name_or_none flags.Log words given >>= λ log. name_or_none flags.Report words given >>= λ report. name_or_none flags.Request words given >>= λ request. Ok (names_of wallet blocks psbt log report request)) names each in
+    let b = bind_ok (needed_name flags.Blocks words given) (λ blocks. name_or_none flags.Psbt words given >>= λ psbt. name_or_none flags.Log words given >>= λ log. name_or_none flags.Report words given >>= λ report. name_or_none flags.Request words given >>= λ request. Ok (names_of w.0 blocks psbt log report request)) names w.2 in
+    let p = bind_ok (name_or_none flags.Psbt words given) (λ psbt. name_or_none flags.Log words given >>= λ log. name_or_none flags.Report words given >>= λ report. name_or_none flags.Request words given >>= λ request. Ok (names_of w.0 b.0 psbt log report request)) names b.2 in
+    let l = bind_ok (name_or_none flags.Log words given) (λ log. name_or_none flags.Report words given >>= λ report. name_or_none flags.Request words given >>= λ request. Ok (names_of w.0 b.0 p.0 log report request)) names p.2 in
+    let r = bind_ok (name_or_none flags.Report words given) (λ report. name_or_none flags.Request words given >>= λ request. Ok (names_of w.0 b.0 p.0 l.0 report request)) names l.2 in
+    let q = bind_ok (name_or_none flags.Request words given) (λ request. Ok (names_of w.0 b.0 p.0 l.0 r.0 request)) names r.2 in
+    let is : names_of w.0 b.0 p.0 l.0 r.0 q.0 ≡ names = cc (q.2) in
+    subst (AreRead words given) is (record { wallet = w.1; blocks = b.1; psbt = p.1; log = l.1; report = r.1; request = q.1 })
+
+-- none of them stands twice
+record AreOnce (words : List (String Global)) (given : List Given) : Type 0 where
+  blocks : alike_at words given flags.Blocks (flags.Wallet ∷ []) ≡ None
+  psbt : alike_at words given flags.Psbt (flags.Wallet ∷ flags.Blocks ∷ []) ≡ None
+  log : alike_at words given flags.Log (flags.Wallet ∷ flags.Blocks ∷ flags.Psbt ∷ []) ≡ None
+  report : alike_at words given flags.Report (flags.Wallet ∷ flags.Blocks ∷ flags.Psbt ∷ flags.Log ∷ []) ≡ None
+  request : alike_at words given flags.Request (flags.Wallet ∷ flags.Blocks ∷ flags.Psbt ∷ flags.Log ∷ flags.Report ∷ []) ≡ None
+
+are_once : (words : List (String Global)) (given : List Given) → same_name words given ≡ None → AreOnce words given
+are_once words given none =
+    let b = neither _ _ none in
+    let p = neither _ _ b.1 in
+    let l = neither _ _ p.1 in
+    let r = neither _ _ l.1 in
+    record { blocks = b.0; psbt = p.0; log = l.0; report = r.0; request = r.1 }
+
 -- names by themselves, of which none stands twice
 apart_by : (words : List (String Global)) (given : List Given) (names : PlainNames) → each_name words given ≡ Ok names → same_name words given ≡ None → AreApart names
 apart_by words given names each none =
-    let w = bind_ok (needed_name flags.Wallet words given) (λ wallet. needed_name flags.Blocks words given >>= λ blocks. name_or_none flags.Psbt words given >>= λ psbt. name_or_none flags.Log words given >>= λ log. Ok (record { wallet = wallet; blocks = blocks; psbt = psbt; log = log })) names each in
-    let b = bind_ok (needed_name flags.Blocks words given) (λ blocks. name_or_none flags.Psbt words given >>= λ psbt. name_or_none flags.Log words given >>= λ log. Ok (record { wallet = w.0; blocks = blocks; psbt = psbt; log = log })) names w.2 in
-    let p = bind_ok (name_or_none flags.Psbt words given) (λ psbt. name_or_none flags.Log words given >>= λ log. Ok (record { wallet = w.0; blocks = b.0; psbt = psbt; log = log })) names b.2 in
-    let l = bind_ok (name_or_none flags.Log words given) (λ log. Ok (record { wallet = w.0; blocks = b.0; psbt = p.0; log = log })) names p.2 in
-    let made : PlainNames = record { wallet = w.0; blocks = b.0; psbt = p.0; log = l.0 } in
-    let is : made ≡ names = cc (l.2) in
-    let wallet = needed_is flags.Wallet words given w.0 w.1 in
-    let blocks = needed_is flags.Blocks words given b.0 b.1 in
-    let psbt = optional_is flags.Psbt words given p.0 p.1 in
-    let log = optional_is flags.Log words given l.0 l.1 in
-    let pairs = neither (alike_at words given flags.Blocks flags.Wallet) _ none in
-    let rest = neither (option_or (alike_at words given flags.Psbt flags.Wallet) (alike_at words given flags.Psbt flags.Blocks)) _ pairs.1 in
-    let of_psbt = neither (alike_at words given flags.Psbt flags.Wallet) (alike_at words given flags.Psbt flags.Blocks) rest.0 in
-    let of_log = neither (option_or (alike_at words given flags.Log flags.Wallet) (alike_at words given flags.Log flags.Blocks)) (alike_at words given flags.Log flags.Psbt) rest.1 in
-    let of_log_source = neither (alike_at words given flags.Log flags.Wallet) (alike_at words given flags.Log flags.Blocks) of_log.0 in
-    subst AreApart {x = made} is (record {
+    let read = are_read words given names each in
+    let once = are_once words given none in
+    let wallet = needed_is flags.Wallet words given names.wallet read.wallet in
+    let blocks = needed_is flags.Blocks words given names.blocks read.blocks in
+    let psbt = optional_is flags.Psbt words given names.psbt read.psbt in
+    let log = optional_is flags.Log words given names.log read.log in
+    let report = optional_is flags.Report words given names.report read.report in
+    let request = optional_is flags.Request words given names.request read.request in
+    record {
       wallet = wallet.1;
       blocks = blocks.1;
       psbt = psbt.1;
       log = log.1;
-      sources = alike_none words given flags.Blocks flags.Wallet b.0 w.0 pairs.0 blocks.0 wallet.0;
-      psbt_apart = λ name given_psbt. (
-        alike_none words given flags.Psbt flags.Wallet name w.0 of_psbt.0 (psbt.0 ∙ given_psbt) wallet.0,
-        alike_none words given flags.Psbt flags.Blocks name b.0 of_psbt.1 (psbt.0 ∙ given_psbt) blocks.0,
+      report = report.1;
+      request = request.1;
+      sources = (alike_none words given flags.Blocks (flags.Wallet ∷ []) names.blocks once.blocks blocks.0).0 names.wallet wallet.0;
+      psbt_apart = λ name is. let d = alike_none words given flags.Psbt (flags.Wallet ∷ flags.Blocks ∷ []) name once.psbt (psbt.0 ∙ is) in (d.0 names.wallet wallet.0, d.1.0 names.blocks blocks.0);
+      log_apart = λ name is. let d = alike_none words given flags.Log (flags.Wallet ∷ flags.Blocks ∷ flags.Psbt ∷ []) name once.log (log.0 ∙ is) in (
+        d.0 names.wallet wallet.0,
+        d.1.0 names.blocks blocks.0,
+        not_both words given flags.Psbt name names.psbt psbt.0 d.1.1.0,
       );
-      log_apart = λ name given_log. (
-        alike_none words given flags.Log flags.Wallet name w.0 of_log_source.0 (log.0 ∙ given_log) wallet.0,
-        alike_none words given flags.Log flags.Blocks name b.0 of_log_source.1 (log.0 ∙ given_log) blocks.0,
-        λ given_psbt. alike_none words given flags.Log flags.Psbt name name of_log.1 (log.0 ∙ given_log) (psbt.0 ∙ given_psbt) refl,
+      report_apart = λ name is. let d = alike_none words given flags.Report (flags.Wallet ∷ flags.Blocks ∷ flags.Psbt ∷ flags.Log ∷ []) name once.report (report.0 ∙ is) in (
+        d.0 names.wallet wallet.0,
+        d.1.0 names.blocks blocks.0,
+        not_both words given flags.Psbt name names.psbt psbt.0 d.1.1.0,
+        not_both words given flags.Log name names.log log.0 d.1.1.1.0,
       );
-    })
+      request_apart = λ name is. let d = alike_none words given flags.Request (flags.Wallet ∷ flags.Blocks ∷ flags.Psbt ∷ flags.Log ∷ flags.Report ∷ []) name once.request (request.0 ∙ is) in (
+        d.0 names.wallet wallet.0,
+        d.1.0 names.blocks blocks.0,
+        not_both words given flags.Psbt name names.psbt psbt.0 d.1.1.0,
+        not_both words given flags.Log name names.log log.0 d.1.1.1.0,
+        not_both words given flags.Report name names.report report.0 d.1.1.1.1.0,
+      );
+    }
 
 -- the names of what is asked for
 pub names_apart : (drawn : List ℕ) (words : List (String Global)) (asked : PlainAsked) → asked_in drawn words ≡ Ok asked → AreApart asked.names

@@ -1,6 +1,6 @@
 -- The whole of what the words of `pay` ask for.
-use Rattle.std.specs.Prelude.{ℕ, Bool, false, ◌≡◌, ◌≢◌, ◌==◌, List, [], String, length, map, bytes_eq, string_bytes, Option, Some, None, option_map, Result, Ok, Err, if◌then◌else◌}
-use Rattle.std.specs.List.{flat_map}
+use Rattle.std.specs.Prelude.{ℕ, Bool, false, ◌≡◌, ◌≢◌, ◌==◌, List, [], ◌∷◌, String, length, map, bytes_eq, string_bytes, Option, Some, None, option_map, Result, Ok, Err, if◌then◌else◌}
+use Rattle.std.specs.List.{flat_map, list_any}
 use Rattle.std.specs.Option.{option_or}
 use Rattle.std.specs.declared.alloc.Global.{Global}
 use Rattle.fund_base.specs.Parsing.{◌>>=◌}
@@ -25,9 +25,11 @@ pub record PlainNames : Type 0 where
   pub blocks : List ℕ
   pub psbt : Option (List ℕ)
   pub log : Option (List ℕ)
+  pub report : Option (List ℕ)
+  pub request : Option (List ℕ)
 
 abbrev pub plain_names : Names → PlainNames
-plain_names n = record { wallet = string_bytes n.wallet; blocks = string_bytes n.blocks; psbt = option_map string_bytes n.psbt; log = option_map string_bytes n.log }
+plain_names n = record { wallet = string_bytes n.wallet; blocks = string_bytes n.blocks; psbt = option_map string_bytes n.psbt; log = option_map string_bytes n.log; report = option_map string_bytes n.report; request = option_map string_bytes n.request }
 
 -- what is asked for
 pub record PlainAsked : Type 0 where
@@ -73,27 +75,34 @@ each_name words given = do
   blocks ← needed_name flags.Blocks words given
   psbt ← name_or_none flags.Psbt words given
   log ← name_or_none flags.Log words given
-  Ok (record { wallet = wallet; blocks = blocks; psbt = psbt; log = log })
+  report ← name_or_none flags.Report words given
+  request ← name_or_none flags.Request words given
+  Ok (record { wallet = wallet; blocks = blocks; psbt = psbt; log = log; report = report; request = request })
 
 -- a name is given here too
 abbrev pub is_given : List ℕ → Option (List ℕ) → Bool
 is_given name None = false
 is_given name (Some text) = bytes_eq name text
 
--- by the place of the name behind a flag, that place, where the name behind the other is the same
-abbrev pub alike_by : List (String Global) → List Given → Flag → Option ℕ → Option ℕ
-alike_by words given other None = None
-alike_by words given other (Some place) = if is_given (word_at words place) (text_of words given other) then Some place else None
+-- it is given behind one of these flags
+abbrev pub is_given_by_any : List (String Global) → List Given → List ℕ → List Flag → Bool
+is_given_by_any words given name others = list_any (λ (f : Flag). is_given name (text_of words given f)) others
 
-abbrev pub alike_at : List (String Global) → List Given → Flag → Flag → Option ℕ
-alike_at words given flag other = alike_by words given other (place_of given flag)
+-- by the place of the name behind a flag, that place, where the name behind one of the others is the same
+abbrev pub alike_by : List (String Global) → List Given → List Flag → Option ℕ → Option ℕ
+alike_by words given others None = None
+alike_by words given others (Some place) = if is_given_by_any words given (word_at words place) others then Some place else None
 
--- The place of the first name, in the order wallet, blocks, PSBT and log, that is that of a file before it too.
+abbrev pub alike_at : List (String Global) → List Given → Flag → List Flag → Option ℕ
+alike_at words given flag others = alike_by words given others (place_of given flag)
+
+-- The place of the first name, in the order wallet, blocks, PSBT, log, report and request, that is that of a file before it too.
 abbrev pub same_name : List (String Global) → List Given → Option ℕ
 same_name words given =
-    option_or (alike_at words given flags.Blocks flags.Wallet)
-    (option_or (option_or (alike_at words given flags.Psbt flags.Wallet) (alike_at words given flags.Psbt flags.Blocks))
-    (option_or (option_or (alike_at words given flags.Log flags.Wallet) (alike_at words given flags.Log flags.Blocks)) (alike_at words given flags.Log flags.Psbt)))
+    option_or (alike_at words given flags.Blocks (flags.Wallet ∷ []))
+    (option_or (alike_at words given flags.Psbt (flags.Wallet ∷ flags.Blocks ∷ []))
+    (option_or (alike_at words given flags.Log (flags.Wallet ∷ flags.Blocks ∷ flags.Psbt ∷ []))
+    (option_or (alike_at words given flags.Report (flags.Wallet ∷ flags.Blocks ∷ flags.Psbt ∷ flags.Log ∷ [])) (alike_at words given flags.Request (flags.Wallet ∷ flags.Blocks ∷ flags.Psbt ∷ flags.Log ∷ flags.Report ∷ [])))))
 
 -- names are taken, unless one stands twice
 abbrev pub unless_same : {A : Type 0} → Option ℕ → A → Result A WordFault
@@ -139,6 +148,10 @@ pub record AreApart (n : PlainNames) : Type 0 where
   pub blocks : n.blocks ≢ []
   pub psbt : n.psbt ≢ Some []
   pub log : n.log ≢ Some []
+  pub report : n.report ≢ Some []
+  pub request : n.request ≢ Some []
   pub sources : n.blocks ≢ n.wallet
   pub psbt_apart : (name : List ℕ) → n.psbt ≡ Some name → (name ≢ n.wallet) × (name ≢ n.blocks)
   pub log_apart : (name : List ℕ) → n.log ≡ Some name → (name ≢ n.wallet) × (name ≢ n.blocks) × (n.psbt ≢ Some name)
+  pub report_apart : (name : List ℕ) → n.report ≡ Some name → (name ≢ n.wallet) × (name ≢ n.blocks) × (n.psbt ≢ Some name) × (n.log ≢ Some name)
+  pub request_apart : (name : List ℕ) → n.request ≡ Some name → (name ≢ n.wallet) × (name ≢ n.blocks) × (n.psbt ≢ Some name) × (n.log ≢ Some name) × (n.report ≢ Some name)

@@ -2,7 +2,7 @@
 
 ghost use Rattle.std.specs.Prelude.{◌≡◌, ◌==◌, Err, IfOk, IsOk, Ok, if◌then◌else◌, length, map, option_map, string_bytes};
 ghost use Rattle.fund_base.specs.Parsing.{YieldsAll};
-ghost use Rattle.pay_words.specs.Asked.{alike_at, asked_by, asked_in, each_name, is_given, name_behind, name_or_none, names_in, needed_name, plain_asked, plain_names, same_name, some_paid, unless_same};
+ghost use Rattle.pay_words.specs.Asked.{alike_at, asked_by, asked_in, each_name, is_given, is_given_by_any, name_behind, name_or_none, names_in, needed_name, plain_asked, plain_names, same_name, some_paid, unless_same};
 ghost use Rattle.pay_words.specs.Given.{BeginsWithFlag};
 ghost use Rattle.pay_words.specs.Payments.{plain_payment};
 ghost use Rattle.pay_words.specs.declared.fault.WordFault.TheVariants.{Memory as OutOfMemory, Missing};
@@ -34,6 +34,10 @@ pub struct Names {
     pub psbt: Option<String>,
     /// The file for the log, if one is asked for.
     pub log: Option<String>,
+    /// The file for the report, if one is asked for.
+    pub report: Option<String>,
+    /// The file for the request, if one is asked for.
+    pub request: Option<String>,
 }
 
 /// What the words of `pay` ask for.
@@ -128,11 +132,15 @@ fn each_name(alloc: Global, words: &[String], given: &[Given]) -> Result<Names, 
     let blocks = needed_name(alloc, words, given, Flag::Blocks)?;
     let psbt = name_or_none(alloc, words, given, Flag::Psbt)?;
     let log = name_or_none(alloc, words, given, Flag::Log)?;
+    let report = name_or_none(alloc, words, given, Flag::Report)?;
+    let request = name_or_none(alloc, words, given, Flag::Request)?;
     Ok(Names {
         wallet,
         blocks,
         psbt,
         log,
+        report,
+        request,
     })
 }
 
@@ -146,13 +154,25 @@ fn is_given(words: &[String], given: &[Given], flag: Flag, name: &str) -> bool
     }
 }
 
-/// The place of the name behind a flag, where the name behind the other is the same.
-fn alike_at(words: &[String], given: &[Given], flag: Flag, other: Flag) -> Option<usize>
-    ensures { result ≡ alike_at words.now given.now flag other }
+/// Whether this name stands behind one of these flags.
+fn is_given_by_any(words: &[String], given: &[Given], flags: &[Flag], name: &str) -> bool
+    ensures { result ≡ is_given_by_any words.now given.now name.now flags.now }
+{
+    for flag in flags {
+        if is_given(words, given, *flag, name) {
+            return true;
+        }
+    }
+    false
+}
+
+/// The place of the name behind a flag, where the name behind one of the others is the same.
+fn alike_at(words: &[String], given: &[Given], flag: Flag, others: &[Flag]) -> Option<usize>
+    ensures { result ≡ alike_at words.now given.now flag others.now }
 {
     match place_of(given, flag) {
         Some(place) => {
-            if is_given(words, given, other, word_at(words, place)) {
+            if is_given_by_any(words, given, others, word_at(words, place)) {
                 Some(place)
             } else {
                 None
@@ -166,13 +186,25 @@ fn alike_at(words: &[String], given: &[Given], flag: Flag, other: Flag) -> Optio
 fn same_name(words: &[String], given: &[Given]) -> Option<usize>
     ensures { result ≡ same_name words.now given.now }
 {
-    let blocks = alike_at(words, given, Flag::Blocks, Flag::Wallet);
-    let psbt = alike_at(words, given, Flag::Psbt, Flag::Wallet);
-    let psbt = psbt.or(alike_at(words, given, Flag::Psbt, Flag::Blocks));
-    let log = alike_at(words, given, Flag::Log, Flag::Wallet);
-    let log = log.or(alike_at(words, given, Flag::Log, Flag::Blocks));
-    let log = log.or(alike_at(words, given, Flag::Log, Flag::Psbt));
-    blocks.or(psbt.or(log))
+    let before_report = &[Flag::Wallet, Flag::Blocks, Flag::Psbt, Flag::Log];
+    let before_request = &[
+        Flag::Wallet,
+        Flag::Blocks,
+        Flag::Psbt,
+        Flag::Log,
+        Flag::Report,
+    ];
+    let blocks = alike_at(words, given, Flag::Blocks, &[Flag::Wallet]);
+    let psbt = alike_at(words, given, Flag::Psbt, &[Flag::Wallet, Flag::Blocks]);
+    let log = alike_at(
+        words,
+        given,
+        Flag::Log,
+        &[Flag::Wallet, Flag::Blocks, Flag::Psbt],
+    );
+    let report = alike_at(words, given, Flag::Report, before_report);
+    let request = alike_at(words, given, Flag::Request, before_request);
+    blocks.or(psbt.or(log.or(report.or(request))))
 }
 
 /// The names, unless one of them stands twice, at this place. It never runs out of memory.

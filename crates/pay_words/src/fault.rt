@@ -11,8 +11,8 @@ use request_making::SpellingFault;
 use std::alloc::{AllocError, AllocFailed};
 
 /// Why the words of `pay` ask for no payment. A place counts the words behind `pay` from 0. The first three are told in
-/// the order of the words. Then come the others: of the name of each file, wallet, blocks, PSBT and log; of names that are
-/// alike; of the recipients in order, an address after its amount and a script before it; of the fee rate, the later rate, the
+/// the order of the words. Then come the others: of the name of each file, wallet, blocks, PSBT, log, report and request; of names
+/// that are alike; of the recipients in order, an address after its amount and a script before it; of the fee rate, the later rate, the
 /// rate of change, the change that is aimed at, the method, the tries, the seed, the payment that is replaced, the lock time, and
 /// the greatest fee; and last of flags that don't go together.
 #[derive(Clone, Copy)]
@@ -27,8 +27,8 @@ pub enum WordFault {
     Missing(Flag),
     /// The name of the file behind this flag is empty.
     EmptyName(Flag),
-    /// The name at this place is that of another file too, the wallet, the block file, the PSBT or the log, which stands
-    /// before it in this order.
+    /// The name at this place is that of another file too: the wallet, the block file, the PSBT, the log or the report, which
+    /// stands before it in this order.
     SameName(usize),
     /// There is no `=` in the word at this place, so there is no amount.
     NoAmount(usize),

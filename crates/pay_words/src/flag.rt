@@ -16,6 +16,8 @@ pub enum Flag {
     ToScript,
     /// The name of a file that lists payments.
     PayFile,
+    /// The name of a file of keys, which are told in the PSBT.
+    Keys,
     /// The fee rate.
     FeeRate,
     /// The rate at which coins are thought to be spent later.
@@ -42,6 +44,10 @@ pub enum Flag {
     Psbt,
     /// The name of a file for the log.
     Log,
+    /// The name of a file for the report.
+    Report,
+    /// The name of a file for the request.
+    Request,
     /// The coins of one script are spent together.
     Group,
     /// Of all choices without change the one that wastes least is taken, with coins that aren't needed.
@@ -67,12 +73,13 @@ pub enum Flag {
 }
 
 /// All flags.
-const FLAGS: [Flag; 29] = [
+const FLAGS: [Flag; 32] = [
     Flag::Wallet,
     Flag::Blocks,
     Flag::To,
     Flag::ToScript,
     Flag::PayFile,
+    Flag::Keys,
     Flag::FeeRate,
     Flag::LongTerm,
     Flag::Discard,
@@ -86,6 +93,8 @@ const FLAGS: [Flag; 29] = [
     Flag::MaxFee,
     Flag::Psbt,
     Flag::Log,
+    Flag::Report,
+    Flag::Request,
     Flag::Group,
     Flag::Consolidate,
     Flag::FeeFromAmount,
@@ -110,6 +119,7 @@ pub fn flag_word(flag: Flag) -> &'static str
         Flag::To => "--to",
         Flag::ToScript => "--to-script",
         Flag::PayFile => "--pay-file",
+        Flag::Keys => "--keys",
         Flag::FeeRate => "--fee-rate",
         Flag::LongTerm => "--long-term",
         Flag::Discard => "--discard",
@@ -123,6 +133,8 @@ pub fn flag_word(flag: Flag) -> &'static str
         Flag::MaxFee => "--max-fee",
         Flag::Psbt => "--psbt",
         Flag::Log => "--log",
+        Flag::Report => "--report",
+        Flag::Request => "--request",
         Flag::Group => "--group",
         Flag::Consolidate => "--consolidate",
         Flag::FeeFromAmount => "--fee-from-amount",

@@ -21,6 +21,7 @@ use Rattle.pay_words.specs.declared.flag.Flag.TheVariants as flags
 abbrev pub foreign_flags : List Flag
 foreign_flags =
     flags.PayFile
+    ∷ flags.Keys
     ∷ flags.LongTerm
     ∷ flags.Discard
     ∷ flags.ChangeTarget
@@ -30,6 +31,8 @@ foreign_flags =
     ∷ flags.Seed
     ∷ flags.Bump
     ∷ flags.Log
+    ∷ flags.Report
+    ∷ flags.Request
     ∷ flags.Group
     ∷ flags.Consolidate
     ∷ flags.FeeFromAmount

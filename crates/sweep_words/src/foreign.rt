@@ -8,8 +8,9 @@ ghost use Rattle.sweep_words.specs.Words.{foreign_at, is_foreign, is_payee, paye
 use pay_words::{Flag, flag_word};
 
 /// The flags of `pay` that say nothing of a payment of all coins.
-const FOREIGN: [Flag; 14] = [
+const FOREIGN: [Flag; 17] = [
     Flag::PayFile,
+    Flag::Keys,
     Flag::LongTerm,
     Flag::Discard,
     Flag::ChangeTarget,
@@ -19,6 +20,8 @@ const FOREIGN: [Flag; 14] = [
     Flag::Seed,
     Flag::Bump,
     Flag::Log,
+    Flag::Report,
+    Flag::Request,
     Flag::Group,
     Flag::Consolidate,
     Flag::FeeFromAmount,

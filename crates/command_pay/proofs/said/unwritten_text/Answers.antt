@@ -6,4 +6,4 @@ pub returns : goal.returns
 unfolding unwritten_text
 returns c =
     c.in_ok-format.ensures.ok
-    ∙ ap (λ (said : List ℕ). codes "The file " ++ (c.args.name.now ++ (codes " was not written: it is there already, its folder is missing or closed to you, or the disk is full; name a new file. A part of it may stand there." ++ said))) c.log_words.ensures
+    ∙ ap (λ (said : List ℕ). codes "The file " ++ (c.args.name.now ++ (codes " was not written: it is there already, its folder is missing or closed to you, or the disk is full; name a new file. A part of it may stand there." ++ said))) c.earlier_words.ensures
