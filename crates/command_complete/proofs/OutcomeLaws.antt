@@ -17,7 +17,7 @@ use Rattle.command_complete.specs.declared.fault.CompleteFault.{CompleteFault}
 use Rattle.report_check.proofs.SpendLaws.{one_psbt, one_psbt_fault, one_psbt_in, psbt_apart}
 use Rattle.command_end.specs.Names.{Sources}
 use Rattle.command_complete.specs.Outcome.{BadPsbt, ComesTo, Completed, HasBook, IsMadeWhole, IsTooLong, IsWithin, Outcome, Refused, TooLong}
-use Rattle.command_complete.specs.Made.{IsRefused, IsSpelled, IsSpelledOtherwise, line_of}
+use Rattle.command_complete.specs.Made.{IsRefused, IsSpelled, IsSpelledOtherwise, text_of}
 use Rattle.command_complete.specs.declared.stop.Refusal.{Refusal}
 use Rattle.command_complete.specs.declared.stop.Refusal.TheVariants.{Psbt, OtherPairs, Input}
 
@@ -60,21 +60,21 @@ input_same h text v w p q e f a b x y =
     one_first h (known_of p) e f x (subst (λ (t : PartialTransaction). IsFirstFault h (known_of t) f) same y)
 
 one_refusal : (h : History) (file : List ℕ) (a b : Refusal) → IsRefused h file a → IsRefused h file b → a ≡ b
-one_refusal h file (Psbt d) (Psbt e) x y = ap (λ (f : PsbtFault). Psbt f) (one_psbt_fault (line_of file) d e x y)
-one_refusal h file (Psbt d) OtherPairs x y = absurd (psbt_apart (line_of file) y.is d y.psbt.0 x)
-one_refusal h file (Psbt d) (Input e) x y = absurd (psbt_apart (line_of file) y.1 d y.2.psbt.0 x)
-one_refusal h file OtherPairs (Psbt e) x y = absurd (psbt_apart (line_of file) x.is e x.psbt.0 y)
+one_refusal h file (Psbt d) (Psbt e) x y = ap (λ (f : PsbtFault). Psbt f) (one_psbt_fault (text_of file) d e x y)
+one_refusal h file (Psbt d) OtherPairs x y = absurd (psbt_apart (text_of file) y.is d y.psbt.0 x)
+one_refusal h file (Psbt d) (Input e) x y = absurd (psbt_apart (text_of file) y.1 d y.2.psbt.0 x)
+one_refusal h file OtherPairs (Psbt e) x y = absurd (psbt_apart (text_of file) x.is e x.psbt.0 y)
 one_refusal h file OtherPairs OtherPairs x y = refl
-one_refusal h file OtherPairs (Input e) x y = absurd (otherwise_apart (line_of file) y.0 y.1 y.2 x)
-one_refusal h file (Input d) (Psbt e) x y = absurd (psbt_apart (line_of file) x.1 e x.2.psbt.0 y)
-one_refusal h file (Input d) OtherPairs x y = absurd (otherwise_apart (line_of file) x.0 x.1 x.2 y)
-one_refusal h file (Input d) (Input e) x y = ap (λ (f : CompleteFault). Input f) (input_same h (line_of file) x.0 y.0 x.1 y.1 d e x.2 y.2 x.3 y.3)
+one_refusal h file OtherPairs (Input e) x y = absurd (otherwise_apart (text_of file) y.0 y.1 y.2 x)
+one_refusal h file (Input d) (Psbt e) x y = absurd (psbt_apart (text_of file) x.1 e x.2.psbt.0 y)
+one_refusal h file (Input d) OtherPairs x y = absurd (otherwise_apart (text_of file) x.0 x.1 x.2 y)
+one_refusal h file (Input d) (Input e) x y = ap (λ (f : CompleteFault). Input f) (input_same h (text_of file) x.0 y.0 x.1 y.1 d e x.2 y.2 x.3 y.3)
 
-refusal_apart : (h : History) (file : List ℕ) (a : Refusal) (version : ℕ) (p q : PartialTransaction) → IsRefused h file a → IsSpelled (line_of file) version p → IsCompleted h p q → ⊥
-refusal_apart h file (Psbt e) version p q x spelled made = psbt_apart (line_of file) p e spelled.psbt.0 x
-refusal_apart h file OtherPairs version p q x spelled made = otherwise_apart (line_of file) version p spelled x
+refusal_apart : (h : History) (file : List ℕ) (a : Refusal) (version : ℕ) (p q : PartialTransaction) → IsRefused h file a → IsSpelled (text_of file) version p → IsCompleted h p q → ⊥
+refusal_apart h file (Psbt e) version p q x spelled made = psbt_apart (text_of file) p e spelled.psbt.0 x
+refusal_apart h file OtherPairs version p q x spelled made = otherwise_apart (text_of file) version p spelled x
 refusal_apart h file (Input e) version p q x spelled made =
-    let same : x.1 ≡ p = one_psbt (line_of file) x.1 p x.2.psbt.0 spelled.psbt.0 in
+    let same : x.1 ≡ p = one_psbt (text_of file) x.1 p x.2.psbt.0 spelled.psbt.0 in
     no_fault h p q e made (subst (λ (t : PartialTransaction). IsFirstFault h (known_of t) e) same x.3)
 
 -- ---- the files
@@ -93,7 +93,7 @@ module _ (files : List ℕ → List ℕ) (s : Sources) (name : List ℕ) where
   whole_same : (p q : PartialTransaction) → IsMadeWhole files s name p → IsMadeWhole files s name q → p ≡ q
   whole_same p q x y =
       let book : y.book ≡ x.book = one_book files s y.book x.book y.holds x.holds in
-      let before : y.before ≡ x.before = one_psbt (line_of (files name)) y.before x.before y.spelled.psbt.0 x.spelled.psbt.0 in
+      let before : y.before ≡ x.before = one_psbt (text_of (files name)) y.before x.before y.spelled.psbt.0 x.spelled.psbt.0 in
       let moved : IsCompleted x.book x.before q = subst (λ (t : PartialTransaction). IsCompleted x.book t q) before (subst (λ (h : History). IsCompleted h y.before q) book y.completed) in
       one_completed x.book x.before p q x.completed moved
 

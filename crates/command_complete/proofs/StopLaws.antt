@@ -17,7 +17,7 @@ use Rattle.fund_files.specs.declared.stop.Stop.TheVariants as chains
 use Rattle.command_end.specs.Names.{Sources}
 use Rattle.command_complete.specs.Asked.{AsksChain, AsksInOrder, AsksUpTo}
 use Rattle.command_complete.specs.Outcome.{HasBook, IsTooLong, IsWithin}
-use Rattle.command_complete.specs.Made.{IsCompletedFile, IsRefused, IsSpelled, line_of}
+use Rattle.command_complete.specs.Made.{IsCompletedFile, IsRefused, IsSpelled, text_of}
 use Rattle.command_complete.specs.Statuses.{IsPrinted}
 use Rattle.command_complete.specs.Stops.{StopsAtFile, StopsFor, StopsReading, TellsRead, read_stop_of}
 use Rattle.command_complete.specs.declared.stop.Stop.{Stop}
@@ -69,7 +69,7 @@ module _ (told : Type 0) (s : Sources) (name : List ℕ) (old middle new : Shelf
             fits = back IsWithin t (fits t);
             version = moved.version;
             before = moved.before;
-            spelled = subst (λ (bytes : List ℕ). IsSpelled (line_of bytes) moved.version moved.before) (file_is t) moved.spelled;
+            spelled = subst (λ (bytes : List ℕ). IsSpelled (text_of bytes) moved.version moved.before) (file_is t) moved.spelled;
             completed = moved.completed;
           };
         }

@@ -1,12 +1,13 @@
 -- The text of a PSBT file.
-use Rattle.std.proofs.Common.{◌≡◌, ◌≢◌, ◌∙◌, ◌++◌, ℕ, List, [], ◌∷◌, sym, ap, subst, inl, inr}
-use Rattle.std.specs.Prelude.{◌⊎◌}
+use Rattle.std.proofs.Common.{◌≡◌, ◌≢◌, ◌∙◌, ◌++◌, ℕ, Bool, true, false, List, [], ◌∷◌, if◌then◌else◌, sym, ap, subst, inl, inr}
+use Rattle.std.specs.List.{starts_with}
+use Rattle.std.specs.Prelude.{◌⊎◌, nat_eq}
 use Rattle.base64.specs.Engines.{standard}
 use Rattle.base64.specs.GeneralPurpose.{encode_of}
 use Rattle.coin_book.specs.History.{History}
 use Rattle.fund_base.specs.Cursor.{IsBytes}
 use Rattle.psbt_codec.specs.PartialTransaction.{PartialTransaction}
-use Rattle.psbt_codec.specs.Psbt.{IsPsbt, IsReadable, IsReadableIn, written}
+use Rattle.psbt_codec.specs.Psbt.{IsPsbt, IsReadable, IsReadableIn, magic, written}
 use Rattle.psbt_codec.specs.Text.{psbt_text, HasPsbtFault, IsPsbtTextIn}
 use Rattle.psbt_codec.specs.declared.fault.PsbtFault.{PsbtFault}
 use Rattle.psbt_codec.specs.declared.fault.PsbtFault.TheVariants as psbts
@@ -14,8 +15,8 @@ use Rattle.command_complete.specs.Completed.{IsCompleted, known_of}
 use Rattle.command_complete.specs.Faults.{IsFirstFault}
 use Rattle.command_complete.specs.declared.fault.CompleteFault.{CompleteFault}
 use Rattle.command_complete.specs.declared.fault.CompleteFault.TheVariants as inputs
-use Rattle.command_complete.specs.Made.{IsCompletedFile, IsSpelled, IsSpelledOtherwise, line_of}
-use Rattle.command_complete.specs.Stops.{StopsAtFile, StopsAtText, stop_of_input, stop_of_psbt}
+use Rattle.command_complete.specs.Made.{IsCompletedText, IsSpelled, IsSpelledOtherwise, line_of, text_of}
+use Rattle.command_complete.specs.Stops.{StopsAtPsbt, StopsAtText, stop_of_input, stop_of_psbt}
 use Rattle.command_complete.specs.declared.stop.Refusal.TheVariants as refusals
 use Rattle.command_complete.specs.declared.stop.Stop.{Stop}
 use Rattle.command_complete.specs.declared.stop.Stop.TheVariants as stops
@@ -73,25 +74,34 @@ known_version version bytes p r is = elim r.maps [
 pub spelled_version : (text : List ℕ) (version : ℕ) (p : PartialTransaction) → IsSpelled text version p → (version ≡ 0) ⊎ (version ≡ 2)
 spelled_version text version p h = known_version version h.psbt.0.bytes p h.psbt.0.readable h.psbt.1
 
--- ---- the file
+-- ---- what is made of it
 
--- what is printed of a file is a PSBT made whole in the version of the file's
-pub file_completed : (h : History) (file text line : List ℕ) (version : ℕ) (p q : PartialTransaction) → IsSpelled (line_of file) version p → IsCompleted h p q → IsSpelled line version q → text ≡ line ++ 10 ∷ [] → IsCompletedFile h file text
-file_completed h file text line version p q spelled completed reads prints =
+-- what is printed of a text is a PSBT made whole in the version of the text's
+pub text_completed : (h : History) (old text line : List ℕ) (version : ℕ) (p q : PartialTransaction) → IsSpelled old version p → IsCompleted h p q → IsSpelled line version q → text ≡ line ++ 10 ∷ [] → IsCompletedText h old text
+text_completed h old text line version p q spelled completed reads prints =
     record { version = version; before = p; spelled = spelled; after = q; completed = completed; line = line; reads = reads; prints = prints }
 
--- a stop at the text of a file is one at the file
-pub text_stops : (h : History) (file : List ℕ) (stop : Stop) → StopsAtText (line_of file) stop → StopsAtFile h file stop
-text_stops h file (stops.Chain stop) s = absurd s
-text_stops h file stops.Read s = absurd s
-text_stops h file stops.TooLong s = absurd s
-text_stops h file (stops.Refused (refusals.Psbt fault)) s = s
-text_stops h file (stops.Refused refusals.OtherPairs) s = s
-text_stops h file (stops.Refused (refusals.Input fault)) s = absurd s
-text_stops h file stops.Memory s = tt
+-- a stop at the text alone is one at what it holds
+pub text_stops : (h : History) (text : List ℕ) (stop : Stop) → StopsAtText text stop → StopsAtPsbt h text stop
+text_stops h text (stops.Chain stop) s = absurd s
+text_stops h text stops.Read s = absurd s
+text_stops h text stops.TooLong s = absurd s
+text_stops h text (stops.Refused (refusals.Psbt fault)) s = s
+text_stops h text (stops.Refused refusals.OtherPairs) s = s
+text_stops h text (stops.Refused (refusals.Input fault)) s = absurd s
+text_stops h text stops.Memory s = tt
 
 -- a stop at an input of its PSBT
-pub input_stops : (h : History) (file : List ℕ) (version : ℕ) (p : PartialTransaction) (fault : CompleteFault) → IsSpelled (line_of file) version p → (fault ≢ inputs.Memory → IsFirstFault h (known_of p) fault) → StopsAtFile h file (stop_of_input fault)
-input_stops h file version p (inputs.Missing index coin) spelled first = (version, p, spelled, first (λ e. cc))
-input_stops h file version p (inputs.OtherOutput index coin) spelled first = (version, p, spelled, first (λ e. cc))
-input_stops h file version p inputs.Memory spelled first = tt
+pub input_stops : (h : History) (text : List ℕ) (version : ℕ) (p : PartialTransaction) (fault : CompleteFault) → IsSpelled text version p → (fault ≢ inputs.Memory → IsFirstFault h (known_of p) fault) → StopsAtPsbt h text (stop_of_input fault)
+input_stops h text version p (inputs.Missing index coin) spelled first = (version, p, spelled, first (λ e. cc))
+input_stops h text version p (inputs.OtherOutput index coin) spelled first = (version, p, spelled, first (λ e. cc))
+input_stops h text version p inputs.Memory spelled first = tt
+
+-- ---- the file
+
+-- the text of a file that begins as the bytes of a PSBT do, and that of another
+pub text_of_bytes : (file : List ℕ) → starts_with nat_eq file magic ≡ true → text_of file ≡ encode_of standard file
+text_of_bytes file is = ap (λ (b : Bool). if b then encode_of standard file else line_of file) is
+
+pub text_of_line : (file : List ℕ) → starts_with nat_eq file magic ≡ false → text_of file ≡ line_of file
+text_of_line file is = ap (λ (b : Bool). if b then encode_of standard file else line_of file) is

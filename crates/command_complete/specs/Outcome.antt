@@ -13,7 +13,7 @@ use Rattle.command_end.specs.Lines.{status_of_file}
 use Rattle.command_end.specs.Names.{Sources}
 use Rattle.command_end.specs.declared.status.Status.{Status}
 use Rattle.command_end.specs.declared.status.Status.TheVariants as statuses
-use Rattle.command_complete.specs.Made.{IsRefused, IsSpelled, line_of}
+use Rattle.command_complete.specs.Made.{IsRefused, IsSpelled, text_of}
 use Rattle.command_complete.specs.declared.stop.Refusal.{Refusal}
 
 -- a PSBT file has at most 67,108,864 bytes
@@ -38,7 +38,7 @@ pub record IsMadeWhole (files : List ℕ → List ℕ) (s : Sources) (name : Lis
   pub fits : IsWithin (files name)
   pub version : ℕ
   pub before : PartialTransaction
-  pub spelled : IsSpelled (line_of (files name)) version before
+  pub spelled : IsSpelled (text_of (files name)) version before
   pub completed : IsCompleted book before q
 
 -- a cause for which the wallet file or the block file is refused; a PSBT file that is too long, or that is refused; or the PSBT

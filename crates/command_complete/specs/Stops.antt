@@ -13,7 +13,7 @@ use Rattle.command_complete.specs.declared.fault.CompleteFault.TheVariants as in
 use Rattle.psbt_codec.specs.Text.{HasPsbtFault}
 use Rattle.command_end.specs.Names.{Sources}
 use Rattle.command_complete.specs.Outcome.{BadPsbt, ComesTo, HasBook, IsTooLong, TooLong}
-use Rattle.command_complete.specs.Made.{IsRefused, IsSpelledOtherwise}
+use Rattle.command_complete.specs.Made.{IsRefusedText, IsSpelledOtherwise, text_of}
 use Rattle.command_complete.specs.declared.stop.Refusal.TheVariants as refusals
 use Rattle.command_complete.specs.declared.stop.Stop.{Stop}
 use Rattle.command_complete.specs.declared.stop.Stop.TheVariants as stops
@@ -58,13 +58,17 @@ StopsAtText text (stops.Refused refusals.OtherPairs) = IsSpelledOtherwise text
 StopsAtText text (stops.Refused (refusals.Input fault)) = ⊥
 StopsAtText text stops.Memory = Unit {0}
 
--- the bytes of a PSBT file are refused
+-- the text of a PSBT is refused
+abbrev pub StopsAtPsbt : History → (text : List ℕ) → Stop → Type 0
+StopsAtPsbt h text (stops.Chain stop) = ⊥
+StopsAtPsbt h text stops.Read = ⊥
+StopsAtPsbt h text stops.TooLong = ⊥
+StopsAtPsbt h text (stops.Refused refusal) = IsRefusedText h text refusal
+StopsAtPsbt h text stops.Memory = Unit {0}
+
+-- so of the text of a file
 abbrev pub StopsAtFile : History → (file : List ℕ) → Stop → Type 0
-StopsAtFile h file (stops.Chain stop) = ⊥
-StopsAtFile h file stops.Read = ⊥
-StopsAtFile h file stops.TooLong = ⊥
-StopsAtFile h file (stops.Refused refusal) = IsRefused h file refusal
-StopsAtFile h file stops.Memory = Unit {0}
+StopsAtFile h file stop = StopsAtPsbt h (text_of file) stop
 
 -- The wallet file or the block file stops it; a read of the PSBT file failed, those before it being in order; or the files
 -- come to a PSBT file that is too long, or is refused.

@@ -7,17 +7,17 @@ ghost use Rattle.command_end.specs.Printed.{TellsWhole, TookAll};
 ghost use Rattle.command_complete.specs.Asked.{AsksFiles};
 ghost use Rattle.command_complete.specs.Statuses.{Ends, IsDueStatus};
 
-use crate::answer::answer;
+use crate::answering::answer;
 use crate::files::completed;
 use command_end::{Sources, Status, put_report};
 use fund_shelf::{Shelf, Sink};
 use std::alloc::Global;
 
 /// Makes the PSBT of the file `psbt` whole: it reads the wallet, the blocks behind it and the PSBT, and prints to `out` the same
-/// PSBT with the whole transaction beside each output that it spends, in base64 and a line feed. The file has the PSBT in
-/// base64, with or without a line feed at its end, and as it would be written in its version: with no pairs but those of the
-/// unsigned transaction, the whole transactions and the spent outputs. What is printed is of this version. What is refused
-/// gets its fault line. It writes no file.
+/// PSBT with the whole transaction beside each output that it spends, in base64 and a line feed. The file has the PSBT as bytes, or
+/// in base64, with or without a line feed at its end. It is spelled as it would be written in its version: with no pairs but those
+/// of the unsigned transaction, the whole transactions and the spent outputs. What is printed is of this version. What is
+/// refused gets its fault line. It writes no file.
 ///
 /// The clauses on content hold where the shelf and the sink tell theirs.
 pub fn complete<H: Shelf, O: Sink>(

@@ -1,10 +1,13 @@
 //! The bytes of a PSBT file, made whole.
 
-ghost use Rattle.std.specs.Prelude.{◌≡◌, ◌≢◌, ◌⊎◌, IfErr, IfOk, OnOk};
+ghost use Rattle.std.specs.Prelude.{◌≡◌, ◌≢◌, ◌⊎◌, nat_eq, IfErr, IfOk, OnOk};
+ghost use Rattle.std.specs.List.{starts_with};
+ghost use Rattle.base64.specs.Engines.{standard};
+ghost use Rattle.base64.specs.GeneralPurpose.{encode_of};
 ghost use Rattle.fund_files.specs.Chain.{HasTexts, IsChain};
-ghost use Rattle.psbt_codec.specs.Psbt.{IsPsbt};
-ghost use Rattle.command_complete.specs.Made.{IsCompletedFile, IsSpelled, line_of};
-ghost use Rattle.command_complete.specs.Stops.{StopsAtFile, StopsAtText, stop_of_psbt};
+ghost use Rattle.psbt_codec.specs.Psbt.{IsPsbt, magic};
+ghost use Rattle.command_complete.specs.Made.{IsCompletedFile, IsCompletedText, IsSpelled, line_of};
+ghost use Rattle.command_complete.specs.Stops.{StopsAtFile, StopsAtPsbt, StopsAtText, stop_of_psbt};
 ghost use Rattle.command_complete.specs.declared.stop.Refusal.TheVariants as refusals;
 ghost use Rattle.command_complete.specs.declared.stop.Stop.TheVariants as stops;
 
@@ -17,7 +20,7 @@ use psbt_codec::{Psbt, PsbtFault, Versioned, read_text, to_text, write_psbt, wri
 use std::alloc::Global;
 
 /// The bytes of a file without the line feed at their end, where one stands there.
-fn line_of(file: &[u8]) -> &[u8]
+pub fn line_of(file: &[u8]) -> &[u8]
     ensures { result.now ≡ line_of file.now }
 {
     if file.is_empty() {
@@ -80,19 +83,48 @@ fn text_of(alloc: Global, psbt: &Psbt, version: u32) -> Result<Vec<u8>, Memory>
     Ok(text)
 }
 
-/// What is printed of the bytes of a PSBT file, made whole from a book; or why they are refused.
-fn completed_text(alloc: Global, book: &Known<'_>, file: &[u8]) -> Result<Vec<u8>, Stop>
+/// What is printed of the text of a PSBT, made whole from a book; or why it is refused.
+fn completed_text(alloc: Global, book: &Known<'_>, text: &[u8]) -> Result<Vec<u8>, Stop>
     requires { HasTexts book.now }
-    ensures made { IfOk result (λ text. IsCompletedFile book.now file.now text.items) }
-    ensures stop { IfErr result (StopsAtFile book.now file.now) }
+    ensures made { IfOk result (λ printed. IsCompletedText book.now text.now printed.items) }
+    ensures stop { IfErr result (StopsAtPsbt book.now text.now) }
 {
-    let read = spelled(alloc, line_of(file))?;
+    let read = spelled(alloc, text)?;
     let completed = complete_psbt(alloc, book, &read.psbt)?;
     let mut text = text_of(alloc, &completed, read.version)?;
     match text.push(b'\n') {
         Ok(()) => Ok(text),
         Err(_) => Err(Stop::Memory),
     }
+}
+
+/// The same of a PSBT as bytes.
+fn completed_bytes(alloc: Global, book: &Known<'_>, bytes: &[u8]) -> Result<Vec<u8>, Stop>
+    requires { HasTexts book.now }
+    ensures made { IfOk result (λ printed. IsCompletedText book.now (encode_of standard bytes.now) printed.items) }
+    ensures stop { IfErr result (StopsAtPsbt book.now (encode_of standard bytes.now)) }
+{
+    let text = to_text(alloc, bytes)?;
+    completed_text(alloc, book, &text)
+}
+
+/// Whether a file begins as the bytes of a PSBT do (BIP 174, 'Specification').
+fn has_bytes(file: &[u8]) -> bool
+    ensures { result ≡ starts_with nat_eq file.now magic }
+{
+    file.starts_with(b"psbt\xff")
+}
+
+/// What is printed of a PSBT file, which has the PSBT in base64 or as bytes, made whole from a book; or why it is refused.
+fn completed_file(alloc: Global, book: &Known<'_>, file: &[u8]) -> Result<Vec<u8>, Stop>
+    requires { HasTexts book.now }
+    ensures made { IfOk result (λ printed. IsCompletedFile book.now file.now printed.items) }
+    ensures stop { IfErr result (StopsAtFile book.now file.now) }
+{
+    if has_bytes(file) {
+        return completed_bytes(alloc, book, file);
+    }
+    completed_text(alloc, book, line_of(file))
 }
 
 /// The same from the book that is held.
@@ -102,5 +134,5 @@ pub fn made(alloc: Global, held: &Chain, file: &[u8]) -> Result<Vec<u8>, Stop>
     ensures stop { IfErr result (StopsAtFile held.now.book file.now) }
 {
     let book = held.book.known();
-    completed_text(alloc, &book, file)
+    completed_file(alloc, &book, file)
 }

@@ -1,12 +1,14 @@
 -- The sentence of a fault line, or of a report without a payment: by its words, from the front.
 use Rattle.std.specs.Prelude.{ℕ, pos, ◌≡◌, ◌++◌, List, bytes_eq, codes, Option, Some, None, if◌then◌else◌}
-use Rattle.fault_lines.specs.Sentences.{address_sentence, blocks_sentence, bump_sentence, check_sentence, differing_sentence, kept_sentence, missing_sentence, none_sentence, not_pending_sentence, other_output_sentence, other_pairs_sentence, plan_sentence, psbt_sentence, rate_range_sentence, request_kind_sentence, request_member_sentence, request_missing_sentence, request_sentence, settle_sentence, signed_sentence, stop_sentence, tx_sentence, unfinished_sentence, unsuited_sentence, wallet_kind_sentence, wallet_member_sentence, wallet_missing_sentence, wallet_repeat_sentence, wallet_sentence}
+use Rattle.fault_lines.specs.Sentences.{address_sentence, blocks_sentence, bump_sentence, check_sentence, differing_sentence, kept_sentence, key_global_sentence, key_input_sentence, key_output_sentence, keys_form_sentence, keys_kind_sentence, keys_member_sentence, keys_missing_sentence, keys_sentence, missing_sentence, none_sentence, not_pending_sentence, other_output_sentence, other_pairs_sentence, plan_sentence, psbt_sentence, rate_range_sentence, request_kind_sentence, request_member_sentence, request_missing_sentence, request_sentence, settle_sentence, signed_sentence, stop_sentence, tx_sentence, unfinished_sentence, unsuited_sentence, wallet_kind_sentence, wallet_member_sentence, wallet_missing_sentence, wallet_repeat_sentence, wallet_sentence}
 use Rattle.fault_lines.specs.declared.stop.Stop.TheVariants as stops
 use Rattle.fault_lines.specs.declared.unsuited.Unsuited.TheVariants as unsuited
 use Rattle.tx_codec.specs.declared.fault.TxFault.TheVariants as txs
 use Rattle.block_feed.specs.declared.fault.FeedFault.TheVariants as feeds
 use Rattle.segwit_addr.specs.declared.fault.AddrFault.TheVariants as addresses
 use Rattle.wallet_text.specs.declared.fault.WalletFault.TheVariants as wallets
+use Rattle.json_fields.specs.declared.fault.FieldFault.TheVariants as fields
+use Rattle.keys_text.specs.declared.fault.KeysFault.TheVariants as keys
 use Rattle.request_text.specs.declared.fault.RequestFault.TheVariants as requests
 use Rattle.fund_steps.specs.declared.fault.PlanFault.TheVariants as plans
 use Rattle.kept_job.specs.declared.fault.KeptFault.TheVariants as jobs
@@ -87,6 +89,29 @@ request_line words =
     if begins (codes "AmountRange ") words then Some (request_sentence (requests.AmountRange 0)) else
     request_rest words)))
 
+-- the sentence of a fault of a keys file behind its form, by its words
+unfoldable pub keys_rest : List ℕ → Option (List ℕ)
+keys_rest words =
+    if begins (codes "Script ") words then Some (keys_sentence (keys.Script 0)) else
+    if begins (codes "Redeem ") words then Some (keys_sentence (keys.Redeem 0)) else
+    if begins (codes "Witness ") words then Some (keys_sentence (keys.Witness 0)) else
+    if begins (codes "Internal ") words then Some (keys_sentence (keys.Internal 0)) else
+    if begins (codes "Key ") words then Some (keys_sentence (keys.Key 0 0)) else
+    if begins (codes "RepeatKey ") words then Some (keys_sentence (keys.RepeatKey 0 0)) else
+    if begins (codes "Xpub ") words then Some (keys_sentence (keys.Xpub 0)) else
+    if begins (codes "RepeatXpub ") words then Some (keys_sentence (keys.RepeatXpub 0)) else
+    None
+
+-- the sentence of a keys file's fault, by its words
+unfoldable pub keys_line : List ℕ → Option (List ℕ)
+keys_line words =
+    if begins (codes "NotJson") words then Some (keys_form_sentence fields.NotJson) else
+    if begins (codes "Kind ") words then Some keys_kind_sentence else
+    if begins (codes "Member ") words then Some keys_member_sentence else
+    if begins (codes "Missing ") words then Some keys_missing_sentence else
+    if begins (codes "Memory") words then Some (keys_form_sentence fields.Memory) else
+    keys_rest words
+
 -- the sentence of a block file's fault, by its words
 unfoldable pub blocks_line : List ℕ → Option (List ℕ)
 blocks_line words =
@@ -155,6 +180,9 @@ psbt_rest words =
     if begins (codes "OtherPairs") words then Some (other_pairs_sentence) else
     if begins (codes "Missing ") words then Some (missing_sentence) else
     if begins (codes "OtherOutput ") words then Some (other_output_sentence) else
+    if begins (codes "KeyGlobal ") words then Some key_global_sentence else
+    if begins (codes "KeyInput ") words then Some key_input_sentence else
+    if begins (codes "KeyOutput ") words then Some key_output_sentence else
     if begins (codes "Memory") words then Some (psbt_sentence psbts.Memory) else
     None
 
@@ -251,6 +279,7 @@ limit_line words =
     if begins (codes "log") words then Some (stop_sentence stops.LogLimit) else
     if begins (codes "script") words then Some (stop_sentence stops.ScriptLimit) else
     if begins (codes "psbt") words then Some (stop_sentence stops.PsbtLimit) else
+    if begins (codes "keys") words then Some (stop_sentence stops.KeysLimit) else
     if begins (codes "tx") words then Some (stop_sentence stops.TxLimit) else
     None
 
@@ -264,8 +293,9 @@ input_line words =
     told (behind (codes "bump ") words) (λ rest. bump_line rest) (
     told (behind (codes "psbt ") words) (λ rest. psbt_line rest) (
     told (behind (codes "tx ") words) (λ rest. signed_line rest) (
+    told (behind (codes "keys ") words) (λ rest. keys_line rest) (
     if begins (codes "book RepeatCoin ") words then Some (stop_sentence stops.RepeatCoin) else
-    None)))))))
+    None))))))))
 
 -- the sentence of what stands behind the word `fault`
 unfoldable pub words_sentence : List ℕ → Option (List ℕ)

@@ -8,6 +8,10 @@ use Rattle.segwit_addr.specs.declared.fault.AddrFault.{AddrFault}
 use Rattle.segwit_addr.specs.declared.fault.AddrFault.TheVariants as addresses
 use Rattle.wallet_text.specs.declared.fault.WalletFault.{WalletFault}
 use Rattle.wallet_text.specs.declared.fault.WalletFault.TheVariants as wallets
+use Rattle.json_fields.specs.declared.fault.FieldFault.{FieldFault}
+use Rattle.json_fields.specs.declared.fault.FieldFault.TheVariants as fields
+use Rattle.keys_text.specs.declared.fault.KeysFault.{KeysFault}
+use Rattle.keys_text.specs.declared.fault.KeysFault.TheVariants as keys
 use Rattle.request_text.specs.declared.fault.RequestFault.{RequestFault}
 use Rattle.request_text.specs.declared.fault.RequestFault.TheVariants as requests
 use Rattle.fee_bump.specs.declared.fault.BumpFault.{BumpFault}
@@ -45,6 +49,7 @@ stop_sentence stops.CoinsLimit = codes "There are more than 100,000 coins, spent
 stop_sentence stops.ReportLimit = codes "The report is above 64 MiB: give the report that was printed."
 stop_sentence stops.LogLimit = codes "The log is above 64 MiB: give LOG as it was written, or where a job is gone on with, begin anew under another name."
 stop_sentence stops.ScriptLimit = codes "The script of the desk is above 16 MiB: cut it into several."
+stop_sentence stops.KeysLimit = codes "The keys file is above 16 MiB: leave out scripts that have no coins."
 stop_sentence stops.PsbtLimit = codes "The PSBT file is above 64 MiB: give the PSBT that was printed."
 stop_sentence stops.TxLimit = codes "The file of the signed transaction is above 1 MiB: give the hex of one transaction, and nothing else."
 stop_sentence stops.NotHex = codes "The file of the signed transaction is no hex, or a blank or quotes stand in it: give the hex alone, as finalizepsbt tells it."
@@ -95,6 +100,14 @@ wallet_kind_sentence name =
     if bytes_eq name (codes "script") then codes "A script of the wallet file is no hex, or an address stands in its place: give the scriptPubKey that getaddressinfo tells." else
     if bytes_eq name (codes "tx") then codes "A transaction of the wallet file is no hex or has an odd number of digits: copy it again." else
     if bytes_eq name (codes "height") then codes "A height of the wallet file is no whole number, or one of earlier is above the wallet: give that block as a block, or raise height and hash together." else
+    if bytes_eq name (codes "hash") then codes "The hash of the wallet file is not 64 hex digits: give that of the block at height, as getblockhash tells it." else
+    if bytes_eq name (codes "weight") then codes "A weight of the wallet file is no whole number: give weight units from 165 to 400,000, without quotes." else
+    if bytes_eq name (codes "scripts") then codes "The scripts of the wallet file are no list of entries with script and weight, or an entry is none: write each in braces." else
+    if bytes_eq name (codes "change") then codes "The change of the wallet file is no entry with script and weight: write both in braces, as one of scripts." else
+    if bytes_eq name (codes "earlier") then codes "The earlier transactions of the wallet file are no list of entries with tx and height, or an entry is none: write each in braces." else
+    if bytes_eq name (codes "pending") then codes "The pending list of the wallet file is no list of transactions in hex, or one was cut off: write the hex of each alone, in quotes." else
+    if bytes_eq name (codes "abandoned") then codes "The abandoned payments of the wallet file are no list of txids: write 64 hex digits for each, in quotes." else
+    if bytes_eq name (codes "locked") then codes "The locked coins of the wallet file are no list of TXID:INDEX: copy each from what coins prints, in quotes." else
     codes "The member of this name in the wallet file is not what has to stand there: see the table of the wallet file."
 
 -- a member of a name that isn't known
@@ -122,17 +135,68 @@ wallet_sentence (wallets.Repeat list index) = wallet_repeat_sentence
 wallet_sentence (wallets.ParentLater index) = codes "In pending a child stands before its parent: put the parent first."
 wallet_sentence wallets.Memory = stop_sentence stops.Memory
 
+-- the value of a name isn't what has to stand there, in a keys file
+unfoldable pub keys_kind_sentence : List ℕ
+keys_kind_sentence = codes "The member of this name in the keys file is not what has to stand there: see the table of the keys file; an xpub stands in hex."
+
+-- a member of a name that isn't known, there
+unfoldable pub keys_member_sentence : List ℕ
+keys_member_sentence = codes "The keys file has a member of a name that is not known: take it out, or spell it as the table of the keys file does."
+
+-- a member that has to be there and isn't
+unfoldable pub keys_missing_sentence : List ℕ
+keys_missing_sentence = codes "The keys file lacks the member of this name: give it."
+
+-- a fault of the form of a keys file
+unfoldable pub keys_form_sentence : FieldFault → List ℕ
+keys_form_sentence fields.NotJson = codes "The keys file is no JSON text: python3 -m json.tool FILE names the line; save it as UTF-8 without a byte order mark."
+keys_form_sentence (fields.Kind name) = keys_kind_sentence
+keys_form_sentence (fields.Member name) = keys_member_sentence
+keys_form_sentence (fields.Missing name) = keys_missing_sentence
+keys_form_sentence fields.Memory = stop_sentence stops.Memory
+
+-- a fault of a keys file
+unfoldable pub keys_sentence : KeysFault → List ℕ
+keys_sentence (keys.Field fault) = keys_form_sentence fault
+keys_sentence (keys.Script index) = codes "The script at this index of scripts stands there twice, is empty, or is longer than 10,000 bytes: take it out."
+keys_sentence (keys.Redeem index) = codes "The entry at this index has a redeem script, and its script pays to no script hash: take the redeem script out, or copy the script again."
+keys_sentence (keys.Witness index) = codes "The witness script at this index is not the one whose hash stands in the redeem script, or else in the script: copy all of them again."
+keys_sentence (keys.Internal index) = codes "The entry at this index has an internal key and pays to no taproot output, or the other way round: give the key for taproot alone."
+keys_sentence (keys.Key index key) = codes "The key at the second index is no compressed public key, or for taproot not the internal key: copy it again."
+keys_sentence (keys.RepeatKey index key) = codes "The key at the second index stands before it in its entry: take it out."
+keys_sentence (keys.Xpub index) = codes "The key at this index of xpubs is no extended public key, or its path has not as many steps as its depth says: copy both again."
+keys_sentence (keys.RepeatXpub index) = codes "The key at this index of xpubs stands before it in the list: take it out."
+
+-- the value of this name isn't what has to stand there: of the members behind `seed` in the table, and of the other rates
+unfoldable pub other_request_kind_sentence : List ℕ → List ℕ
+other_request_kind_sentence name =
+    if bytes_eq name (codes "long_term") then codes "The rate is no whole number of satoshi per 1,000 virtual bytes: multiply satoshi per virtual byte by 1,000." else
+    if bytes_eq name (codes "discard") then codes "The rate is no whole number of satoshi per 1,000 virtual bytes: multiply satoshi per virtual byte by 1,000." else
+    if bytes_eq name (codes "change_target") then codes "The change that is aimed at is no whole number of satoshi: write it without a point and without quotes." else
+    if bytes_eq name (codes "tries") then codes "The tries are no whole number: write one from 1 to 10,000,000, without quotes." else
+    if bytes_eq name (codes "when_unfinished") then codes "What is done when tries are used up is neither take nor stop: write one of these." else
+    if bytes_eq name (codes "zero_conf") then codes "The member of this name in the request file is neither true nor false: write one of these, without quotes." else
+    if bytes_eq name (codes "include_unsafe") then codes "The member of this name in the request file is neither true nor false: write one of these, without quotes." else
+    if bytes_eq name (codes "group") then codes "The member of this name in the request file is neither true nor false: write one of these, without quotes." else
+    if bytes_eq name (codes "replaceable") then codes "The member of this name in the request file is neither true nor false: write one of these, without quotes." else
+    if bytes_eq name (codes "bump") then codes "The payment that is to be replaced is not named by its txid: copy its 64 hex digits from what coins prints." else
+    if bytes_eq name (codes "locktime") then codes "The lock time is no whole number up to 4,294,967,295: give a height, or from 500,000,000 on the seconds since 1970." else
+    if bytes_eq name (codes "psbt") then codes "The version of the PSBT is neither 0 nor 2: write one of these." else
+    codes "The member of this name in the request file is not what has to stand there: see the table of the request file."
+
 -- the value of this name isn't what has to stand there
 unfoldable pub request_kind_sentence : List ℕ → List ℕ
 request_kind_sentence name =
     if bytes_eq name (codes "root") then codes "The request file is JSON and no object: it has to begin with a brace and name its members." else
+    if bytes_eq name (codes "recipients") then codes "The recipients are no list, or one of them has both or neither of address and script: write each in braces, with one of these and an amount." else
+    if bytes_eq name (codes "address") then codes "An address of the request file is no text: write it in quotes." else
+    if bytes_eq name (codes "script") then codes "The script of a recipient is no hex or has an odd number of digits: give the scriptPubKey that getaddressinfo tells." else
     if bytes_eq name (codes "amount") then codes "An amount is no whole number of satoshi: write it without a point and without quotes." else
     if bytes_eq name (codes "rate") then codes "The rate is no whole number of satoshi per 1,000 virtual bytes: multiply satoshi per virtual byte by 1,000." else
     if bytes_eq name (codes "coins") then codes "A coin is not spelled as TXID:INDEX: copy it from what coins prints." else
     if bytes_eq name (codes "method") then codes "The method is not known: auto, changeless, weight, draw and manual are." else
     if bytes_eq name (codes "seed") then codes "The seed is not 64 hex digits: openssl rand -hex 32 prints such." else
-    if bytes_eq name (codes "when_unfinished") then codes "What is done when tries are used up is neither take nor stop: write one of these." else
-    codes "The member of this name in the request file is not what has to stand there: see the table of the request file."
+    other_request_kind_sentence name
 
 -- a member of this name may not stand there. That of `coins` may, but not beside `bump`
 unfoldable pub request_member_sentence : List ℕ → List ℕ
@@ -294,10 +358,22 @@ other_output_sentence = codes "Do not sign it: an input shows another output tha
 unfoldable pub other_pairs_sentence : List ℕ
 other_pairs_sentence = codes "The PSBT has more than was printed, as signatures: give the PSBT that was printed."
 
+-- a PSBT that tells an extended public key otherwise than the keys file
+unfoldable pub key_global_sentence : List ℕ
+key_global_sentence = codes "The PSBT has the extended public key of this number in the keys file with another origin: find out which is right before you sign."
+
+-- a PSBT that tells a key or a script of an input otherwise than the keys file
+unfoldable pub key_input_sentence : List ℕ
+key_input_sentence = codes "The PSBT tells a key or a script of the input at this index in another way than the keys file: find out which is right before you sign."
+
+-- a PSBT that tells a key or a script of an output otherwise than the keys file
+unfoldable pub key_output_sentence : List ℕ
+key_output_sentence = codes "The PSBT tells a key or a script of the output at this index in another way than the keys file: find out which is right before you sign."
+
 -- a report that says that the coins do not pay
 unfoldable pub none_sentence : List ℕ
 none_sentence = codes "The coins do not pay this: too few, too dear at this rate, or not listed; pay less, give a lower rate, or --zero-conf for own outputs that wait."
 
 -- a report that says that the tries are used up
 unfoldable pub unfinished_sentence : List ℕ
-unfinished_sentence = codes "The tries were used up before the search was done, and no payment was made: give more --tries, or another --method."
+unfinished_sentence = codes "The tries were used up before the search was done, and no payment was made: give more --tries, or another --method where no flag asks for this one."

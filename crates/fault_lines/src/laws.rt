@@ -3,6 +3,8 @@
 ghost use Rattle.std.specs.Prelude.{◌≡◌, ◌≢◌, ◌++◌, ℕ, ℤ, List, None, Some, codes};
 ghost use Rattle.block_feed.specs.declared.fault.FeedFault.{FeedFault};
 ghost use Rattle.fund_base.specs.declared.outpoint.OutPoint.{OutPoint};
+ghost use Rattle.json_fields.specs.declared.fault.FieldFault.TheVariants as fields;
+ghost use Rattle.keys_text.specs.declared.fault.KeysFault.TheVariants as keys;
 ghost use Rattle.fund_steps.specs.declared.fault.PlanFault.{PlanFault};
 ghost use Rattle.fee_bump.specs.declared.fault.BumpFault.{BumpFault};
 ghost use Rattle.psbt_codec.specs.declared.fault.PsbtFault.{PsbtFault};
@@ -14,7 +16,7 @@ ghost use Rattle.wallet_text.specs.declared.fault.WalletFault.{WalletFault};
 ghost use Rattle.command_end.specs.Coin.{coin_text};
 ghost use Rattle.command_end.specs.Words.{bump_fault_words, feed_fault_words, plan_fault_words, psbt_fault_words, request_fault_words, tx_fault_words, wallet_fault_words};
 ghost use Rattle.fault_laws.specs.Numbers.{HasRequestNumbers, HasWalletNumbers};
-ghost use Rattle.fault_lines.specs.Sentences.{blocks_sentence, bump_sentence, check_sentence, kept_sentence, missing_sentence, none_sentence, other_output_sentence, other_pairs_sentence, plan_sentence, psbt_sentence, request_sentence, settle_sentence, signed_sentence, stop_sentence, unfinished_sentence, unsuited_sentence, wallet_sentence};
+ghost use Rattle.fault_lines.specs.Sentences.{blocks_sentence, bump_sentence, check_sentence, kept_sentence, key_global_sentence, key_input_sentence, key_output_sentence, keys_form_sentence, keys_kind_sentence, keys_member_sentence, keys_missing_sentence, keys_sentence, missing_sentence, none_sentence, other_output_sentence, other_pairs_sentence, plan_sentence, psbt_sentence, request_sentence, settle_sentence, signed_sentence, stop_sentence, unfinished_sentence, unsuited_sentence, wallet_sentence};
 ghost use Rattle.fault_lines.specs.declared.stop.Stop.TheVariants as stops;
 ghost use Rattle.fault_lines.specs.declared.unsuited.Unsuited.TheVariants as unsuited;
 ghost use Rattle.kept_job.specs.declared.fault.KeptFault.TheVariants as jobs;
@@ -108,6 +110,33 @@ pub fn inputs_have_their_sentence()
     ensures other_pairs { HasSentence (codes "input psbt OtherPairs") other_pairs_sentence }
     ensures missing { AllHaveSentence (codes "input psbt Missing ") missing_sentence }
     ensures other_output { AllHaveSentence (codes "input psbt OtherOutput ") other_output_sentence }
+{}
+
+/// The law of the fault lines of keys files, and of PSBTs to which keys are added: each has its sentence, whatever it names. A call
+/// does nothing.
+pub fn keys_have_their_sentence()
+    ensures limit { HasSentence (codes "limit keys") (stop_sentence stops.KeysLimit) }
+
+    // The form of the file.
+    ensures not_json { HasSentence (codes "input keys NotJson") (keys_form_sentence fields.NotJson) }
+    ensures kind { AllHaveSentence (codes "input keys Kind ") keys_kind_sentence }
+    ensures member { AllHaveSentence (codes "input keys Member ") keys_member_sentence }
+    ensures lacking { AllHaveSentence (codes "input keys Missing ") keys_missing_sentence }
+
+    // Its scripts and their keys.
+    ensures script { (index : ℕ) → AllHaveSentence (codes "input keys Script ") (keys_sentence (keys.Script index)) }
+    ensures redeem { (index : ℕ) → AllHaveSentence (codes "input keys Redeem ") (keys_sentence (keys.Redeem index)) }
+    ensures witness { (index : ℕ) → AllHaveSentence (codes "input keys Witness ") (keys_sentence (keys.Witness index)) }
+    ensures internal { (index : ℕ) → AllHaveSentence (codes "input keys Internal ") (keys_sentence (keys.Internal index)) }
+    ensures public { (index key : ℕ) → AllHaveSentence (codes "input keys Key ") (keys_sentence (keys.Key index key)) }
+    ensures repeat { (index key : ℕ) → AllHaveSentence (codes "input keys RepeatKey ") (keys_sentence (keys.RepeatKey index key)) }
+    ensures xpub { (index : ℕ) → AllHaveSentence (codes "input keys Xpub ") (keys_sentence (keys.Xpub index)) }
+    ensures repeat_xpub { (index : ℕ) → AllHaveSentence (codes "input keys RepeatXpub ") (keys_sentence (keys.RepeatXpub index)) }
+
+    // A PSBT that tells it otherwise.
+    ensures global { AllHaveSentence (codes "input psbt KeyGlobal ") key_global_sentence }
+    ensures input { AllHaveSentence (codes "input psbt KeyInput ") key_input_sentence }
+    ensures output { AllHaveSentence (codes "input psbt KeyOutput ") key_output_sentence }
 {}
 
 /// The law of the fault lines of requests that `wide`, `share` or `sweep` doesn't pay: each has its sentence, whatever it counts. A

@@ -11,6 +11,8 @@ mod bump_sentences;
 mod coin;
 mod job;
 mod kept_sentences;
+mod keys;
+mod keys_sentences;
 mod laws;
 mod line;
 mod plan_sentences;
@@ -36,15 +38,21 @@ pub use address_sentences::address_sentence;
 pub use blocks_sentences::blocks_sentence;
 pub use bump_sentences::bump_sentence;
 pub use kept_sentences::kept_sentence;
+pub use keys_sentences::{
+    keys_form_sentence, keys_kind_sentence, keys_member_sentence, keys_missing_sentence,
+    keys_sentence,
+};
 pub use laws::{
-    inputs_have_their_sentence, jobs_have_their_sentence, lines_have_their_sentence,
-    reports_have_their_sentence, settlings_have_their_sentence, signed_have_their_sentence,
-    stops_have_their_sentence, unpaid_have_their_sentence, unsuited_have_their_sentence,
+    inputs_have_their_sentence, jobs_have_their_sentence, keys_have_their_sentence,
+    lines_have_their_sentence, reports_have_their_sentence, settlings_have_their_sentence,
+    signed_have_their_sentence, stops_have_their_sentence, unpaid_have_their_sentence,
+    unsuited_have_their_sentence,
 };
 pub use line::line_sentence;
 pub use plan_sentences::plan_sentence;
 pub use psbt_sentences::{
-    missing_sentence, other_output_sentence, other_pairs_sentence, psbt_sentence,
+    key_global_sentence, key_input_sentence, key_output_sentence, missing_sentence,
+    other_output_sentence, other_pairs_sentence, psbt_sentence,
 };
 pub use report_sentences::check_sentence;
 pub use request_sentences::{

@@ -8,6 +8,7 @@ use crate::bump::bump_line;
 use crate::coin::no_coin;
 use crate::job::kept_line;
 use crate::kept_sentences::kept_sentence;
+use crate::keys::keys_line;
 use crate::plan_sentences::plan_sentence;
 use crate::psbt::psbt_line;
 use crate::report::check_line;
@@ -61,6 +62,8 @@ pub fn limit_line(words: &[u8]) -> Option<&'static str>
         Some(stop_sentence(Stop::ScriptLimit))
     } else if begins(words, b"psbt") {
         Some(stop_sentence(Stop::PsbtLimit))
+    } else if begins(words, b"keys") {
+        Some(stop_sentence(Stop::KeysLimit))
     } else if begins(words, b"tx") {
         Some(stop_sentence(Stop::TxLimit))
     } else {
@@ -87,6 +90,8 @@ pub fn input_line(words: &[u8]) -> Option<&'static str>
         psbt_line(rest)
     } else if let Some(rest) = behind(words, b"tx ") {
         signed_line(rest)
+    } else if let Some(rest) = behind(words, b"keys ") {
+        keys_line(rest)
     } else if begins(words, b"book RepeatCoin ") {
         Some(stop_sentence(Stop::RepeatCoin))
     } else {

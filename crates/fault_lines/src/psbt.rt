@@ -4,7 +4,8 @@ ghost use Rattle.std.specs.Prelude.{◌≡◌, option_copied};
 ghost use Rattle.fault_lines.specs.Lines.{psbt_line, psbt_rest};
 
 use crate::psbt_sentences::{
-    missing_sentence, other_output_sentence, other_pairs_sentence, psbt_sentence,
+    key_global_sentence, key_input_sentence, key_output_sentence, missing_sentence,
+    other_output_sentence, other_pairs_sentence, psbt_sentence,
 };
 use crate::word::begins;
 use psbt_codec::PsbtFault;
@@ -35,6 +36,12 @@ pub fn psbt_rest(words: &[u8]) -> Option<&'static str>
         Some(missing_sentence())
     } else if begins(words, b"OtherOutput ") {
         Some(other_output_sentence())
+    } else if begins(words, b"KeyGlobal ") {
+        Some(key_global_sentence())
+    } else if begins(words, b"KeyInput ") {
+        Some(key_input_sentence())
+    } else if begins(words, b"KeyOutput ") {
+        Some(key_output_sentence())
     } else if begins(words, b"Memory") {
         Some(psbt_sentence(&PsbtFault::Memory))
     } else {

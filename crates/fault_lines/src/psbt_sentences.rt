@@ -1,7 +1,7 @@
 //! The sentences of faults of a PSBT that is to be made whole.
 
 ghost use Rattle.std.specs.Prelude.{◌≡◌};
-ghost use Rattle.fault_lines.specs.Sentences.{missing_sentence, other_output_sentence, other_pairs_sentence, psbt_sentence};
+ghost use Rattle.fault_lines.specs.Sentences.{key_global_sentence, key_input_sentence, key_output_sentence, missing_sentence, other_output_sentence, other_pairs_sentence, psbt_sentence};
 
 use crate::stop::{Stop, stop_sentence};
 use psbt_codec::PsbtFault;
@@ -64,4 +64,28 @@ pub fn other_pairs_sentence() -> &'static str
     ensures { result.now ≡ other_pairs_sentence }
 {
     "The PSBT has more than was printed, as signatures: give the PSBT that was printed."
+}
+
+/// What to do about a PSBT that tells an extended public key otherwise than the keys file.
+#[tactic(auto, unfolding(crate::specs::Sentences::key_global_sentence))]
+pub fn key_global_sentence() -> &'static str
+    ensures { result.now ≡ key_global_sentence }
+{
+    "The PSBT has the extended public key of this number in the keys file with another origin: find out which is right before you sign."
+}
+
+/// What to do about a PSBT that tells a key or a script of an input otherwise than the keys file.
+#[tactic(auto, unfolding(crate::specs::Sentences::key_input_sentence))]
+pub fn key_input_sentence() -> &'static str
+    ensures { result.now ≡ key_input_sentence }
+{
+    "The PSBT tells a key or a script of the input at this index in another way than the keys file: find out which is right before you sign."
+}
+
+/// What to do about a PSBT that tells a key or a script of an output otherwise than the keys file.
+#[tactic(auto, unfolding(crate::specs::Sentences::key_output_sentence))]
+pub fn key_output_sentence() -> &'static str
+    ensures { result.now ≡ key_output_sentence }
+{
+    "The PSBT tells a key or a script of the output at this index in another way than the keys file: find out which is right before you sign."
 }

@@ -1,11 +1,46 @@
 //! The sentences of faults of a request file.
 
 ghost use Rattle.std.specs.Prelude.{◌≡◌};
-ghost use Rattle.fault_lines.specs.Sentences.{rate_range_sentence, request_kind_sentence, request_member_sentence, request_missing_sentence, request_sentence};
+ghost use Rattle.fault_lines.specs.Sentences.{other_request_kind_sentence, rate_range_sentence, request_kind_sentence, request_member_sentence, request_missing_sentence, request_sentence};
 
 use crate::address_sentences::address_sentence;
 use crate::stop::{Stop, stop_sentence};
 use request_text::RequestFault;
+
+/// The sentence of a value of this name that isn't what has to stand there, of the members behind `seed` in the table and of the other
+/// rates.
+#[tactic(auto, unfolding(crate::specs::Sentences::other_request_kind_sentence))]
+fn other_request_kind_sentence(name: &[u8]) -> &'static str
+    ensures { result.now ≡ other_request_kind_sentence name.now }
+{
+    if name == b"long_term".as_slice() {
+        "The rate is no whole number of satoshi per 1,000 virtual bytes: multiply satoshi per virtual byte by 1,000."
+    } else if name == b"discard".as_slice() {
+        "The rate is no whole number of satoshi per 1,000 virtual bytes: multiply satoshi per virtual byte by 1,000."
+    } else if name == b"change_target".as_slice() {
+        "The change that is aimed at is no whole number of satoshi: write it without a point and without quotes."
+    } else if name == b"tries".as_slice() {
+        "The tries are no whole number: write one from 1 to 10,000,000, without quotes."
+    } else if name == b"when_unfinished".as_slice() {
+        "What is done when tries are used up is neither take nor stop: write one of these."
+    } else if name == b"zero_conf".as_slice() {
+        "The member of this name in the request file is neither true nor false: write one of these, without quotes."
+    } else if name == b"include_unsafe".as_slice() {
+        "The member of this name in the request file is neither true nor false: write one of these, without quotes."
+    } else if name == b"group".as_slice() {
+        "The member of this name in the request file is neither true nor false: write one of these, without quotes."
+    } else if name == b"replaceable".as_slice() {
+        "The member of this name in the request file is neither true nor false: write one of these, without quotes."
+    } else if name == b"bump".as_slice() {
+        "The payment that is to be replaced is not named by its txid: copy its 64 hex digits from what coins prints."
+    } else if name == b"locktime".as_slice() {
+        "The lock time is no whole number up to 4,294,967,295: give a height, or from 500,000,000 on the seconds since 1970."
+    } else if name == b"psbt".as_slice() {
+        "The version of the PSBT is neither 0 nor 2: write one of these."
+    } else {
+        "The member of this name in the request file is not what has to stand there: see the table of the request file."
+    }
+}
 
 /// The sentence of a value of this name that isn't what has to stand there.
 #[tactic(auto, unfolding(crate::specs::Sentences::request_kind_sentence))]
@@ -14,6 +49,12 @@ pub fn request_kind_sentence(name: &[u8]) -> &'static str
 {
     if name == b"root".as_slice() {
         "The request file is JSON and no object: it has to begin with a brace and name its members."
+    } else if name == b"recipients".as_slice() {
+        "The recipients are no list, or one of them has both or neither of address and script: write each in braces, with one of these and an amount."
+    } else if name == b"address".as_slice() {
+        "An address of the request file is no text: write it in quotes."
+    } else if name == b"script".as_slice() {
+        "The script of a recipient is no hex or has an odd number of digits: give the scriptPubKey that getaddressinfo tells."
     } else if name == b"amount".as_slice() {
         "An amount is no whole number of satoshi: write it without a point and without quotes."
     } else if name == b"rate".as_slice() {
@@ -24,10 +65,8 @@ pub fn request_kind_sentence(name: &[u8]) -> &'static str
         "The method is not known: auto, changeless, weight, draw and manual are."
     } else if name == b"seed".as_slice() {
         "The seed is not 64 hex digits: openssl rand -hex 32 prints such."
-    } else if name == b"when_unfinished".as_slice() {
-        "What is done when tries are used up is neither take nor stop: write one of these."
     } else {
-        "The member of this name in the request file is not what has to stand there: see the table of the request file."
+        other_request_kind_sentence(name)
     }
 }
 

@@ -30,6 +30,8 @@ pub enum Stop {
     LogLimit,
     /// The script of a desk is over its limit.
     ScriptLimit,
+    /// The keys file is over its limit.
+    KeysLimit,
     /// The PSBT file is over its limit.
     PsbtLimit,
     /// The file of a signed transaction is over its limit.
@@ -65,6 +67,7 @@ pub fn stop_sentence(stop: Stop) -> &'static str
         Stop::LogLimit =>
             "The log is above 64 MiB: give LOG as it was written, or where a job is gone on with, begin anew under another name.",
         Stop::ScriptLimit => "The script of the desk is above 16 MiB: cut it into several.",
+        Stop::KeysLimit => "The keys file is above 16 MiB: leave out scripts that have no coins.",
         Stop::PsbtLimit => "The PSBT file is above 64 MiB: give the PSBT that was printed.",
         Stop::TxLimit =>
             "The file of the signed transaction is above 1 MiB: give the hex of one transaction, and nothing else.",

@@ -16,5 +16,5 @@ pub fn none_sentence() -> &'static str
 pub fn unfinished_sentence() -> &'static str
     ensures { result.now ≡ unfinished_sentence }
 {
-    "The tries were used up before the search was done, and no payment was made: give more --tries, or another --method."
+    "The tries were used up before the search was done, and no payment was made: give more --tries, or another --method where no flag asks for this one."
 }

@@ -20,6 +20,22 @@ pub fn wallet_kind_sentence(name: &[u8]) -> &'static str
         "A transaction of the wallet file is no hex or has an odd number of digits: copy it again."
     } else if name == b"height".as_slice() {
         "A height of the wallet file is no whole number, or one of earlier is above the wallet: give that block as a block, or raise height and hash together."
+    } else if name == b"hash".as_slice() {
+        "The hash of the wallet file is not 64 hex digits: give that of the block at height, as getblockhash tells it."
+    } else if name == b"weight".as_slice() {
+        "A weight of the wallet file is no whole number: give weight units from 165 to 400,000, without quotes."
+    } else if name == b"scripts".as_slice() {
+        "The scripts of the wallet file are no list of entries with script and weight, or an entry is none: write each in braces."
+    } else if name == b"change".as_slice() {
+        "The change of the wallet file is no entry with script and weight: write both in braces, as one of scripts."
+    } else if name == b"earlier".as_slice() {
+        "The earlier transactions of the wallet file are no list of entries with tx and height, or an entry is none: write each in braces."
+    } else if name == b"pending".as_slice() {
+        "The pending list of the wallet file is no list of transactions in hex, or one was cut off: write the hex of each alone, in quotes."
+    } else if name == b"abandoned".as_slice() {
+        "The abandoned payments of the wallet file are no list of txids: write 64 hex digits for each, in quotes."
+    } else if name == b"locked".as_slice() {
+        "The locked coins of the wallet file are no list of TXID:INDEX: copy each from what coins prints, in quotes."
     } else {
         "The member of this name in the wallet file is not what has to stand there: see the table of the wallet file."
     }

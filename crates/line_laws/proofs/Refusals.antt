@@ -13,9 +13,15 @@ use Rattle.command_settle.specs.Words as settling
 use Rattle.command_settle.specs.Words.{differing_words, settle_fault_words}
 use Rattle.command_settle.specs.declared.stop.Refusal as settlings
 use Rattle.command_settle.specs.declared.stop.Refusal.TheVariants as unsettled
-use Rattle.fault_lines.specs.Lines.{HasSentence, differing_line, input_line, limit_line, line_sentence, psbt_line, psbt_rest, settle_line, signed_line, words_sentence}
+use Rattle.fault_lines.specs.Lines.{HasSentence, differing_line, input_line, keys_line, keys_rest, limit_line, line_sentence, psbt_line, psbt_rest, settle_line, signed_line, words_sentence}
 use Rattle.fault_lines.proofs.LineLaws.{blocks_told, bump_told, plan_told, psbt_told, request_told, signed_told, wallet_told}
-use Rattle.fault_lines.specs.Sentences.{differing_sentence, psbt_sentence, settle_sentence}
+use Rattle.fault_lines.specs.Sentences.{differing_sentence, keys_form_sentence, keys_sentence, psbt_sentence, settle_sentence}
+use Rattle.keys_files.specs.Words.{field_fault_words, key_fault_words, keys_fault_words}
+use Rattle.json_fields.specs.declared.fault.FieldFault.TheVariants as fields
+use Rattle.keys_text.specs.declared.fault.KeysFault.{KeysFault}
+use Rattle.keys_text.specs.declared.fault.KeysFault.TheVariants as keys
+use Rattle.psbt_keys.specs.declared.fault.KeyFault.{KeyFault}
+use Rattle.psbt_keys.specs.declared.fault.KeyFault.TheVariants as unkeyed
 use Rattle.fund_files.specs.declared.refusal.File.TheVariants as files
 use Rattle.fund_files.specs.declared.refusal.FileRefusal.{FileRefusal}
 use Rattle.fund_files.specs.declared.refusal.FileRefusal.TheVariants as refused
@@ -23,7 +29,7 @@ use Rattle.settle_check.specs.declared.fault.Differing.{Differing}
 use Rattle.settle_check.specs.declared.fault.Differing.TheVariants as parts
 use Rattle.settle_check.specs.declared.fault.SettleFault.{SettleFault}
 use Rattle.settle_check.specs.declared.fault.SettleFault.TheVariants as settles
-use Rattle.line_laws.specs.Sentences.{HasFileNumbers, HasPaymentNumbers, HasSettlingNumbers, completion_sentence, file_sentence, payment_sentence, settling_sentence}
+use Rattle.line_laws.specs.Sentences.{HasFileNumbers, HasPaymentNumbers, HasSettlingNumbers, completion_sentence, file_sentence, keyed_sentence, payment_sentence, settling_sentence}
 
 pub file_told : (r : FileRefusal) → HasFileNumbers r → HasSentence (file_refusal_words r) (file_sentence r)
 unfolding line_sentence words_sentence input_line limit_line file_refusal_words
@@ -49,6 +55,29 @@ completion_told incomplete.OtherPairs = refl
 completion_told (incomplete.Input (inputs.Missing index coin)) = refl
 completion_told (incomplete.Input (inputs.OtherOutput index coin)) = refl
 completion_told (incomplete.Input inputs.Memory) = refl
+
+pub keys_told : (f : KeysFault) → HasSentence (codes "input keys " ++ keys_fault_words f) (keys_sentence f)
+unfolding line_sentence words_sentence input_line keys_line keys_rest keys_fault_words field_fault_words keys_sentence keys_form_sentence
+keys_told (keys.Field fields.NotJson) = refl
+keys_told (keys.Field (fields.Kind name)) = refl
+keys_told (keys.Field (fields.Member name)) = refl
+keys_told (keys.Field (fields.Missing name)) = refl
+keys_told (keys.Field fields.Memory) = refl
+keys_told (keys.Script index) = refl
+keys_told (keys.Redeem index) = refl
+keys_told (keys.Witness index) = refl
+keys_told (keys.Internal index) = refl
+keys_told (keys.Key index key) = refl
+keys_told (keys.RepeatKey index key) = refl
+keys_told (keys.Xpub index) = refl
+keys_told (keys.RepeatXpub index) = refl
+
+pub keyed_told : (f : KeyFault) → HasSentence (codes "input psbt " ++ key_fault_words f) (keyed_sentence f)
+unfolding line_sentence words_sentence input_line psbt_line psbt_rest key_fault_words
+keyed_told (unkeyed.Psbt fault) = psbt_told fault
+keyed_told (unkeyed.Global number) = refl
+keyed_told (unkeyed.Input index kind) = refl
+keyed_told (unkeyed.Output index kind) = refl
 
 -- each way in which a transaction is another payment
 differing_told : (part : Differing) → HasSentence (codes "settle Differs " ++ differing_words part) (differing_sentence part)

@@ -9,13 +9,15 @@ use Rattle.command_inputs.specs.declared.refusal.Refusal.TheVariants as unpaid
 use Rattle.command_settle.specs.declared.stop.Refusal as settlings
 use Rattle.command_settle.specs.declared.stop.Refusal.TheVariants as unsettled
 use Rattle.fault_laws.specs.Numbers.{HasRequestNumbers, HasWalletNumbers}
-use Rattle.fault_lines.specs.Sentences.{blocks_sentence, bump_sentence, missing_sentence, other_output_sentence, other_pairs_sentence, plan_sentence, psbt_sentence, request_sentence, settle_sentence, signed_sentence, stop_sentence, wallet_sentence}
+use Rattle.fault_lines.specs.Sentences.{blocks_sentence, bump_sentence, key_global_sentence, key_input_sentence, key_output_sentence, missing_sentence, other_output_sentence, other_pairs_sentence, plan_sentence, psbt_sentence, request_sentence, settle_sentence, signed_sentence, stop_sentence, wallet_sentence}
 use Rattle.fault_lines.specs.declared.stop.Stop.TheVariants as stops
 use Rattle.fund_files.specs.declared.refusal.File.{File}
 use Rattle.fund_files.specs.declared.refusal.File.TheVariants as files
 use Rattle.fund_files.specs.declared.refusal.FileRefusal.{FileRefusal}
 use Rattle.fund_files.specs.declared.refusal.FileRefusal.TheVariants as refused
 use Rattle.command_complete.specs.declared.fault.CompleteFault.TheVariants as inputs
+use Rattle.psbt_keys.specs.declared.fault.KeyFault.{KeyFault}
+use Rattle.psbt_keys.specs.declared.fault.KeyFault.TheVariants as unkeyed
 
 -- a file that is longer than its limit
 abbrev pub limit_sentence : File → List ℕ
@@ -50,6 +52,13 @@ completion_sentence incomplete.OtherPairs = other_pairs_sentence
 completion_sentence (incomplete.Input (inputs.Missing index coin)) = missing_sentence
 completion_sentence (incomplete.Input (inputs.OtherOutput index coin)) = other_output_sentence
 completion_sentence (incomplete.Input inputs.Memory) = stop_sentence stops.Memory
+
+-- a PSBT to which keys aren't added
+abbrev pub keyed_sentence : KeyFault → List ℕ
+keyed_sentence (unkeyed.Psbt fault) = psbt_sentence fault
+keyed_sentence (unkeyed.Global number) = key_global_sentence
+keyed_sentence (unkeyed.Input index kind) = key_input_sentence
+keyed_sentence (unkeyed.Output index kind) = key_output_sentence
 
 -- a signed transaction that is refused, or a file beside it
 abbrev pub settling_sentence : settlings.Refusal → List ℕ

@@ -3,5 +3,5 @@ use Rattle.fund_files.specs.Chain.{HasTexts}
 use Rattle.fund_payment.proofs.ParentLaws.{held_texts}
 use Rattle.command_complete.proofs.making.made.Goals as goal
 
-pub completed_text-requires : goal.completed_text-requires
-completed_text-requires c = subst HasTexts (sym c.known-book.ensures) (held_texts c.args.held.now c.requires)
+pub completed_file-requires : goal.completed_file-requires
+completed_file-requires c = subst HasTexts (sym c.known-book.ensures) (held_texts c.args.held.now c.requires)

@@ -1,7 +1,7 @@
 use Rattle.std.proofs.Common.{◌≡◌}
 use Rattle.command_end.specs.declared.status.Status.TheVariants as statuses
 use Rattle.command_complete.proofs.AskingLaws.{chain_tells}
-use Rattle.command_complete.proofs.answer.answer.Goals as goal
+use Rattle.command_complete.proofs.answering.answer.Goals as goal
 
 pub returns-in-Chain-clause-read : goal.returns-in-Chain-clause-read
 returns-in-Chain-clause-read g c = rw c.in-Chain.is (chain_tells c.in-Chain.stop (c.refuse_chain.result ≡ statuses.ReadFault) c.refuse_chain.ensures.read)

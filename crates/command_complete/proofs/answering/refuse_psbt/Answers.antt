@@ -1,4 +1,4 @@
-use Rattle.command_complete.proofs.answer.refuse_psbt.Goals as goal
+use Rattle.command_complete.proofs.answering.refuse_psbt.Goals as goal
 
 pub returns-clause-line : goal.returns-clause-line
 returns-clause-line g c = rw c.refusal_parts.ensures at c.put_fault.ensures.line

@@ -1,0 +1,5 @@
+pub mod Asked
+pub mod Keyed
+pub mod Results
+pub mod Stops
+pub mod Words

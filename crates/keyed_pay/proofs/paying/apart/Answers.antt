@@ -1,0 +1,1 @@
+use Rattle.keyed_pay.proofs.paying.apart.Goals as goal
