@@ -10,7 +10,7 @@ pub const COMMANDS: &str = "ninelace: payments of a wallet that only watches.
   ninelace sweep --wallet FILE --blocks FILE --to ADDRESS --fee-rate RATE
   ninelace coins WALLET BLOCKS --fee-rate RATE
   ninelace check WALLET BLOCKS REQUEST REPORT LOG
-  ninelace complete PSBT WALLET BLOCKS
+  ninelace complete PSBT WALLET BLOCKS KEYS
   ninelace settle --wallet FILE --request FILE --report FILE TX
   ninelace explain LINE
 
@@ -37,6 +37,8 @@ value are two words, or one as --fee-rate=12.
                          coins are worth less the fee, to one recipient alone
   --pay-file FILE        the lines ADDRESS,AMOUNT of this file are paid too, behind
                          the recipients of the words
+  --keys FILE            the paths of keys and the scripts of this file stand in the
+                         PSBT, as a hardware signer asks
   --fee-rate RATE        the fee rate; below 1 it wants --allow-low-rate
   --allow-low-rate       a fee rate below 1 is taken, which nodes do not relay
   --long-term RATE       the rate at which coins are thought to be spent later: 10
@@ -52,6 +54,8 @@ value are two words, or one as --fee-rate=12.
                          what is paid
   --psbt FILE            the PSBT goes into this new file
   --log FILE             the log, which proves the choice, goes into this new file
+  --report FILE          the report goes into this new file, for check and settle
+  --request FILE         the request goes into this new file, for check and settle
   --group                the coins of one script are spent together
   --consolidate          with --method changeless: coins that are not needed are
                          spent too, where spending them later would cost more
@@ -102,7 +106,9 @@ const COINS: &str = "ninelace coins WALLET BLOCKS --fee-rate RATE
 Lists the last block, each payment that waits with its state, and each coin that may be
 spent: its value, how deep it is, whose it is, and whether it is safe. With --fee-rate,
 which may be left out, it also lists what a coin costs at this rate beside its input, if
-the payments that wait below it pay less.
+the payments that wait below it pay less. Last it tells how many coins are confirmed, wait
+safely, may be taken back by a stranger, are claimed by a payment that waits, are locked,
+or are immature, and what they are worth together, in satoshi.
 
 For example:
 
@@ -113,7 +119,9 @@ For example:
 /// The command that checks a report.
 const CHECK: &str = "ninelace check WALLET BLOCKS REQUEST REPORT LOG
 
-Says whether a report and its log, as fund_cli writes them, are true of the files.
+Says whether a report and its log are true of the files: those that pay writes with
+--request, --report and --log, and those of fund_cli. Each name may stand behind its flag
+too, --wallet FILE and so on, in any order.
 
 For example:
 
@@ -121,23 +129,26 @@ For example:
 ";
 
 /// The command that makes a PSBT whole.
-const COMPLETE: &str = "ninelace complete PSBT WALLET BLOCKS
+const COMPLETE: &str = "ninelace complete PSBT WALLET BLOCKS KEYS
 
 Shows the same PSBT with the whole transaction beside each output that it spends, which
-some signers ask for.
+some signers ask for. KEYS may be left out: a keys file with the paths of keys and the
+scripts that a hardware signer asks for, which stand in the PSBT then. The PSBT file is
+text in base64 or bytes.
 
 For example:
 
-  ninelace complete payment.psbt wallet.json blocks.dat
+  ninelace complete payment.psbt wallet.json blocks.dat keys.json
 ";
 
 /// The command that looks at a signed transaction.
 const SETTLE: &str = "ninelace settle --wallet FILE --request FILE --report FILE TX
 
 Checks no signature. Says whether a signed transaction is the payment of a report, as
-fund_cli writes it, and pays the rate of its request by what it truly weighs. Shows what
-each input weighs and was declared to weigh, in weight units (WU), the fee and its rate,
-and by how much the inputs together weigh less than declared.
+pay writes it with --report and fund_cli prints it, and pays the rate of its request by
+what it truly weighs. Shows what each input weighs and was declared to weigh, in weight
+units (WU), the fee and its rate, and by how much the inputs together weigh less than
+declared.
 
   --wallet FILE          the wallet file
   --request FILE         the request file

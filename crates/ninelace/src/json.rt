@@ -38,7 +38,7 @@ fn sentence_value(alloc: Global, sentence: Option<&str>) -> Result<Value, Memory
 }
 
 /// Puts a member behind those of an object.
-fn put(
+pub fn put(
     alloc: Global,
     object: &mut Map<String, Value>,
     name: &str,
@@ -59,7 +59,7 @@ fn put_text(
 }
 
 /// Puts what a command printed: its status, the lines, and the sentence that says what to do, or null.
-fn put_said(
+pub fn put_said(
     alloc: Global,
     object: &mut Map<String, Value>,
     code: u8,
@@ -84,7 +84,7 @@ pub fn said_value(
 }
 
 /// The request file of what is asked, where it is to be shown, and else null.
-fn request_value(alloc: Global, asked: &Asked) -> Result<Value, Memory> {
+pub fn request_value(alloc: Global, asked: &Asked) -> Result<Value, Memory> {
     if !asked.show_request {
         return Ok(Value::Null);
     }

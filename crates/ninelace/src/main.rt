@@ -1,8 +1,11 @@
 //! The program for people: it pays, lists coins, checks reports, completes PSBTs, looks at signed payments and explains fault lines.
 #![tactic(auto)]
 
+mod checking;
+mod figures;
 mod help;
 mod json;
+mod keyed;
 mod listed;
 mod most;
 mod pay;
@@ -11,12 +14,13 @@ mod prices;
 mod settle;
 mod sweep;
 
+use checking::check;
 use command_end::Status;
 use fund_base::Memory;
 use pay::pay;
 use pay_words::spread_words;
 use people_advice::{is_other_command, is_psbt_text, other_command_sentence, psbt_text_sentence};
-use plain::{by_words, coins, complete, explain, is_given, refuse, show, tell};
+use plain::{coins, complete, explain, is_given, refuse, show, tell};
 use settle::settle;
 use std::io::ErrorKind;
 use std::process::ExitCode;
@@ -80,15 +84,16 @@ fn command(rt: &HostRuntime, words: &[String], verb: &str, rest: &[String]) -> i
             sweep(rt, words.as_slice())
         }
         "coins" => coins(rt, words),
-        "check" => by_words(
-            rt,
-            words,
-            6,
-            "check takes five names: WALLET BLOCKS REQUEST REPORT LOG.",
-        ),
+        "check" => {
+            let words = spread(rt, words)?;
+            check(rt, words.as_slice())
+        }
         "complete" | "settle" if has_psbt_text(rest) => refuse(rt, words, psbt_text_sentence()),
         "complete" => complete(rt, rest),
-        "settle" => settle(rt, rest),
+        "settle" => {
+            let words = spread(rt, rest)?;
+            settle(rt, words.as_slice())
+        }
         "explain" => explain(rt, rest),
         _ if is_other_command(verb) => refuse(rt, words, other_command_sentence()),
         _ => refuse(
@@ -96,6 +101,37 @@ fn command(rt: &HostRuntime, words: &[String], verb: &str, rest: &[String]) -> i
             words,
             "These words are no command: ninelace --help shows the commands with examples.",
         ),
+    }
+}
+
+/// The words behind the first, and the first behind them.
+fn turned(rt: &HostRuntime, first: &str, rest: &[String]) -> io::Result<Vec<String>> {
+    let alloc = rt.alloc();
+    let mut words = Vec::new(alloc);
+    for word in rest {
+        words.push(String::from_str(alloc, word.as_str())?)?;
+    }
+    words.push(String::from_str(alloc, first)?)?;
+    Ok(words)
+}
+
+/// Does what words say that begin with a flag which each command takes: the same as with the flag behind them.
+fn act_turned(rt: &HostRuntime, flag: &str, rest: &[String]) -> io::Result<u8> {
+    let words = turned(rt, flag, rest)?;
+    match words.as_slice() {
+        [verb, rest @ ..] => act_by(rt, words.as_slice(), verb.as_str(), rest),
+        [] => help_whole(rt, Status::Usage),
+    }
+}
+
+/// Does the command of this name, or shows what the program says of it.
+fn act_by(rt: &HostRuntime, words: &[String], name: &str, rest: &[String]) -> io::Result<u8> {
+    match help::of_command(name) {
+        Some(text) if is_given(rest, "--help") || is_given(rest, "-h") => {
+            rt.print(text)?;
+            Ok(Status::Done.code())
+        }
+        _ => command(rt, words, name, rest),
     }
 }
 
@@ -109,13 +145,8 @@ fn act(rt: &HostRuntime, words: &[String]) -> io::Result<u8> {
                 rt.println(help::VERSION)?;
                 Ok(Status::Done.code())
             }
-            name => match help::of_command(name) {
-                Some(text) if is_given(rest, "--help") || is_given(rest, "-h") => {
-                    rt.print(text)?;
-                    Ok(Status::Done.code())
-                }
-                _ => command(rt, words, name, rest),
-            },
+            "--json" | "--progress" => act_turned(rt, verb.as_str(), rest),
+            name => act_by(rt, words, name, rest),
         },
     }
 }

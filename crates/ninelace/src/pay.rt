@@ -1,14 +1,16 @@
 //! The command that pays, as people see it.
 
+use crate::figures::refuse_none;
 use crate::json::{Seen, payment_value, print, refusal_value};
+use crate::keyed::pay_with_keys;
 use crate::listed::{Listed, line_at, lines_in, refused_line};
 use crate::most::{filled, refuse_most};
 use crate::plain::{files_told, is_given, show, tell, text_made};
 use crate::prices::{paid_for_parents, parents_line};
 use command_end::{Sources, Status};
 use command_pay::{
-    Ending, NewFile, NewFileShelf, PaidReport, change_warning, high_fee_text, is_change_listed,
-    table_text, unread_warning, unwritten_text,
+    Ending, NewFileShelf, PaidReport, change_warning, high_fee_text, is_change_listed, table_text,
+    unread_warning, unwritten_text,
 };
 use fault_lines::line_sentence;
 use fund_base::Memory;
@@ -19,8 +21,10 @@ use pay_words::{
     Asked, Flag, WordFault, flag_about, flag_word, letter_about, value_in, word_place,
     word_sentence,
 };
-use people_advice::{none_advice, there_text, warnings_text};
+use payment_files::NewFile;
+use people_advice::{there_text, warnings_text};
 use std::alloc::Global;
+use std::io::ErrorKind;
 use std::random::RandomSource;
 use std::{fs, io};
 use wallet_text::read_wallet;
@@ -172,9 +176,14 @@ fn show_table(rt: &HostRuntime, asked: &Asked, report: &PaidReport, psbt: &str) 
     Ok(Status::Done.code())
 }
 
-/// Shows a payment whose fee is taken.
-fn show_payment(rt: &HostRuntime, asked: &Asked, report: &PaidReport) -> io::Result<u8> {
-    let psbt = text_of(report.psbt());
+/// Shows a payment whose fee is taken, with this PSBT.
+pub fn show_payment(
+    rt: &HostRuntime,
+    asked: &Asked,
+    report: &PaidReport,
+    psbt: &[u8],
+) -> io::Result<u8> {
+    let psbt = text_of(psbt);
     if !asked.json {
         return show_table(rt, asked, report, psbt);
     }
@@ -225,11 +234,13 @@ pub fn refuse_fee(rt: &HostRuntime, asked: &Asked, fee: u64, most: u64) -> io::R
     }
 }
 
-/// The value of a flag; none where it isn't given, or the words aren't flags with their values.
+/// The value of a flag; none where it isn't given, or the words aren't flags with their values. A want of memory is told as that, so that
+/// no flag is passed over.
 fn value_of(rt: &HostRuntime, words: &[String], flag: Flag) -> io::Result<Option<String>> {
     match value_in(rt.alloc(), words, flag) {
         Ok(Some(name)) => Ok(Some(String::from_str(rt.alloc(), name)?)),
         Ok(None) => Ok(None),
+        Err(WordFault::Memory) => Err(io::Error::from(ErrorKind::OutOfMemory)),
         Err(_) => Ok(None),
     }
 }
@@ -237,8 +248,12 @@ fn value_of(rt: &HostRuntime, words: &[String], flag: Flag) -> io::Result<Option
 /// Which new files were there before anything was written.
 #[derive(Clone, Copy)]
 pub struct There {
+    /// The request.
+    request: bool,
     /// The log.
     log: bool,
+    /// The report.
+    report: bool,
     /// The PSBT.
     psbt: bool,
 }
@@ -254,7 +269,9 @@ fn is_there(rt: &HostRuntime, words: &[String], flag: Flag) -> io::Result<bool> 
 /// Which new files are there, by the words.
 pub fn there_in(rt: &HostRuntime, words: &[String]) -> io::Result<There> {
     Ok(There {
+        request: is_there(rt, words, Flag::Request)?,
         log: is_there(rt, words, Flag::Log)?,
+        report: is_there(rt, words, Flag::Report)?,
         psbt: is_there(rt, words, Flag::Psbt)?,
     })
 }
@@ -264,32 +281,56 @@ fn unwritten(
     rt: &HostRuntime,
     name: &str,
     was_there: bool,
-    log_written: bool,
+    earlier_written: bool,
 ) -> Result<String, Memory> {
     if was_there {
-        return there_text(rt.alloc(), name, log_written);
+        return there_text(rt.alloc(), name, earlier_written);
     }
-    unwritten_text(rt.alloc(), name, log_written)
+    unwritten_text(rt.alloc(), name, earlier_written)
 }
 
-/// Says that a new file wasn't written: the log, or the PSBT behind it.
-pub fn refuse_file(rt: &HostRuntime, asked: &Asked, file: NewFile, there: There) -> io::Result<u8> {
-    let (name, was_there, log_written) = match file {
-        NewFile::Log => (&asked.names.log, there.log, false),
-        NewFile::Psbt => (&asked.names.psbt, there.psbt, asked.names.log.is_some()),
-    };
-    let name = match name {
+/// The name that is asked for; nothing where none is.
+fn name_or_empty(name: &Option<String>) -> &str {
+    match name {
         Some(name) => name.as_str(),
         None => "",
-    };
-    match unwritten(rt, name, was_there, log_written) {
+    }
+}
+
+/// The name of a new file, and whether it was there before.
+fn lost_file(asked: &Asked, file: NewFile, there: There) -> (&str, bool) {
+    let names = &asked.names;
+    match file {
+        NewFile::Request => (name_or_empty(&names.request), there.request),
+        NewFile::Log => (name_or_empty(&names.log), there.log),
+        NewFile::Report => (name_or_empty(&names.report), there.report),
+        NewFile::Psbt => (name_or_empty(&names.psbt), there.psbt),
+    }
+}
+
+/// Whether a new file is asked for that is written before this one.
+fn has_earlier(asked: &Asked, file: NewFile) -> bool {
+    let request = asked.names.request.is_some();
+    let log = request || asked.names.log.is_some();
+    match file {
+        NewFile::Request => false,
+        NewFile::Log => request,
+        NewFile::Report => log,
+        NewFile::Psbt => log || asked.names.report.is_some(),
+    }
+}
+
+/// Says that a new file wasn't written, and whether others were before it.
+pub fn refuse_file(rt: &HostRuntime, asked: &Asked, file: NewFile, there: There) -> io::Result<u8> {
+    let (name, was_there) = lost_file(asked, file, there);
+    match unwritten(rt, name, was_there, has_earlier(asked, file)) {
         Ok(sentence) => refuse(rt, asked, Status::WriteFault, "", Some(sentence.as_str())),
         Err(_) => show(rt, asked.json, Status::Memory, b"fault memory\n"),
     }
 }
 
 /// What was said, as text.
-fn text_of(said: &[u8]) -> &str {
+pub fn text_of(said: &[u8]) -> &str {
     match str::from_utf8(said) {
         Ok(text) => text,
         Err(_) => "",
@@ -298,11 +339,24 @@ fn text_of(said: &[u8]) -> &str {
 
 /// Says why a run came to no payment.
 pub fn refuse_run(rt: &HostRuntime, asked: &Asked, status: Status, said: &[u8]) -> io::Result<u8> {
-    let sentence = match status {
-        Status::NoSelection => Some(none_advice(asked)),
-        _ => line_sentence(said),
-    };
-    refuse(rt, asked, status, text_of(said), sentence)
+    match status {
+        Status::NoSelection => refuse_none(rt, asked, text_of(said)),
+        _ => refuse(rt, asked, status, text_of(said), line_sentence(said)),
+    }
+}
+
+/// The line of a file for which a run is refused, by what it said; none where it is refused for another cause than the request, or for a
+/// recipient of the words.
+fn line_refused(
+    rt: &HostRuntime,
+    asked: &Asked,
+    listed: &Listed,
+    said: &[u8],
+) -> io::Result<Option<String>> {
+    if said.starts_with(b"fault input request ") {
+        return refused_line(rt, listed, asked);
+    }
+    Ok(None)
 }
 
 /// Says why a run with the payments of a file's lines came to no payment: the line for which it is refused stands behind what it said.
@@ -313,7 +367,7 @@ fn refuse_listed_run(
     status: Status,
     said: &[u8],
 ) -> io::Result<u8> {
-    match refused_line(rt, listed, asked)? {
+    match line_refused(rt, asked, listed, said)? {
         None => refuse_run(rt, asked, status, said),
         Some(line) => {
             let mut lines = String::from_str(rt.alloc(), text_of(said))?;
@@ -324,7 +378,7 @@ fn refuse_listed_run(
 }
 
 /// Shows how a payment ended.
-fn show_ending(
+pub fn show_ending(
     rt: &HostRuntime,
     asked: &Asked,
     listed: Option<&Listed>,
@@ -337,7 +391,7 @@ fn show_ending(
         }
     }
     match ending {
-        Ending::Paid(report, _) => show_payment(rt, asked, report),
+        Ending::Paid(report, _) => show_payment(rt, asked, report, report.psbt()),
         Ending::FeeAboveMaximum(fee, most) => refuse_fee(rt, asked, *fee, *most),
         Ending::NotPaid(status, said) => refuse_run(rt, asked, *status, said),
         Ending::Unwritten(file) => refuse_file(rt, asked, *file, there),
@@ -357,8 +411,8 @@ fn pay_over<H: Shelf + Drop, N: Shelf>(
     ended
 }
 
-/// Does what the words ask for, behind which may stand those of a file's lines, with this seed where they give none.
-fn pay_filled(
+/// Does what the words ask for, of which none names a keys file.
+fn pay_without_keys(
     rt: &HostRuntime,
     words: &[String],
     listed: Option<&Listed>,
@@ -370,6 +424,19 @@ fn pay_filled(
     match pay_over(rt.alloc(), words, drawn, files, &mut new_files) {
         Ok((asked, ending)) => show_ending(rt, &asked, listed, there, &ending),
         Err(fault) => refuse_fault(rt, words, listed, &fault),
+    }
+}
+
+/// Does what the words ask for, behind which may stand those of a file's lines, with this seed where they give none.
+fn pay_filled(
+    rt: &HostRuntime,
+    words: &[String],
+    listed: Option<&Listed>,
+    drawn: [u8; 32],
+) -> io::Result<u8> {
+    match value_of(rt, words, Flag::Keys)? {
+        None => pay_without_keys(rt, words, listed, drawn),
+        Some(name) => pay_with_keys(rt, words, listed, drawn, name.as_str()),
     }
 }
 

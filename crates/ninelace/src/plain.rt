@@ -4,6 +4,7 @@ use crate::json::{print, said_value};
 use crate::prices::list_priced;
 use command_complete::complete as complete_psbt;
 use command_end::{Sources, Status};
+use command_keys::complete_keyed;
 use command_pay::ProgressShelf;
 use fault_lines::line_sentence;
 use fund_base::Memory;
@@ -113,26 +114,31 @@ fn done_by_words<H: Shelf, O: Sink, K: Keeper>(
     run(alloc, words, shelf, out, keeper)
 }
 
-/// Lists the coins of a wallet, or checks the report of a payment, by so many words of that command.
-pub fn by_words(rt: &HostRuntime, words: &[String], count: usize, usage: &str) -> io::Result<u8> {
+/// Does the command of these words. `given` are they with the flags that each command takes.
+pub fn by_words(rt: &HostRuntime, given: &[String], words: &Vec<String>) -> io::Result<u8> {
     let alloc = rt.alloc();
-    let names = names_in(rt, words)?;
-    if names.len() != count {
-        return refuse(rt, words, usage);
-    }
-    let mut shelf = files_told(rt, words);
+    let mut shelf = files_told(rt, given);
     let mut out = SureSink::new(alloc);
     let mut keeper = SureKeeper::new(alloc);
-    let status = done_by_words(alloc, &names, &mut shelf, &mut out, &mut keeper);
-    show(rt, is_given(words, "--json"), status, out.written())
+    let status = done_by_words(alloc, words, &mut shelf, &mut out, &mut keeper);
+    show(rt, is_given(given, "--json"), status, out.written())
 }
 
 /// Lists the coins of a wallet with their prices at the rate that a word is.
 fn coins_at(rt: &HostRuntime, words: &[String], sources: &Sources, rate: &str) -> io::Result<u8> {
-    let rate = match read_rate(rate.as_bytes()) {
-        Ok(rate) => rate,
-        Err(fault) => return refuse(rt, words, word_sentence(&WordFault::Rate(0, fault))),
-    };
+    match read_rate(rate.as_bytes()) {
+        Ok(rate) => coins_listed(rt, words, sources, rate),
+        Err(fault) => refuse(rt, words, word_sentence(&WordFault::Rate(0, fault))),
+    }
+}
+
+/// Lists the coins of a wallet with their prices at this rate, and what they come to. At rate 0 none has a price.
+fn coins_listed(
+    rt: &HostRuntime,
+    words: &[String],
+    sources: &Sources,
+    rate: u64,
+) -> io::Result<u8> {
     let mut shelf = files_told(rt, words);
     let mut out = SureSink::new(rt.alloc());
     let status = list_priced(rt.alloc(), sources, rate, &mut shelf, &mut out);
@@ -150,10 +156,16 @@ pub fn coins(rt: &HostRuntime, words: &[String]) -> io::Result<u8> {
             };
             coins_at(rt, words, &sources, rate.as_str())
         }
-        _ => by_words(
+        [_, wallet, blocks] => {
+            let sources = Sources {
+                wallet: wallet.as_str(),
+                blocks: blocks.as_str(),
+            };
+            coins_listed(rt, words, &sources, 0)
+        }
+        _ => refuse(
             rt,
             words,
-            3,
             "coins takes two names, and a rate if you like: WALLET BLOCKS --fee-rate RATE.",
         ),
     }
@@ -170,9 +182,38 @@ fn made_whole<H: Shelf, O: Sink>(
     complete_psbt(alloc, sources, psbt, shelf, out)
 }
 
+/// Makes the PSBT of a file of these files whole, with the keys of the file `keys`.
+fn made_whole_with_keys<H: Shelf, O: Sink>(
+    alloc: Global,
+    sources: &Sources,
+    psbt: &str,
+    keys: &str,
+    shelf: &mut H,
+    out: &mut O,
+) -> Status {
+    complete_keyed(alloc, sources, psbt, keys, shelf, out)
+}
+
+/// Makes a PSBT whole, with the keys of a file where one is named.
+fn complete_named(
+    rt: &HostRuntime,
+    words: &[String],
+    psbt: &str,
+    sources: &Sources,
+    keys: Option<&str>,
+) -> io::Result<u8> {
+    let alloc = rt.alloc();
+    let mut shelf = files_told(rt, words);
+    let mut out = SureSink::new(alloc);
+    let status = match keys {
+        Some(keys) => made_whole_with_keys(alloc, sources, psbt, keys, &mut shelf, &mut out),
+        None => made_whole(alloc, sources, psbt, &mut shelf, &mut out),
+    };
+    show(rt, is_given(words, "--json"), status, out.written())
+}
+
 /// Makes a PSBT whole.
 pub fn complete(rt: &HostRuntime, words: &[String]) -> io::Result<u8> {
-    let alloc = rt.alloc();
     let names = names_in(rt, words)?;
     match names.as_slice() {
         [psbt, wallet, blocks] => {
@@ -180,12 +221,20 @@ pub fn complete(rt: &HostRuntime, words: &[String]) -> io::Result<u8> {
                 wallet: wallet.as_str(),
                 blocks: blocks.as_str(),
             };
-            let mut shelf = files_told(rt, words);
-            let mut out = SureSink::new(alloc);
-            let status = made_whole(alloc, &sources, psbt.as_str(), &mut shelf, &mut out);
-            show(rt, is_given(words, "--json"), status, out.written())
+            complete_named(rt, words, psbt.as_str(), &sources, None)
         }
-        _ => refuse(rt, words, "complete takes three names: PSBT WALLET BLOCKS."),
+        [psbt, wallet, blocks, keys] => {
+            let sources = Sources {
+                wallet: wallet.as_str(),
+                blocks: blocks.as_str(),
+            };
+            complete_named(rt, words, psbt.as_str(), &sources, Some(keys.as_str()))
+        }
+        _ => refuse(
+            rt,
+            words,
+            "complete takes three names, or four with a keys file: PSBT WALLET BLOCKS KEYS.",
+        ),
     }
 }
 

@@ -1,15 +1,20 @@
-//! What coins cost at a fee rate beside their inputs: what raises the unconfirmed payments from which they come.
+//! What coins come to, class by class, and what they cost at a fee rate beside their inputs: what raises the unconfirmed payments from
+//! which they come.
 
-ghost use Rattle.std.specs.Prelude.{◌≤◌};
+ghost use Rattle.std.specs.Prelude.{◌≡◌, ◌≤◌};
 ghost use Rattle.fund_files.specs.Chain.{IsChain};
+ghost use Rattle.payment_states.specs.Payments.{payments_of};
 
 use coin_candidates::Candidate;
+use coin_totals::{coin_classes, totals_text};
 use command_coins::listing;
 use command_end::{Sources, Status, coin_text, put_report, refuse_chain};
-use fund_base::Memory;
+use fund_base::{Memory, OutPoint};
 use fund_files::{Chain, Stop, WALLET_LIMIT, read_chain};
 use fund_report::InLine;
 use fund_shelf::{Shelf, Sink, read_whole};
+use payment_facts::known_facts;
+use payment_states::{States, known_states};
 use request_making::{btc_text, sat_text};
 use std::alloc::Global;
 use wallet_text::read_wallet;
@@ -36,7 +41,17 @@ fn put_prices(alloc: Global, text: &mut String, coins: &[Candidate]) -> Result<(
     Ok(())
 }
 
-/// The listing of the coins, and behind it their prices at a rate. The error is out of memory.
+/// The lines of what the coins come to. The error is out of memory.
+fn totals_lines(alloc: Global, held: &Chain, states: &States) -> Result<String, Memory>
+    requires held { IsChain held.now }
+    requires states { states.now ≡ payments_of held.now.wallet held.now.book }
+{
+    let book = held.book.known();
+    let classes = coin_classes(alloc, &book, &held.wallet, states, held.tip.height)?;
+    totals_text(alloc, &classes)
+}
+
+/// The listing of the coins, behind it their prices at a rate, and last what they come to. The error is out of memory.
 fn priced_listing(alloc: Global, held: &Chain, rate: u64) -> Result<String, Memory>
     requires held { IsChain held.now }
     requires rate { rate ≤ 100000000 }
@@ -45,6 +60,7 @@ fn priced_listing(alloc: Global, held: &Chain, rate: u64) -> Result<String, Memo
     let (height, hash) = (held.tip.height, &held.tip.hash);
     let mut text = listing(alloc, height, hash, states.payments(), &coins)?;
     put_prices(alloc, &mut text, &coins)?;
+    text.push_str(totals_lines(alloc, held, &states)?.as_str())?;
     Ok(text)
 }
 
@@ -62,8 +78,8 @@ fn listed<H: Shelf>(
     }
 }
 
-/// Lists the coins of these files as the command `coins` does, and behind them a line for the price of each that has one at a
-/// rate of at most 100,000,000.
+/// Lists the coins of these files as the command `coins` does, behind them a line for the price of each that has one at a rate of at most
+/// 100,000,000, and last a line for what the coins of each class come to.
 pub fn list_priced<H: Shelf, O: Sink>(
     alloc: Global,
     sources: &Sources,
@@ -88,32 +104,36 @@ fn has_waiting<H: Shelf>(alloc: Global, name: &str, shelf: &mut H) -> Option<boo
     }
 }
 
-/// The price of a coin that is among these; 0 where it isn't.
-fn price_among(coins: &[Candidate], line: &InLine) -> u64 {
-    for coin in coins {
-        if coin.coin == line.coin {
-            return coin.price;
-        }
+/// The outpoints of the coins that a payment spends. The error is out of memory.
+fn points_of(alloc: Global, lines: &[InLine]) -> Result<Vec<OutPoint>, Memory> {
+    let mut points = Vec::with_capacity(alloc, lines.len())?;
+    for line in lines {
+        points.push(line.coin)?;
     }
-    0
+    Ok(points)
 }
 
-/// The prices of the coins that a payment spends, together.
-fn sum_of(coins: &[Candidate], lines: &[InLine]) -> u64 {
+/// The prices of these coins, together.
+fn sum_of(coins: &[Candidate]) -> u64 {
     let mut sum: u64 = 0;
-    for line in lines {
-        sum = sum.saturating_add(price_among(coins, line));
+    for coin in coins {
+        sum = sum.saturating_add(coin.price);
     }
     sum
 }
 
-/// The coins that may be spent at a rate. The error is out of memory.
-fn coins_at(alloc: Global, held: &Chain, rate: u64) -> Result<Vec<Candidate>, Memory>
+/// The prices at a rate of the coins that a payment spends, together. Each is looked up whether or not it may still be spent, as those
+/// of a payment that is replaced may not. The error is out of memory.
+fn prices_at(alloc: Global, held: &Chain, rate: u64, lines: &[InLine]) -> Result<u64, Memory>
     requires held { IsChain held.now }
     requires rate { rate ≤ 100000000 }
 {
-    let (_, coins) = held.states_and_coins(alloc, rate)?;
-    Ok(coins)
+    let points = points_of(alloc, lines)?;
+    let (wallet, tip) = (&held.wallet, held.tip.height);
+    let book = held.book.known();
+    let states = known_states(alloc, &book, wallet)?;
+    let coins = known_facts(alloc, &book, wallet, &states, tip, &points, rate)?;
+    Ok(sum_of(&coins))
 }
 
 /// What a payment at a rate has paid for the ancestors of its coins, by these files; none where they can't be read any more, or
@@ -133,8 +153,8 @@ pub fn paid_for_parents<H: Shelf>(
     let Ok(held) = read_chain(alloc, sources.wallet, sources.blocks, shelf) else {
         return None;
     };
-    match coins_at(alloc, &held, capped(rate)) {
-        Ok(coins) => Some(sum_of(&coins, lines)),
+    match prices_at(alloc, &held, capped(rate), lines) {
+        Ok(paid) => Some(paid),
         Err(Memory) => None,
     }
 }

@@ -23,7 +23,7 @@ fn names_file(word: &str) -> bool {
 }
 
 /// Whether a word is a flag.
-fn is_flag(word: &str) -> bool {
+pub fn is_flag(word: &str) -> bool {
     match word.as_bytes() {
         [first, second, ..] => *first == b'-' && *second == b'-',
         _ => false,
@@ -31,7 +31,7 @@ fn is_flag(word: &str) -> bool {
 }
 
 /// The word behind a flag; none where the flag isn't given, or no name stands behind it.
-fn name_behind<'a>(words: &'a [String], flag: &str) -> Option<&'a str> {
+pub fn name_behind<'a>(words: &'a [String], flag: &str) -> Option<&'a str> {
     for i in 0..words.len() {
         if words[i].as_str() == flag {
             return match words.get(i.wrapping_add(1)) {

@@ -2,16 +2,17 @@
 
 use crate::json::{SweptSeen, print, sweep_value};
 use crate::pay::{
-    There, parents_of, refuse_fee, refuse_file, refuse_run, refuse_words, show_parents, show_psbt,
-    show_request, there_in,
+    There, parents_of, refuse, refuse_fee, refuse_file, refuse_run, refuse_words, show_parents,
+    show_psbt, show_request, text_of, there_in,
 };
 use crate::plain::{files_told, show, text_made};
 use amount_reports::SweptReport;
 use command_end::Status;
-use command_pay::{NewFile, NewFileShelf};
+use command_pay::NewFileShelf;
 use command_sweeping::{Ending, sweep_asked, sweep_table};
 use pay_words::Asked;
-use people_advice::payee_warning;
+use payment_files::NewFile;
+use people_advice::{none_swept, payee_warning};
 use std::io;
 use sweep_words::read_sweep;
 
@@ -64,6 +65,13 @@ fn show_ending(rt: &HostRuntime, asked: &Asked, there: There, ending: &Ending) -
     match ending {
         Ending::Swept(report) => show_payment(rt, asked, report),
         Ending::FeeAboveMaximum(fee, most) => refuse_fee(rt, asked, *fee, *most),
+        Ending::NotSwept(Status::NoSelection, said) => refuse(
+            rt,
+            asked,
+            Status::NoSelection,
+            text_of(said),
+            Some(none_swept()),
+        ),
         Ending::NotSwept(status, said) => refuse_run(rt, asked, *status, said),
         Ending::Unwritten => refuse_file(rt, asked, NewFile::Psbt, there),
         Ending::Memory => show(rt, asked.json, Status::Memory, b"fault memory\n"),

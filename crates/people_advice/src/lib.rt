@@ -11,7 +11,7 @@ mod words;
 
 pub use files::there_text;
 pub use laws::statuses_are_numbered;
-pub use nothing::none_advice;
+pub use nothing::{none_advice, none_swept};
 pub use scripts::{payee_warning, warnings_text};
 pub use statuses::{status_numbered, status_sentence};
 pub use words::{is_other_command, is_psbt_text, other_command_sentence, psbt_text_sentence};

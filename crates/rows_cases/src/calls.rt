@@ -2,6 +2,7 @@
 
 use command_complete::complete;
 use command_end::Sources;
+use command_keys::complete_keyed;
 use command_pay::{Ending, pay};
 use command_sweeping::{Ending as SweepEnding, sweep_asked};
 use fund_outside::{Keeper, SureKeeper};
@@ -39,6 +40,18 @@ pub(crate) fn made_whole<H: Shelf, O: Sink>(
     out: &mut O,
 ) -> u8 {
     complete(alloc, sources, psbt, shelf, out).code()
+}
+
+/// Makes the PSBT of a file whole, with the keys of another; the status as a number.
+pub(crate) fn made_whole_with_keys<H: Shelf, O: Sink>(
+    alloc: Global,
+    sources: &Sources,
+    psbt: &str,
+    keys: &str,
+    shelf: &mut H,
+    out: &mut O,
+) -> u8 {
+    complete_keyed(alloc, sources, psbt, keys, shelf, out).code()
 }
 
 /// Pays what the words ask for over these files, with new files at another shelf; and the files.

@@ -1,6 +1,8 @@
 //! The files and jobs of a case, and what is done with them.
 
-use crate::calls::{ended, ended_surely, filled, keep, made_whole, make, paid, swept};
+use crate::calls::{
+    ended, ended_surely, filled, keep, made_whole, made_whole_with_keys, make, paid, swept,
+};
 use crate::columns::with_pieces;
 use crate::people::{show_filled, show_paid, show_swept};
 use crate::settled::settled;
@@ -190,7 +192,7 @@ impl Case {
         Ok(())
     }
 
-    /// Makes the PSBT of a file whole, and prints how it ended.
+    /// Makes the PSBT of a file whole, with the keys of another where one is named, and prints how it ended.
     pub(crate) fn whole(&mut self, rt: &HostRuntime, columns: &[&str]) -> Result<(), Memory> {
         let alloc = rt.alloc();
         let sources = Sources {
@@ -199,7 +201,12 @@ impl Case {
         };
         let mut sink = self.sink(alloc)?;
         let psbt = column(columns, 1);
-        let code = made_whole(alloc, &sources, psbt, &mut self.shelf, &mut sink);
+        let keys = column(columns, 4);
+        let code = if columns.len() > 4 {
+            made_whole_with_keys(alloc, &sources, psbt, keys, &mut self.shelf, &mut sink)
+        } else {
+            made_whole(alloc, &sources, psbt, &mut self.shelf, &mut sink)
+        };
         show_status(rt, column(columns, 0), code)?;
         show(rt, sink.written());
         Ok(())

@@ -10,7 +10,8 @@
 //!   that never fails; a file that is missing is an empty one there.
 //! - `turn NAME NAMES LABEL WORD ..` does as `do`, and at its first reading the file NAME is what the first file of NAMES is, at its
 //!   second what the second is, and so on; it stays the last. NAMES have blanks between them, and no call fails.
-//! - `whole LABEL PSBT WALLET BLOCKS` makes the PSBT of a file whole, and prints as `do`.
+//! - `whole LABEL PSBT WALLET BLOCKS KEYS` makes the PSBT of a file whole, with the keys of another where one is named, and prints as
+//!   `do`.
 //! - `settled LABEL WALLET REQUEST REPORT TX` looks whether a signed transaction settles a payment. It prints the label, the status, and
 //!   the table of the payment or what is said in its place.
 //! - `log NAME` prints a file.
@@ -22,7 +23,7 @@
 //!   greatest fee that is taken with these words, and whether this fee is; `table REPORT WORD ..` the payment of a report, which is
 //!   a text, beside what they ask for.
 //! - `explain LINE` prints the sentence of a fault line; `high FEE MOST` what is said of a fee that is too great; `unwritten NAME`,
-//!   `unwritten NAME log` what is said of a new file that was not written, in the second where the log was.
+//!   `unwritten NAME earlier` what is said of a new file that was not written, in the second where others were before it.
 //! - `wallet NUMBER COUNT` prints the wallet and the request of a workload: some of its coins, its first transaction, and the
 //!   SHA-256 of all its transactions one after another. `summary NUMBER COUNT REPORT` prints the summary of a run that came to a
 //!   report, which is a text.

@@ -3,8 +3,7 @@
 use crate::shown::{show, show_column, show_count, show_line, show_number};
 use amount_reports::read_shared;
 use command_pay::{
-    Ending, NewFile, PaidReport, fee_ceiling, high_fee_text, is_fee_taken, table_text,
-    unwritten_text,
+    Ending, PaidReport, fee_ceiling, high_fee_text, is_fee_taken, table_text, unwritten_text,
 };
 use command_sweeping::{Ending as SweepEnding, sweep_table};
 use fault_lines::line_sentence;
@@ -14,6 +13,7 @@ use max_words::{MaxFault, max_place, max_sentence};
 use pay_words::{
     Asked, Way, WordFault, flag_about, flag_word, read_pay, word_place, word_sentence,
 };
+use payment_files::NewFile;
 use row_columns::{column, number_in, unescaped, words_behind};
 use std::alloc::Global;
 use wide_report::read_wide_report;
@@ -72,7 +72,9 @@ fn show_ending(rt: &HostRuntime, asked: &Asked, ending: Ending) -> Result<(), Me
         Ending::Paid(report, log) => return show_payment(rt, asked, report, &log),
         Ending::NotPaid(status, said) => show_unpaid(rt, status.code(), &said),
         Ending::FeeAboveMaximum(fee, most) => show_high(rt, fee, most),
+        Ending::Unwritten(NewFile::Request) => show(rt, b"request not written\n"),
         Ending::Unwritten(NewFile::Log) => show(rt, b"log not written\n"),
+        Ending::Unwritten(NewFile::Report) => show(rt, b"report not written\n"),
         Ending::Unwritten(NewFile::Psbt) => show(rt, b"psbt not written\n"),
         Ending::Memory => return Err(Memory),
     }
@@ -270,8 +272,8 @@ pub(crate) fn high(rt: &HostRuntime, columns: &[&str]) -> Result<(), Memory> {
 
 /// Prints what is said of a new file that was not written.
 pub(crate) fn unwritten(rt: &HostRuntime, columns: &[&str]) -> Result<(), Memory> {
-    let log_written = column(columns, 1) == "log";
-    let text = unwritten_text(rt.alloc(), column(columns, 0), log_written)?;
+    let earlier_written = column(columns, 1) == "earlier";
+    let text = unwritten_text(rt.alloc(), column(columns, 0), earlier_written)?;
     show_line(rt, text.as_str());
     Ok(())
 }

@@ -4,7 +4,7 @@
 //! - `slip SCRIPT AMOUNT`: the line that warns of paying an amount to a script, or `none`
 //! - `status WORD`: the sentence of the status of this number, or `none`
 //! - `word WORD`: `other` for a command of the other program, `psbt` for the text of a PSBT, or `none`
-//! - `there NAME`, `there NAME log`: what is said of a new file that was there, in the second where the log was written
+//! - `there NAME`, `there NAME earlier`: what is said of a new file that was there, in the second where others were written before it
 
 use pay_words::{LineFault, line_words, pay_file_sentence};
 use people_advice::{
@@ -74,6 +74,9 @@ pub(crate) fn row(out: &mut Answer, verb: &str, columns: &[&str]) {
         "slip" => slip(out, text, column(columns, 1)),
         "status" => status(out, text),
         "word" => word(out, text),
-        _ => out.words("", there_text(out.alloc, text, column(columns, 1) == "log")),
+        _ => out.words(
+            "",
+            there_text(out.alloc, text, column(columns, 1) == "earlier"),
+        ),
     }
 }

@@ -1,9 +1,14 @@
-//! Keys files: `keys read TEXT SCRIPT` is what the file tells of the script, a line for each part, and its extended public keys; or
-//! its first fault. A key has the fingerprint of its master key behind it, and the indices of its path.
+//! Keys files. The fault of a file is its first.
+//!
+//! - `read TEXT SCRIPT`: what the file tells of the script, a line for each part, and its extended public keys. A key has the
+//!   fingerprint of its master key behind it, and the indices of its path
+//! - `add TEXT PSBT`: the PSBT with what the file tells of it, or why it can't be added; and what adding it once more makes of the
+//!   result, where that isn't the same
 
-use crate::fields;
+use crate::{fields, psbts};
 use fund_base::Script;
 use keys_text::{KeyPath, Keys, KeysFault, ScriptKeys, read_keys};
+use psbt_keys::{KeyFault, add_keys};
 use row_columns::{Answer, bytes_in, column};
 
 /// Puts a key with its fingerprint and its path.
@@ -73,10 +78,59 @@ fn put_fault(out: &mut Answer, fault: &KeysFault) {
     }
 }
 
-pub(crate) fn row(out: &mut Answer, columns: &[&str]) {
-    let script = bytes_in(out.alloc, column(columns, 1));
-    match read_keys(out.alloc, column(columns, 0).as_bytes()) {
-        Ok(keys) => put_file(out, &keys, &script),
+fn read(out: &mut Answer, text: &[u8], script: &[u8]) {
+    match read_keys(out.alloc, text) {
+        Ok(keys) => put_file(out, &keys, script),
         Err(fault) => put_fault(out, &fault),
+    }
+}
+
+/// Puts a map of a PSBT, its index, and the type of the pair in the way.
+fn put_pair(out: &mut Answer, map: &str, index: u32, kind: u8) {
+    put_place(out, map, index);
+    out.number(" ", u64::from(kind));
+}
+
+fn put_conflict(out: &mut Answer, fault: KeyFault) {
+    match fault {
+        KeyFault::Psbt(fault) => psbts::put_fault(out, &fault),
+        KeyFault::Global(number) => put_place(out, "fault Global ", number),
+        KeyFault::Input(index, kind) => put_pair(out, "fault Input ", index, kind),
+        KeyFault::Output(index, kind) => put_pair(out, "fault Output ", index, kind),
+    }
+}
+
+/// Puts what adding the keys once more makes of a PSBT that has them.
+fn put_again(out: &mut Answer, keys: &Keys, keyed: &[u8]) {
+    match add_keys(out.alloc, keyed, keys) {
+        Ok(again) => out.again(keyed, &again),
+        Err(fault) => put_conflict(out, fault),
+    }
+}
+
+fn put_keyed(out: &mut Answer, keys: &Keys, bytes: &[u8]) {
+    match add_keys(out.alloc, bytes, keys) {
+        Ok(keyed) => {
+            out.digits("keyed ", &keyed);
+            put_again(out, keys, &keyed);
+        }
+        Err(fault) => put_conflict(out, fault),
+    }
+}
+
+fn add(out: &mut Answer, text: &[u8], bytes: &[u8]) {
+    match read_keys(out.alloc, text) {
+        Ok(keys) => put_keyed(out, &keys, bytes),
+        Err(fault) => put_fault(out, &fault),
+    }
+}
+
+pub(crate) fn row(out: &mut Answer, verb: &str, columns: &[&str]) {
+    let text = column(columns, 0).as_bytes();
+    let bytes = bytes_in(out.alloc, column(columns, 1));
+    match verb {
+        "read" => read(out, text, &bytes),
+        "add" => add(out, text, &bytes),
+        _ => out.word("no such verb"),
     }
 }

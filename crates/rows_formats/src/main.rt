@@ -38,7 +38,7 @@ fn row(out: &mut Answer, family: &str, verb: &str, columns: &[&str]) {
         "base58" => base58::row(out, verb, columns),
         "json" => fields::row(out, verb, columns),
         "file" => files::row(out, verb, columns),
-        "keys" => keys::row(out, columns),
+        "keys" => keys::row(out, verb, columns),
         "words" => words::row(out, verb, columns),
         "advice" => advice::row(out, verb, columns),
         "plain" => copies::row(out),

@@ -18,7 +18,7 @@ use row_columns::{Answer, bytes_in, column, short_in};
 use std::alloc::Global;
 use tx_codec::{txid, write_tx};
 
-fn put_fault(out: &mut Answer, fault: &PsbtFault) {
+pub(crate) fn put_fault(out: &mut Answer, fault: &PsbtFault) {
     crate::shown::put_fault(out, "fault ", &psbt_fault_parts(*fault));
 }
 

@@ -6,4 +6,4 @@ pub returns : goal.returns
 unfolding there_text
 returns c =
     c.in_ok-format.ensures.ok
-    ∙ ap (λ (said : List ℕ). codes "The file " ++ (c.args.name.now ++ (codes " is there already, and stays as it was: name a new file." ++ said))) c.log_words.ensures
+    ∙ ap (λ (said : List ℕ). codes "The file " ++ (c.args.name.now ++ (codes " is there already, and stays as it was: name a new file." ++ said))) c.earlier_words.ensures
