@@ -1,0 +1,10 @@
+pub mod AgainLaws
+pub mod CallLaws
+pub mod CauseWords
+pub mod CommandWords
+pub mod DoneLaws
+pub mod Files
+pub mod OnceLaws
+pub mod ResumedLaws
+pub mod SameLaws
+pub mod ToldLaws

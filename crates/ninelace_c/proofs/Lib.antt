@@ -1,0 +1,3 @@
+pub mod HandingLaws
+pub mod SecondLaws
+pub mod Telling
