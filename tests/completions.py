@@ -21,7 +21,7 @@ import sys
 from lib.bitcoin import compact, output_bytes, read_compact, read_tx, record, shown_point, string
 from lib.programs import tell
 from lib.stored_rows import answers_of, column
-from pages import psbt_faults
+from pages import keyed, psbt_faults
 
 NAMES = ("wallet.json", "blocks.dat", "psbt")
 CASES = ["120-coins-in-blocks", "ancestors-25", "both-coins-exact", "coinbase-101-deep", "descendants-3",
@@ -48,15 +48,24 @@ def read_map(data, at):
 
 
 def maps_of(data):
-    """The transaction, and the maps of the PSBT: the global one, one for each input, one for each output."""
+    """The txid with the points that are spent and the outputs, and the maps of the PSBT: the global one, one for each input, one for
+    each output. In version 2 (BIP 370) the maps have the points and the outputs, and there is no txid here."""
     assert data[:5] == b"psbt\xff"
     first, at = read_map(data, 5)
-    tx = read_tx(dict(first)[b"\x00"])
+    known = dict(first)
+    second = known.get(b"\xfb") == b"\x02\x00\x00\x00"
+    tx = None if second else read_tx(known[b"\x00"])
+    count = read_compact(known[b"\x04"], 0)[0] + read_compact(known[b"\x05"], 0)[0] if second else len(tx[1]) + len(tx[2])
     maps = [first]
-    for _ in tx[1] + tx[2]:
+    for _ in range(count):
         one, at = read_map(data, at)
         maps.append(one)
     assert at == len(data)
+    if second:
+        inputs = read_compact(known[b"\x04"], 0)[0]
+        of_inputs, of_outputs = [dict(one) for one in maps[1:1 + inputs]], [dict(one) for one in maps[1 + inputs:]]
+        points = [(one[b"\x0e"], int.from_bytes(one[b"\x0f"], "little")) for one in of_inputs]
+        tx = (None, points, [(int.from_bytes(one[b"\x03"], "little"), one[b"\x04"]) for one in of_outputs])
     return tx, maps
 
 
@@ -103,10 +112,11 @@ def text_of(maps):
     return base64.b64encode(spelled(maps)).decode()
 
 
-def made_whole(wallet, blocks, text):
-    """The status and what is printed, of a PSBT that is spelled as it is written."""
+def made_whole(wallet, blocks, text, keys=None):
+    """The status and what is printed, of a PSBT that is spelled as it is written, with the keys of a keys file."""
     made = coins(json.loads(wallet), blocks)
     tx, maps = maps_of(base64.b64decode(text))
+    spent = []
     for number, point in enumerate(tx[1]):
         one = dict(maps[1 + number])
         whole = one.get(b"\x00", made.get(point))
@@ -115,8 +125,12 @@ def made_whole(wallet, blocks, text):
         told = output_bytes(*read_tx(whole)[2][point[1]])
         if one.get(b"\x01", told) != told:
             return 3, f"fault input psbt OtherOutput {number} {shown_point(point)}\n"
-        maps[1 + number] = [(b"\x00", whole)] + [(b"\x01", told)] * (b"\x01" in one)
-    return 0, text_of(maps) + "\n"
+        spent.append(read_tx(whole)[2][point[1]][1])
+        maps[1 + number] = [(b"\x00", whole)] + [pair for pair in maps[1 + number] if pair[0] != b"\x00"]
+    if keys is None:
+        return 0, text_of(maps) + "\n"
+    maps = keyed.added(spent, [script for _, script in tx[2]], maps, keyed.read(keys))
+    return (3, maps) if isinstance(maps, str) else (0, text_of(maps) + "\n")
 
 
 # ---- rows
@@ -214,7 +228,7 @@ def refusals(rows, wallet, blocks, text, whole):
     rows.add("line-feed-alone", wallet, blocks, b"\n", (3, "fault input psbt Magic\n"))
     rows.add("two-line-feeds", wallet, blocks, psbt + b"\n\n", (3, "fault input psbt NotBase64\n"))
     rows.add("carriage-return", wallet, blocks, psbt + b"\r\n", (3, "fault input psbt NotBase64\n"))
-    rows.add("raw-bytes", wallet, blocks, base64.b64decode(text), (3, "fault input psbt NotBase64\n"))
+    rows.add("raw-bytes", wallet, blocks, base64.b64decode(text), (0, whole + "\n"))
     rows.add("no-magic", wallet, blocks, base64.b64encode(b"psbt\xfe\x00"), (3, "fault input psbt Magic\n"))
     rows.add("no-unsigned", wallet, blocks, base64.b64encode(b"psbt\xff\x00"), (3, "fault input psbt NoUnsigned\n"))
     data = base64.b64decode(text)
@@ -289,9 +303,13 @@ def judged(step, status, printed):
         return "before the PSBT, or at its limit, or failing"
     if printed == "fault input psbt OtherPairs\n":
         return "other pairs"
+    if printed.startswith("fault input keys"):
+        return "a keys file that is refused"
     wallet, blocks, psbt = (step.files[name] for name in NAMES)
+    psbt = base64.b64encode(psbt) if psbt.startswith(b"psbt\xff") else psbt
+    keys = step.files.get(step.columns[4]) if len(step.columns) > 4 else None
     fault = fault_of(psbt)
-    due = (3, f"fault input psbt {fault}\n") if fault else made_whole(wallet, blocks, psbt.strip())
+    due = (3, f"fault input psbt {fault}\n") if fault else made_whole(wallet, blocks, psbt.strip(), keys)
     assert due == (status, printed), f"{due} is due, and not {(status, printed)}"
     return "whole" if status == 0 else "refused"
 
@@ -299,7 +317,7 @@ def judged(step, status, printed):
 def stored():
     """Judges the stored rows."""
     ends = collections.Counter()
-    for step, status, printed in answers_of("complete"):
+    for step, status, printed in [*answers_of("complete"), *answers_of("keyed")]:
         try:
             ends[judged(step, status, printed)] += 1
         except AssertionError as wrong:

@@ -2,6 +2,7 @@
 """Runs the built program over all commands while one call to the system fails, each in its turn, and looks at each end.
 
 usage: tests/faults.py [--program PATH] [--kinds KIND..] [--commands NAME..] [--every N]
+       tests/faults.py --people PATH [--every N]
 
 The calls are those of KINDS, by tests/failing.c: allocations, those on files, and those on the job file; `rename` counts unlink
 too. The commands are those of `commands`: listings, payments, the check of a report, a payment that is kept as a job, the going on
@@ -23,6 +24,10 @@ With --every N only each N-th call of a kind with more than a thousand fails: a 
 
 After each end every other file is as before, and so is every other job. What a later `resume` of the job prints, with its status
 and its LOG, is what it is before the run or after a whole one, and nothing else: after a stop either, otherwise as the end says.
+
+With --people the program is a built ninelace, and each allocation of a payment fails in its turn whose recipients stand in its words and in a
+file of payments. Nobody is passed over: it pays as without a failure, or its status is 7. Only its lines `parents` and `warning`
+may be missing or say that a file wasn't read again.
 
 Build the program first, by `rt run -- coins data/wallet.json data/blocks.dat` in crates/fund_cli, which leaves it in out/. It
 needs a C compiler."""
@@ -97,11 +102,11 @@ class Bench:
     def left(self):
         return {path.name: path.read_bytes() for path in self.folder.iterdir()}
 
-    def spawn(self, words, kind, at):
+    def spawn(self, words, kind, at, silent=True):
         self.count.write_bytes(b"0")
         env = {"LD_PRELOAD": str(self.library), "FAULT_KIND": kind, "FAULT_AT": str(at), "FAULT_COUNT": str(self.count)}
         done = subprocess.run([self.program, *words], cwd=self.folder, env=env, capture_output=True, timeout=120)
-        assert not done.stderr, done.stderr
+        assert not (silent and done.stderr), done.stderr
         return done.returncode, done.stdout
 
     def run(self, command, kind="none", at=-1):
@@ -135,6 +140,7 @@ def is_kept(command):
 
 
 STORED = files_of("files")
+STORED_PAYS = files_of("files", "pay")
 
 
 def stored(name):
@@ -268,16 +274,61 @@ def try_all(bench, name, command, kinds, every):
     return wrong
 
 
+# ---- a payment as people ask for it
+
+
+PEOPLE = "pay --wallet wallet.json --blocks blocks.dat --to-script 0014%s=0.01 --pay-file pay.csv --fee-rate 12 --seed %s --psbt new.psbt"
+LISTED = b"bc1qhwamhwamhwamhwamhwamhwamhwamhwame6jz2r,0.05\n"
+
+
+def told_lines(printed):
+    """What is paid, without the lines for which a file is read once more."""
+    return [line for line in printed.split(b"\n") if not line.startswith((b"parents", b"warning"))]
+
+
+def try_people(bench, every):
+    """Lets each allocation fail of a payment to the recipients of words and of a file; how many ends were wrong."""
+    pays = STORED_PAYS
+    files = {"wallet.json": pays["tenth.wallet.json"], "blocks.dat": pays["tenth.blocks.dat"], "pay.csv": LISTED}
+    words, wrong = (PEOPLE % ("bb" * 20, "33" * 32)).split(), 0
+
+    def run(kind, at):
+        bench.clear(files)
+        status, printed = bench.spawn(words, kind, at, silent=False)
+        new = {name: data for name, data in bench.left().items() if files.get(name) != data}
+        return status, printed, new
+
+    status, printed, new = run("none", -1)
+    assert status == 0 and b"5000000 sat" in printed and list(new) == ["new.psbt"], (status, printed)
+    run("alloc", -1)
+    made, ends = int(bench.count.read_bytes()), collections.Counter()
+    for at in range(1, made + 1, every if made > 1000 else 1):
+        end = run("alloc", at)
+        paid = end[0] == 0 and told_lines(end[1]) == told_lines(printed) and end[2] == new
+        short = end[0] == 7 and end[2] in ({}, new)
+        ends[f"with status {end[0]}"] += 1
+        if not paid and not short:
+            wrong += 1
+            print(f"wrong: pay, alloc {at}: {end}")
+    print(f"pay, alloc: {made} calls: " + ", ".join(f"{number} {how}" for how, number in sorted(ends.items())), flush=True)
+    return wrong
+
+
 def main():
     parser = argparse.ArgumentParser(description="Lets calls to the system fail one by one.")
     parser.add_argument("--program", type=pathlib.Path, default=FUND_CLI)
     parser.add_argument("--kinds", nargs="*", choices=KINDS, default=KINDS)
     parser.add_argument("--commands", nargs="*")
+    parser.add_argument("--people", type=pathlib.Path)
     parser.add_argument("--every", type=int, default=1)
     words = parser.parse_args()
-    program = words.program.resolve()
+    program = (words.people or words.program).resolve()
     with tempfile.TemporaryDirectory() as folder:
         bench = Bench(pathlib.Path(folder), program)
+        if words.people:
+            wrong = try_people(bench, words.every)
+            print(f"{wrong} wrong")
+            sys.exit(wrong > 0)
         tried = [(name, command) for name, command in commands(bench).items() if words.commands is None or name in words.commands]
         wrong = sum(try_all(bench, name, command, words.kinds, words.every) for name, command in tried)
     print(f"{wrong} wrong")

@@ -44,18 +44,23 @@ CHECKS = [
     Check("verdicts", PYTHON + "verdicts.py", (), "quick"),
     Check("settlings", PYTHON + "settlings.py", (), "quick"),
     Check("settled", PYTHON + "settled.py", (), "quick"),
+    Check("packed", PYTHON + "packed.py", (), "quick"),
     Check("completions", PYTHON + "completions.py", (), "quick"),
     Check("core_files", PYTHON + "core_files.py", (), "quick"),
-    Check("core_coins", PYTHON + "core_files.py FUND_CLI", ("fund_cli",), "all"),
+    Check("core_coins", PYTHON + "core_files.py FUND_CLI NINELACE", ("fund_cli", "ninelace"), "all"),
     Check("answers", PYTHON + "answers.py FUND_CLI 500 1", ("fund_cli",), "all"),
     Check("people", PYTHON + "people.py NINELACE", ("ninelace",), "all"),
     Check("mutate", PYTHON + "mutate.py --program FUND_CLI --seed 1 --runs 2000 --seconds 5", ("fund_cli",), "all"),
     Check("faults", PYTHON + "faults.py --program FUND_CLI --every 50", ("fund_cli", "cc"), "all"),
+    Check("faults_people", PYTHON + "faults.py --people NINELACE --every 20", ("ninelace", "cc"), "all"),
     Check("signers", "env NINELACE=NINELACE " + DEBIAN + " tests/signers.py FUND_CLI 50 1", ("fund_cli", "ninelace", "electrum", "bitcoinlib"), "all"),
     Check("devices", DEBIAN + " tests/devices.py FUND_CLI NINELACE 20 1", ("fund_cli", "ninelace", "electrum", "bitcoinlib"), "all"),
+    Check("electrum_keys", DEBIAN + " tests/electrum_keys.py", ("electrum",), "all"),
+    Check("library", PYTHON + "library.py --every 10 --fuzz 1000 --program FUND_CLI", ("fund_cli", "library"), "all"),
     Check("edits", "tests/edits.sh --gate", ("rt",), "name"),
 ]
 PACKAGES = {"electrum": ("electrum", "python3-electrum"), "bitcoinlib": ("bitcoin", "python3-bitcoinlib")}
+LIBRARY = TOP / "c" / "out" / "libninelace.so"
 BUILT = {"fund_cli": "rt run -- coins data/wallet.json data/blocks.dat", "ninelace": "rt run -- coins data/wallet.json data/blocks.dat"}
 
 
@@ -107,6 +112,8 @@ def lacks(need, programs):
     """Why a need isn't met; nothing where it is."""
     if need in BUILT:
         return programs[need][1]
+    if need == "library":
+        return "" if LIBRARY.is_file() else "no c/out/libninelace.so: rt lib in crates/ninelace_c, then c/build.sh"
     if need in PACKAGES:
         module, package = PACKAGES[need]
         there = pathlib.Path(DEBIAN).exists() and subprocess.run([DEBIAN, "-c", f"import {module}"], capture_output=True).returncode == 0
@@ -145,11 +152,11 @@ def main():
     for check in checks:
         why = next(filter(None, (lacks(need, programs) for need in check.needs)), "")
         results.append(Result(check.name, "left out", 0, why) if why else run_one(check, programs))
-        print(f"{results[-1].name:12} {results[-1].end}", flush=True)
+        print(f"{results[-1].name:13} {results[-1].end}", flush=True)
     results += [Result(check.name, "left out", 0, why) for check, why in left]
-    print(f"\n{'check':12} {'end':9} {'seconds':>7}  what it said last, or why it was left out")
+    print(f"\n{'check':13} {'end':9} {'seconds':>7}  what it said last, or why it was left out")
     for name, end, seconds, said in results:
-        print(f"{name:12} {end:9} {f'{seconds:.0f}' if end != 'left out' else '':>7}  {said}")
+        print(f"{name:13} {end:9} {f'{seconds:.0f}' if end != 'left out' else '':>7}  {said}")
     counts = [sum(result.end == end for result in results) for end in ("passed", "failed", "left out")]
     print("{} passed, {} failed, {} left out".format(*counts))
     return 1 if counts[1] else 0

@@ -34,13 +34,17 @@ def hash160(data):
     return bitcoin.hash_160(data)
 
 
+def signers_of(name):
+    """How many keys a script of this name has."""
+    return 3 if name.endswith("2-of-3") else 1
+
+
 class Kind:
     """A script, how it is spent, and the weight that is declared for an input that spends it."""
 
-    def __init__(self, name, random_source):
-        self.name = name
-        count = 3 if name.endswith("2-of-3") else 1
-        self.secrets = [random_source.getrandbits(255).to_bytes(32, "big") for _ in range(count)]
+    def __init__(self, name, secrets):
+        self.name, self.secrets = name, secrets
+        count = signers_of(name)
         keys = sorted(ecc.ECPrivkey(secret).get_public_key_bytes(compressed=True) for secret in self.secrets)
         self.keys = keys
         self.pairs = {ecc.ECPrivkey(s).get_public_key_hex(compressed=True): (s, True) for s in self.secrets}
@@ -58,9 +62,17 @@ class Kind:
             if name == "p2wsh-2-of-3":
                 self.witness = inner
                 self.script, self.weight, self.type = b"\x00\x20" + hashlib.sha256(inner).digest(), 418, "p2wsh"
+            elif name == "p2sh-p2wsh-2-of-3":
+                self.redeem, self.witness = b"\x00\x20" + hashlib.sha256(inner).digest(), inner
+                self.script, self.weight, self.type = b"\xa9\x14" + hash160(self.redeem) + b"\x87", 558, "p2wsh-p2sh"
             else:
                 self.redeem = inner
                 self.script, self.weight, self.type = b"\xa9\x14" + hash160(inner) + b"\x87", 1189, "p2sh"
+
+
+def by_chance(name, random_source):
+    """A script of this name, with keys by chance."""
+    return Kind(name, [random_source.getrandbits(255).to_bytes(32, "big") for _ in range(signers_of(name))])
 
 
 KINDS = ["p2wpkh", "p2pkh", "p2sh-p2wpkh", "p2wsh-2-of-3", "p2sh-2-of-3"]
@@ -71,9 +83,9 @@ MARKS = {"manual": {"given"}, "changeless": SEARCHED, "weight": SEARCHED, "draw"
 class Case:
     """A wallet and a request, made by chance."""
 
-    def __init__(self, random_source, methods):
+    def __init__(self, random_source, methods, kinds=None):
         r = random_source
-        self.kinds = [Kind(name, r) for name in r.sample(KINDS, r.randint(1, 4))]
+        self.kinds = kinds or [by_chance(name, r) for name in r.sample(KINDS, r.randint(1, 4))]
         self.coins = {}
         earlier = []
         for _ in range(r.randint(2, 30)):
@@ -158,7 +170,7 @@ def verify(case, data):
         pushed = [bytes(item) for item in CScript(txin.scriptSig) if isinstance(item, bytes)]
         if kind.type in ("p2wpkh", "p2wpkh-p2sh"):
             code, amount, keys, signatures = b"\x76\xa9\x14" + hash160(kind.keys[0]) + b"\x88\xac", value, [stack[1]], stack[:1]
-        elif kind.type == "p2wsh":
+        elif kind.type in ("p2wsh", "p2wsh-p2sh"):
             code, amount, keys, signatures = kind.witness, value, kind.keys, [s for s in stack[:-1] if s]
         elif kind.type == "p2pkh":
             code, amount, keys, signatures = kind.script, None, [pushed[1]], pushed[:1]

@@ -35,6 +35,8 @@ LINES = {
     "blocks_sentence": "input blocks ",
     "wallet_sentence": "input wallet ",
     "request_sentence": "input request ",
+    "keys_form_sentence": "input keys ",
+    "keys_sentence": "input keys ",
     "bump_sentence": "input bump ",
     "not_pending_sentence": "input bump NotPending ",
     "state_sentence": "input bump NotPending ",
@@ -49,14 +51,14 @@ LINES = {
     "differing_sentence": "settle Differs ",
     "kept_sentence": "saved ",
     "wallet_kind_sentence": "input wallet Kind ",
-    "request_kind_sentence": "input request Kind ",
+    "other_request_kind_sentence": "input request Kind ", "request_kind_sentence": "input request Kind ",
     "request_member_sentence": "input request Member ",
 }
 # what a fault line says of a fault otherwise than by its own name
 OTHERS = {
     "Usage": "usage", "Read": "read NAME", "Write": "write NAME", "Keep": "keep", "Memory": "memory",
     "WalletLimit": "limit wallet", "BlocksLimit": "limit blocks", "RequestLimit": "limit request",
-    "CoinsLimit": "limit coins", "ScriptLimit": "limit script", "PsbtLimit": "limit psbt", "TxLimit": "limit tx", "NotHex": "input tx Hex",
+    "CoinsLimit": "limit coins", "ScriptLimit": "limit script", "PsbtLimit": "limit psbt", "KeysLimit": "limit keys", "TxLimit": "limit tx", "NotHex": "input tx Hex",
     "ReportLimit": "limit report", "LogLimit": "limit log", "RepeatCoin": "input book RepeatCoin COIN",
     "plan_sentence TooMany": "limit groups",
     "kept_sentence Form": "saved SavedForm", "kept_sentence Spent": "limit tries",
@@ -70,16 +72,21 @@ ALONE = {
     "wallet_member_sentence": "input wallet Member NAME", "wallet_missing_sentence": "input wallet Missing NAME",
     "wallet_repeat_sentence": "input wallet Repeat LIST INDEX", "request_missing_sentence": "input request Missing NAME",
     "rate_range_sentence": "input request RateRange NAME", "missing_sentence": "input psbt Missing INPUT COIN",
+    "keys_kind_sentence": "input keys Kind NAME", "keys_member_sentence": "input keys Member NAME", "keys_missing_sentence": "input keys Missing NAME",
+    "key_global_sentence": "input psbt KeyGlobal NUMBER", "key_input_sentence": "input psbt KeyInput INPUT TYPE",
+    "key_output_sentence": "input psbt KeyOutput OUTPUT TYPE",
     "other_output_sentence": "input psbt OtherOutput INPUT COIN", "other_pairs_sentence": "input psbt OtherPairs",
 }
 # the same, of a report without a payment
 REPORTS = {"none_sentence": "none", "unfinished_sentence": "unfinished"}
+# the faults that have other words, or a sentence without a line: used up tries, and a final witness that is none
+OWN_WORDS = {"Spent", "Witness"}
 # what comes before the name of a fault of words, by the definition that has its sentence
 OF_WORDS = {"word_sentence": "", "amount_sentence": "Amount ", "rate_sentence": "Rate ", "base58_sentence": "Base58 ", "network_sentence": "Foreign ", "pay_file_sentence": "File "}
 # the faults of words whose sentence stands in the other file too, with their line there
 SAME = {"Method": "fault input request Kind method", "Seed": "fault input request Kind seed", "Memory": "fault memory"}
 # of a field its place in the line, as the pages write it
-FIELDS = {"place": "PLACE", "output": "OUTPUT", "height": "HEIGHT", "name": "NAME", "index": "INDEX", "list": "LIST",
+FIELDS = {"place": "PLACE", "key": "KEY", "output": "OUTPUT", "height": "HEIGHT", "name": "NAME", "index": "INDEX", "list": "LIST",
           "fault": "FAULT", "coin": "COIN", "sum": "SUM", "number": "NUMBER", "kept": "KEPT", "found": "FOUND", "now": "NOW", "txid": "TXID", "n": "COUNT", "fee": "FEE", "vsize": "VSIZE",
           "version": "VERSION", "input": "INPUT", "kind": "TYPE", "weight": "WEIGHT", "declared": "DECLARED", "needed": "NEEDED"}
 CASE = re.compile(r'^(\w+) \(?\w+\.(\w+)((?: \w+)*)\)? = codes "([^"]*)"$')
@@ -123,6 +130,23 @@ def rows():
     return found
 
 
+def untold():
+    """The faults of docs/FORMATS.md for which docs/TROUBLES.md has no line."""
+    formats = open(os.path.join(TOP, "docs/FORMATS.md"), encoding="utf-8").read().split("\n")
+    lines = [line.split("|")[1] for line in open(PAGE, encoding="utf-8").read().split("\n") if line.startswith("|")]
+    told = {word for line in lines for span in re.findall(r"`([^`]*)`", line) for word in re.findall(r"\w+", span)}
+    found, head, section = [], None, ""
+    for line in formats:
+        section = line if line.startswith("#") else section
+        if "keys file" in section and "keys" not in told:
+            continue  # no command reads such a file yet
+        cells = [cell.strip() for cell in line.strip("|").split("|")] if line.startswith("|") else None
+        if cells and head == "Fault":
+            found += [span for span in re.findall(r"`([^`]*)`", cells[0]) if span.split("(")[0].split(" ")[0] not in told | OWN_WORDS]
+        head = None if cells is None else head or cells[0]
+    return found
+
+
 def word_rows():
     """The faults of words and their sentences, in the order of the definitions."""
     cases = [CASE.match(line) for line in open(WORDS, encoding="utf-8").read().split("\n")]
@@ -139,9 +163,18 @@ def status_rows():
 
 def none_rows():
     """The methods that found nothing and their sentences, in the order of the definitions."""
-    cases = [CASE.match(line) for line in open(NOTHING, encoding="utf-8").read().split("\n")]
-    coins = {" true": ", with `--coin`", " false": ", without `--coin`"}
-    return [("`%s`%s" % (case[2].lower(), coins.get(case[3], "")), case[4]) for case in cases if case]
+    text = open(NOTHING, encoding="utf-8").read()
+    cases = [CASE.match(line) for line in text.split("\n")]
+    beside = {" true": ", with `--coin`", " false": ", without `--coin`"}
+    ways = {"Share": "`weight`, with `--fee-from-amount`", "Wide": "`changeless`, with `--consolidate`"}
+    found = []
+    for case in cases:
+        if case and case[1] == "none_for":
+            found.append((ways[case[2]], case[4]))
+        elif case:
+            bump = ", with `--bump`" if case[1] == "none_replacing" else ""
+            found.append(("`%s`%s" % (case[2].lower(), bump or beside.get(case[3], "")), case[4]))
+    return found + [("of `ninelace sweep`", re.search(r'^none_swept = codes "([^"]*)"$', text, re.M)[1])]
 
 
 def section():
@@ -169,6 +202,9 @@ def main():
     end = page.find("## Taken without a word")
     if apart():
         print("pay_words says of %s otherwise than fault_lines" % ", ".join(apart()))
+        return 1
+    if sys.argv[1:] != ["--write"] and untold():
+        print("docs/TROUBLES.md has no line for %s" % ", ".join(untold()))
         return 1
     if sys.argv[1:] == ["--write"]:
         begin = end if begin < 0 else begin

@@ -1,8 +1,8 @@
 #!/usr/bin/env python3
-"""Makes Ninelace's wallet file and block file from the answers of a Bitcoin Core node.
+"""Makes Ninelace's wallet file and block file from the answers of a Bitcoin Core node, and its keys file if that is asked for.
 
-    tools/core_to_files.py --wallet NAME --change ADDRESS --out wallet.json --block-file blocks.dat
-    tools/core_to_files.py --saved FOLDER --change ADDRESS --out wallet.json --block-file blocks.dat
+    tools/core_to_files.py --wallet NAME --change ADDRESS --out wallet.json --block-file blocks.dat [--keys keys.json]
+    tools/core_to_files.py --saved FOLDER --change ADDRESS --out wallet.json --block-file blocks.dat [--keys keys.json]
 
 The first form asks the node by `bitcoin-cli`; `--save FOLDER` keeps its answers. The second form reads answers that
 were kept so, and needs no node. Both use these calls, all of which only read: getblockchaininfo, listunspent,
@@ -12,6 +12,9 @@ The coins are those of `listunspent`. Each script's input weight is worked out f
 whose weight isn't known are left out and named. What an earlier transaction pays to a listed script and Core doesn't
 list, because it is spent, is locked. With `--last-blocks N` the last N blocks go into the block file, otherwise that
 file is empty and the wallet file has the chain's tip.
+
+With `--keys FILE` the same answers also give the keys of each listed script with their paths, and its redeem and witness
+script. What a descriptor doesn't tell is named.
 """
 import argparse
 import json
@@ -21,8 +24,8 @@ import shlex
 import subprocess
 import sys
 
-sys.path.insert(0, os.path.join(os.path.dirname(os.path.dirname(os.path.abspath(__file__))), "tests"))
-from lib.bitcoin import compact, read_tx, record, shown
+import descriptors  # which makes tests/lib known too
+from lib.bitcoin import read_tx, record, shown
 
 MOST_TRANSACTIONS = 100_000
 
@@ -70,67 +73,6 @@ class Node:
         return answer
 
 
-# ---- weights of inputs
-
-BASE = 4 * 41 + 1        # outpoint, empty script's length and sequence, at four; and the count of the witness's items
-SIGNATURE = 1 + 72       # its length and, with the sighash byte, 72 bytes at most
-MULTI_SIGNATURE = 1 + 72
-
-
-def keys_of(inner):
-    """How many signatures and keys a multi(..) or sortedmulti(..) has, or None."""
-    found = re.fullmatch(r"(?:sorted)?multi\((\d+),(.*)\)", inner)
-    if not found:
-        return None
-    return int(found.group(1)), found.group(2).count(",") + 1
-
-
-def multi_script(keys):
-    """The bytes of a script of a multi-signature with compressed keys."""
-    return 3 + 34 * keys
-
-
-def push(n):
-    """The bytes that push n bytes in a script."""
-    return n + (1 if n < 76 else 2 if n < 256 else 3)
-
-
-def script_weight(script, witness):
-    """The weight of an input with a script of so many bytes, and a witness of so many beside its count."""
-    return 4 * (40 + len(compact(script)) + script) + 1 + witness
-
-
-def weight_of(descriptor):
-    """The greatest weight of an input that spends a script of this descriptor, or None where it isn't known.
-
-    Keys are compressed, and each signature has 72 bytes at most, its sighash byte among them; a taproot coin is spent
-    by its key with the default sighash.
-    """
-    body = descriptor.split("#")[0]
-    body = re.sub(r"\[[^\]]*\]", "", body)  # origins of keys
-    key_hash = SIGNATURE + 1 + 33
-    if re.fullmatch(r"wpkh\([^()]*\)", body):
-        return script_weight(0, key_hash)
-    if re.fullmatch(r"sh\(wpkh\([^()]*\)\)", body):
-        return script_weight(23, key_hash)
-    if re.fullmatch(r"pkh\([^()]*\)", body):
-        return script_weight(SIGNATURE + 1 + 33, 0)
-    if re.match(r"(raw)?tr\(", body):
-        return script_weight(0, 1 + 64)
-    found = re.fullmatch(r"(sh\(wsh|wsh|sh)\((.*?)\)", body[:-1] if body.startswith("sh(wsh(") else body)
-    if not found:
-        return None
-    numbers = keys_of(found.group(2))
-    if numbers is None:
-        return None
-    needed, keys = numbers
-    script = multi_script(keys)
-    if found.group(1) == "sh":
-        return script_weight(1 + MULTI_SIGNATURE * needed + push(script), 0)
-    witness = 1 + MULTI_SIGNATURE * needed + len(compact(script)) + script
-    return script_weight(0 if found.group(1) == "wsh" else 35, witness)
-
-
 # ---- transactions
 
 def inputs_and_outputs(data):
@@ -176,16 +118,18 @@ class Wallet:
             raise Refused("--last-blocks is more than the chain has")
         self.hashes = [node.ask("getblockhash", str(h)) for h in range(self.height, chain["blocks"] + 1)]
         self.weights, self.unspent, self.transactions, self.outputs = {}, set(), {}, {}
+        self.told = {}
 
-    def add_script(self, script, descriptor, named):
-        """Lists a script, if the weight of an input that spends it is known."""
+    def add_script(self, told, named):
+        """Lists the script of a coin or an address, if the weight of an input that spends it is known."""
+        script, descriptor = told["scriptPubKey"], told.get("desc")
         if script in self.weights:
             return True
-        weight = weight_of(descriptor) if descriptor else None
+        weight = descriptors.weight_of(descriptor) if descriptor else None
         if weight is None:
             self.say(f"left out {named}: the weight of an input of `{descriptor or 'no descriptor'}` isn't known")
             return False
-        self.weights[script] = weight
+        self.weights[script], self.told[script] = weight, told
         return True
 
     def add_transaction(self, txid):
@@ -210,7 +154,7 @@ class Wallet:
         """The coins that Core lists, confirmed or not, and the transactions that make them."""
         for coin in self.node.ask("listunspent", "0", "9999999", "[]", "true"):
             named = f"{coin['txid']}:{coin['vout']}"
-            if self.add_script(coin["scriptPubKey"], coin.get("desc"), named):
+            if self.add_script(coin, named):
                 self.unspent.add((coin["txid"], coin["vout"]))
                 self.add_transaction(coin["txid"])
 
@@ -233,17 +177,15 @@ class Wallet:
             return
         told = self.node.ask("getaddressinfo", script["address"])
         if told.get("ismine"):
-            self.add_script(script["hex"], told.get("desc"), f"{txid}:{index}")
+            self.add_script(told, f"{txid}:{index}")
 
     def change(self, address):
         told = self.node.ask("getaddressinfo", address)
         if not told.get("ismine"):
             raise Refused(f"{address} isn't an address of this wallet: change paid there would be lost")
-        weight = weight_of(told.get("desc", ""))
-        if weight is None:
+        if not self.add_script(told, address):
             raise Refused(f"the weight of an input that spends {address} isn't known")
-        self.weights.setdefault(told["scriptPubKey"], weight)
-        return {"script": told["scriptPubKey"], "weight": weight}
+        return {"script": told["scriptPubKey"], "weight": self.weights[told["scriptPubKey"]]}
 
     def locked(self):
         """The outputs to listed scripts that Core doesn't list: spent ones; and those that Core has locked."""
@@ -273,6 +215,19 @@ class Wallet:
             "locked": [f"{txid}:{index}" for txid, index in self.locked()],
         }
 
+    def keys_file(self):
+        """What a signer has to know of the listed scripts, as far as the node tells it."""
+        scripts, xpubs = [], {}
+        for script, told in self.told.items():
+            try:
+                scripts.append(descriptors.entry_of(script, told["desc"], told))
+            except descriptors.Lacking as lacking:
+                self.say(f"no keys of {script}: {lacking} (`{told['desc']}`)")
+            for descriptor in [told.get("parent_desc", ""), *told.get("parent_descs", [])]:
+                for one in descriptors.xpubs_of(descriptor):
+                    xpubs.setdefault(one["xpub"], one)
+        return {"scripts": scripts, "xpubs": list(xpubs.values())}
+
     def blocks(self):
         """The records of the last blocks, one by one."""
         for block in self.hashes[1:]:
@@ -280,25 +235,33 @@ class Wallet:
             yield record(data)
 
 
+def put_json(path, value):
+    with open(path, "w", encoding="utf-8") as file:
+        json.dump(value, file, indent=1)
+        file.write("\n")
+
+
 def make(options, say):
-    """Writes both files, and says what they hold."""
+    """Writes the files, and says what they hold."""
     command = shlex.split(options.cli) + ([f"-rpcwallet={options.wallet}"] if options.wallet else [])
     wallet = Wallet(Node(command, options.saved, options.save), options.last_blocks, say)
     wallet.add_coins()
     wallet.add_pending()
     made = wallet.wallet_file(wallet.change(options.change))
-    for path in (options.out, options.block_file):
-        if os.path.exists(path) and not options.overwrite:
+    for path in (options.out, options.block_file, options.keys):
+        if path is not None and os.path.exists(path) and not options.overwrite:
             raise Refused(f"{path} is there already (--overwrite replaces it)")
-    with open(options.out, "w", encoding="utf-8") as file:
-        json.dump(made, file, indent=1)
-        file.write("\n")
+    put_json(options.out, made)
     with open(options.block_file, "wb") as file:
         for record in wallet.blocks():
             file.write(record)
     say(f"{options.out}: {len(wallet.unspent)} coins of {len(made['scripts'])} scripts, {len(made['earlier'])} earlier "
         f"and {len(made['pending'])} pending transactions, {len(made['locked'])} locked outputs, height {made['height']}")
     say(f"{options.block_file}: {options.last_blocks} blocks")
+    if options.keys is not None:
+        keys = wallet.keys_file()
+        put_json(options.keys, keys)
+        say(f"{options.keys}: keys of {len(keys['scripts'])} scripts, {len(keys['xpubs'])} extended keys")
 
 
 def main():
@@ -311,6 +274,7 @@ def main():
     parser.add_argument("--last-blocks", metavar="N", type=int, default=0, help="put the last N blocks into the block file")
     parser.add_argument("--out", metavar="FILE", required=True, help="the wallet file to write")
     parser.add_argument("--block-file", metavar="FILE", required=True, help="the block file to write")
+    parser.add_argument("--keys", metavar="FILE", help="also write the keys file, for a hardware signer")
     parser.add_argument("--overwrite", action="store_true", help="replace files that are there")
     options = parser.parse_args()
     try:

@@ -19,9 +19,9 @@ ARCHITECTURE, PAYMENT = TOP / "docs" / "architecture.svg", TOP / "docs" / "payme
 IN_ROW = 7  # boxes side by side
 BOX, HIGH, GAP, ROW_GAP = 138, 26, 14, 26
 COLOURS = {  # of a box, by what the crate is
-    "program": "#f6c177", "laws": "#cfd8dc", "product": "#bfe3c0", "for people": "#b9d7f5", "stored runs": "#e8dff5", "benchmarks": "#e8dff5",
+    "program": "#f6c177", "laws": "#cfd8dc", "product": "#bfe3c0", "for people": "#b9d7f5", "for other programs": "#f2d7a6", "stored runs": "#e8dff5", "benchmarks": "#e8dff5",
 }
-NAMES = {"program": "a program", "laws": "laws alone", "product": "product", "for people": "for people", "stored runs": "stored runs and benchmarks"}
+NAMES = {"program": "a program", "laws": "laws alone", "product": "product", "for people": "for people", "for other programs": "for other programs", "stored runs": "stored runs and benchmarks"}
 
 # The steps of a payment: what goes on, by which crates, and what goes to the next step.
 STEPS = [

@@ -186,7 +186,7 @@ def read_item(text, at, source, block, imports, doc, tested):
         return stop
     if re.match(r"(pub(\([^)]*\))?\s+)?mod\s+\w+\s*\{", rest):
         return after_block(text, text.index("{", at))
-    if re.match(r"(pub(\([^)]*\))?\s+)?((const|unsafe)\s+)*fn\b", rest):
+    if re.match(r"(pub(\([^)]*\))?\s+)?((const|unsafe|extern\s+\S+)\s+)*fn\b", rest):
         return read_call(text, at, source, block, imports, doc, tested)
     if re.match(r"(unsafe\s+)?impl\b|(pub(\([^)]*\))?\s+)?trait\b", rest):
         start = text.index("{", at)
@@ -222,7 +222,7 @@ def read_call(text, at, source, block, imports, doc, tested):
     body = "" if text[at] == ";" else text[at + 1 : stop - 1].strip()
     is_law = block is None and text[at] == "{" and not body and "->" not in signature
     if not tested:
-        call = Call(signature.split(" fn ")[0], signature, doc, clauses, is_law, imports)
+        call = Call(signature.split(" fn ")[0].replace(' extern "C"', ""), signature, doc, clauses, is_law, imports)
         (block.calls if block is not None else source.calls).append(call)
     return stop
 

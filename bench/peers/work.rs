@@ -3,7 +3,9 @@
 //! such payments end. It makes the coins alone; by a third word it makes the wallet, with its transactions and what they
 //! spend, keeps it, and finds the coins there.
 //!
-//! usage: rustc --edition 2021 -O bench/peers/work.rs -o /tmp/work && /tmp/work NUMBER COUNT [wallet]
+//! usage: rustc --edition 2021 -O bench/peers/work.rs -o /tmp/work && /tmp/work NUMBER COUNT [wallet|coins [ROUNDS]]
+//!
+//! With ROUNDS it does all of it so often, and prints the last.
 #[allow(dead_code)]
 mod draw;
 #[allow(dead_code)]
@@ -218,13 +220,12 @@ fn hex(bytes: impl Iterator<Item = u8>) -> String {
     })
 }
 
-fn main() {
-    let words: Vec<String> = env::args().skip(1).collect();
-    let (number, count): (u64, usize) = (words[0].parse().unwrap(), words[1].parse().unwrap());
+/// The summary of a payment from the workload.
+fn summary(number: u64, count: usize, has_wallet: bool) -> String {
     let sha = Sha::new();
     let kinds = kinds();
     let weights = [kinds[0].1, kinds[1].1, kinds[2].1];
-    let wallet = words.get(2).map(|_| wallet::Wallet::new(&sha, number, count, &kinds));
+    let wallet = has_wallet.then(|| wallet::Wallet::new(&sha, number, count, &kinds));
     let mut pool = wallet.as_ref().map_or_else(|| coins(&sha, number, count), |wallet| wallet.unspent(&kinds));
     let paid = pool.iter().map(|coin| coin.value).sum::<u64>() / 20;
     pool.sort_by_key(|coin| {
@@ -294,5 +295,17 @@ fn main() {
     report.push_str(&tail);
     let whole = |coin: &Coin| wallet.as_ref().map_or_else(|| coin.whole.clone(), |wallet| wallet.maker(coin));
     writeln!(report, "psbt {}", base64(&psbt(&inputs, &outputs, &kinds, whole))).unwrap();
-    print!("work {number} {count}\n{head}{tail}report {}\n", hex(sha.digest(report.as_bytes()).into_iter()));
+    format!("work {number} {count}\n{head}{tail}report {}\n", hex(sha.digest(report.as_bytes()).into_iter()))
+}
+
+fn main() {
+    let words: Vec<String> = env::args().skip(1).collect();
+    let (number, count): (u64, usize) = (words[0].parse().unwrap(), words[1].parse().unwrap());
+    let has_wallet = words.get(2).is_some_and(|form| form != "coins");
+    let rounds: u32 = words.get(3).map_or(1, |rounds| rounds.parse().unwrap());
+    let mut text = String::new();
+    for _ in 0..rounds {
+        text = summary(number, count, has_wallet);
+    }
+    print!("{text}");
 }
